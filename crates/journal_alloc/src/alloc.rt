@@ -4,7 +4,8 @@ ghost use Rattle.journal_alloc.specs.Numbers.{IsOut, IsFree, IsLowestFree, Takes
 
 use std::marker::Model;
 
-/// Numbers from a first one on, each out or not. Contracts see the first, and the list that says which are.
+/// Numbers from a first one on, each out or not. Contracts see the first, and the list that says
+/// which are.
 #[derive(Debug, Drop)]
 pub struct Alloc {
     first: u64,
@@ -29,8 +30,8 @@ impl Model for Alloc {
 }
 
 impl Alloc {
-    /// The numbers from `first` on, as many as the list is long. Number `first + i` is out where `out[i]` is
-    /// yes.
+    /// The numbers from `first` on, as many as the list is long. Number `first + i` is out where
+    /// `out[i]` is yes.
     pub fn new(first: u64, out: Vec<bool>) -> Alloc
         requires in_range { first + vec_len out < 2 ^ 64 }
         ensures numbers { result ≡ record { first = first; out = out.items } }
@@ -59,8 +60,8 @@ impl Alloc {
         Some(self.take_lowest())
     }
 
-    /// Hands out so many numbers, or none. Each is the lowest that is not out then, so they rise; they are written
-    /// behind what `out` has, whose room was reserved, and are out then.
+    /// Hands out so many numbers, or none. Each is the lowest that is not out then, so they rise;
+    /// they are written behind what `out` has, whose room was reserved, and are out then.
     ///
     /// No, and nothing changes, where fewer are not out.
     pub fn take_many(&mut self, n: usize, out: &mut Vec<u64>) -> bool

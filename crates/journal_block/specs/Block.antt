@@ -23,7 +23,8 @@ u64_at bytes at = little_number 8 (slice_range bytes at (at + 8))
 unfoldable pub bit_of : Bytes → ℕ → Bool
 bit_of bytes i = bit_at (slice_index bytes (i / 8)) (i % 8) == 1
 
--- the byte with its bit k set or cleared: what the bit was worth is taken away, and what it is to be worth added
+-- the byte with its bit k set or cleared: what the bit was worth is taken away, and what it is to
+-- be worth added
 unfoldable pub byte_with_bit : ℕ → ℕ → Bool → ℕ
 byte_with_bit byte k value = byte - bit_at byte k * 2 ^ k + (if value then 2 ^ k else 0)
 

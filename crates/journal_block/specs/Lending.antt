@@ -5,6 +5,7 @@ use Rattle.journal_world.specs.declared.layout.TheConstants.{BLOCK_BYTES}
 use Rattle.journal_block.specs.Block.{Bytes}
 use Rattle.journal_block.specs.contracts.block.Block.{the_row}
 
--- The block ends with the bytes that the slice is left with. A slice keeps its length, so none of the old bytes follow them
+-- The block ends with the bytes that the slice is left with. A slice keeps its length, so none of
+-- the old bytes follow them
 abbrev pub LendsBytes : MutBor Bytes → MutBor Bytes → Fml
 LendsBytes block slice = Lends the_row (Array byte 0) block slice (λ left. take BLOCK_BYTES (left ++ drop (length left) block.now))

@@ -42,8 +42,8 @@ last = record {
     one (suc zero) ge lt = (lit≤ tt, lit< tt)
     one (suc (suc p)) ge lt = absurd (omega arith)
 
--- 514 blocks of a sealed log whose last group begins at 0 and has that position alone: its update is of block 513, its tag is 2, and the tag stands
--- for a byte 9
+-- 514 blocks of a sealed log whose last group begins at 0 and has that position alone: its update
+-- is of block 513, its tag is 2, and the tag stands for a byte 9
 abbrev sealed_header : Bytes
 sealed_header = 0 ∷ 0 ∷ 0 ∷ 0 ∷ 0 ∷ 0 ∷ 0 ∷ 128 ∷ 1 ∷ 2 ∷ 0 ∷ 0 ∷ 0 ∷ 1 ∷ 2 ∷ 9 ∷ []
 

@@ -67,7 +67,8 @@ there_all want have from n is q ge lt = ⊎_elim
     let impossible : ⊥ = cc in absurd impossible)
     (cases_eq (have q) (want q))
 
--- The log block of a later position is put, with a tag that block 0 does not want there: the log ends where it ended
+-- The log block of a later position is put, with a tag that block 0 does not want there: the log
+-- ends where it ended
 pub put_keeps_end : (want have have2 : ℕ → ℕ) (from n next : ℕ) → end_of want have from n ≤ next
     → ((q : ℕ) → from ≤ q → q < from + n → q ≢ next → have2 q ≡ have q) → have2 next ≢ want next
     → end_of want have2 from n ≡ end_of want have from n
@@ -95,7 +96,8 @@ put_keeps_end want have have2 from n next later others torn = by (are_there want
         both : are_there want have2 from n ≡ are_there want have from n
         both = still ∙ sym is
 
--- Block 0 is put with a group, of whose log blocks each is as it reads or lacks its tag: it is there whole, as it reads, or the log ends before it
+-- Block 0 is put with a group, of whose log blocks each is as it reads or lacks its tag: it is
+-- there whole, as it reads, or the log ends before it
 pub group_is_whole_or_not : (want have : ℕ → ℕ) (Reads : ℕ → Type 0) (from n : ℕ)
     → ((q : ℕ) → from ≤ q → q < from + n → Reads q ⊎ (have q ≢ want q))
     → ((end_of want have from n ≡ from + n) × ((q : ℕ) → from ≤ q → q < from + n → Reads q)) ⊎ (end_of want have from n ≡ from)
@@ -121,7 +123,8 @@ there_by want have from (suc n) each = (λ i. eq-eqb (have from) (want from) (ea
 pub end_sealed : (h : Bytes) (f : Content) → is_sealed h ≡ true → end_by h f ≡ sealed_end h f
 end_sealed h f sealed = λ i. if sealed i then sealed_end h f else u64_at h 0
 
--- The log block of the next position changes, to one without the tag that block 0 wants there: the log ends where it ended
+-- The log block of the next position changes, to one without the tag that block 0 wants there: the
+-- log ends where it ended
 pub slot_keeps_end : (h : Bytes) (f g : Content) (next : ℕ) → is_sealed h ≡ true → ((q : ℕ) → log_block q ≢ log_block next → g (log_block q) ≡ f (log_block q))
     → (g (log_block next) ≡ f (log_block next)) ⊎ (tag_of (g (log_block next)) ≢ tag_in h next) → end_by h f ≤ next → next < begin_of h + 511 → end_by h g ≡ end_by h f
 slot_keeps_end h f g next sealed others here later near = ⊎_elim

@@ -28,7 +28,8 @@ not_good f bad good = let impossible : ⊥ = cc in absurd impossible
 pub not_sealed : {X : Type 0} {b : Bool} → b ≡ false → b ≡ true → X
 not_sealed plain sealed = let impossible : ⊥ = cc in absurd impossible
 
--- a call that did not fail was made of a disk that had not failed, and what it says of its success holds
+-- a call that did not fail was made of a disk that had not failed, and what it says of its success
+-- holds
 pub fine_of : {T E : Type 0} {was now : Bool} (result : Result T E) → OnOk result ((was ≡ false) × (now ≡ false)) → OnErr result (now ≡ true) → now ≡ false → was ≡ false
 fine_of (Ok value) ok err good = ok.0
 fine_of {now = now} (Err error) ok err good = not_good now err good
@@ -150,7 +151,8 @@ module _ (p now : Past) (h : Bytes) (m : Extent) (next : ℕ) (bounds : HasBound
       homes = λ yes. homes_kept low (s.homes yes);
     }
 
-    -- Block 0 is put: an image that has it ends where its log ended or at the next position, with its log blocks as they read
+    -- Block 0 is put: an image that has it ends where its log ended or at the next position, with
+    -- its log blocks as they read
     zero_put : c ≡ 0 → v ≡ h2 → m.coming ≡ m.end
         → ((image : List Bytes) (from : IsOldOrWritten p c v image) → block_at image 0 ≡ h2 → (end_in image ≡ m.end) ⊎ (end_in image ≡ next))
         → ((image : List Bytes) (from : IsOldOrWritten p c v image) → block_at image 0 ≡ h2 → (q : ℕ) → m.start ≤ q → q < end_in image → block_at from.old (log_block q) ≡ read_of p (log_block q))
@@ -198,7 +200,8 @@ module _ (p now : Past) (h : Bytes) (m : Extent) (next : ℕ) (bounds : HasBound
         end_before : (image : List Bytes) → IsImage p image → end_in image ≡ m.end
         end_before image is = ⊎_elim (λ (e : end_in image ≡ m.end). e) (λ (e : end_in image ≡ m.coming). e ∙ one) (s.end image is)
 
-    -- in the plain form it has the next position as its end, and the log blocks up to there are stable
+    -- in the plain form it has the next position as its end, and the log blocks up to there are
+    -- stable
     end_put : c ≡ 0 → v ≡ h2 → m.coming ≡ m.end → is_sealed h2 ≡ false → m.stable ≡ next → number_at h2 ≡ next → HasSoundImages now h2 (record m { coming = next })
     end_put zero_block is_header one plain synced put = zero_put zero_block is_header one
         (λ image from new. inr (ends image new))
@@ -300,7 +303,8 @@ module _ (old : Ring) (d : DiskState) (f : Bool) (was : IsCirc old) (keeps : Kee
         ∙ sym (plain_end (read_of old.disk.past 0) (read_of old.disk.past) (read_form (before honest) ∙ plain))
         ∙ (was.headers (before honest) (fine good)).end
 
-  -- a sealed log ends where it ended once the next log block is put, with a tag that block 0 does not want there
+  -- a sealed log ends where it ended once the next log block is put, with a tag that block 0 does
+  -- not want there
   module _ (sealed : is_sealed old.header ≡ true) (here : c ≡ log_block old.next) (room : old.next < old.extent.start + 511) (few : old.next < old.extent.end + 255)
       (torn : tag_of v ≢ tag_in old.header old.next) where
     sealed_image : IsTrue old.disk.honest → (image : List Bytes) (from : IsOldOrWritten old.disk.past c v image) → end_in image ≡ end_in from.old

@@ -43,7 +43,8 @@ module _ (p : Past) (h tags : Bytes) (start end coming next : ℕ) (large : 513 
     last = s.last;
   }
 
-  -- the positions before a later start are free: of these block 0 has the words that it has in memory
+  -- the positions before a later start are free: of these block 0 has the words that it has in
+  -- memory
   pub holds_freed : (from : ℕ) → start ≤ from → from ≤ next → from ≤ end → EveryImage p (λ image. (q : ℕ) → start ≤ q → q < from → address (block_at image 0) q ≡ address h q)
       → HasHolds p h start end next → HasHolds (past_after barrier p) h from end next
   holds_freed from ge le below words s = record {

@@ -32,8 +32,9 @@ with_address header p block = with_bytes header (address_at p) (u64_bytes block)
 abbrev pub start_block : ℕ → Bytes
 start_block start = with_bytes (zeros_of Block) 0 (u64_bytes start)
 
--- Of a log there are two forms. In the plain one block 0 has the end. In the sealed one it has where the last group begins, and that group is
--- there exactly where each of its log blocks has the tag that block 0 wants of it.
+-- Of a log there are two forms. In the plain one block 0 has the end. In the sealed one it has
+-- where the last group begins, and that group is there exactly where each of its log blocks has the
+-- tag that block 0 wants of it.
 
 -- whether block 0 is of the sealed form: a plain one's first number is less than 2^62
 abbrev pub is_sealed : Bytes → Bool
@@ -43,8 +44,8 @@ is_sealed header = nat_le (2 ^ 63) (u64_at header 0)
 abbrev pub begin_of : Bytes → ℕ
 begin_of header = u64_at header 0 - 2 ^ 63
 
--- The word of a position in a sealed log: its home block, how many positions its group has where it is the first, its tag, and the byte that
--- the tag stands for
+-- The word of a position in a sealed log: its home block, how many positions its group has where it
+-- is the first, its tag, and the byte that the tag stands for
 abbrev pub home_in : Bytes → ℕ → ℕ
 home_in header p = address header p % 2 ^ 40
 

@@ -32,7 +32,8 @@ pub record Ring : Type 0 where
 abbrev pub next_tag : Ring → ℕ
 next_tag r = other_tag (tag_at r.tags r.next) (tag_in r.header r.next)
 
--- What an update of the next position is put as: its log block, and what block 0 and the tags in memory become
+-- What an update of the next position is put as: its log block, and what block 0 and the tags in
+-- memory become
 abbrev pub bytes_put : Ring → Bytes → Bytes
 bytes_put r bytes = if r.sealed then with_tag bytes (next_tag r) else bytes
 
@@ -79,7 +80,8 @@ SameHomeBut c old new = (b : ℕ) → FIRST_HOME ≤ b → b < old.disk.past.siz
 abbrev pub SameBlocksTo : Ring → Ring → Type 0
 SameBlocksTo old new = (to b : ℕ) → old.extent.end ≤ to → to ≤ old.next → FIRST_HOME ≤ b → b < old.disk.past.size → blocks_to new to b ≡ blocks_to old to b
 
--- What each step says of images: at every moment of it each stands for the blocks up to the old end or up to the coming one
+-- What each step says of images: at every moment of it each stands for the blocks up to the old end
+-- or up to the coming one
 pub record Crashes (coming : ℕ) (old new : Ring) : Type 0 where
   pub keeps : Keeps old.disk new.disk
   pub moments : IsTrue old.disk.honest → LeavesOnly old.disk.past new.disk.past (StandsForEither old old.extent.end coming)
@@ -97,7 +99,8 @@ TriesCall event old new = IsTrue old.honest → MayHaveHappened event old.past n
 abbrev pub IsFault : Bool → DiskState → DiskState → Refusal Unit → Type 0
 IsFault faulted old new refusal = (refusal ≡ DeviceFailed tt) × (IsTrue faulted ⊎ HasFailed old new)
 
--- What each step says of its device call: it makes this one and no other, or may have made it where it is refused, by J6
+-- What each step says of its device call: it makes this one and no other, or may have made it where
+-- it is refused, by J6
 pub record Steps {A : Type 0} (event : DiskEvent) (result : Result A (Refusal Unit)) (old new : Ring) : Type 0 where
   pub refusal : IfErr result (IsFault old.faulted old.disk new.disk)
   -- once a call failed, none is made
@@ -105,7 +108,8 @@ pub record Steps {A : Type 0} (event : DiskEvent) (result : Result A (Refusal Un
   pub makes : OnOk result (MakesCall event old.disk new.disk)
   pub tries : TriesCall event old.disk new.disk
 
--- What a change of the form of an empty log says of images: up to one moment, and from it on, each stands for the home blocks
+-- What a change of the form of an empty log says of images: up to one moment, and from it on, each
+-- stands for the home blocks
 abbrev pub ChangesForm : Ring → Past → Type 0
 ChangesForm r new = (mid : Past) × (LeavesOnly r.disk.past mid (StandsFor r.disk.past.size (home_of r))
     × LeavesOnly mid new (StandsFor r.disk.past.size (home_of r)))

@@ -1,4 +1,5 @@
--- What holds of every circular log: of its numbers, whatever the disk does, and of each image of an honest disk.
+-- What holds of every circular log: of its numbers, whatever the disk does, and of each image of an
+-- honest disk.
 use Rattle.std.specs.Prelude.{ℕ, ◌≡◌, ◌≢◌, ◌⊎◌, true, length, ◌<◌, ◌≤◌, ◌+◌, ◌-◌, ◌^◌, false, IsTrue, List}
 use Rattle.journal_block.specs.declared.update.Update.{Update}
 use Rattle.journal_world.specs.declared.layout.TheConstants.{BLOCK_BYTES}
@@ -39,7 +40,8 @@ HasLogBlocks p m image = (q : ℕ) → m.start ≤ q → q < m.stable → block_
 abbrev pub HasWhole : Past → Extent → List Bytes → Type 0
 HasWhole p m image = (q : ℕ) → m.start ≤ q → q < end_in image → block_at image (log_block q) ≡ read_of p (log_block q)
 
--- the log from a position to the end makes of its home blocks what the whole log makes of those that are read
+-- the log from a position to the end makes of its home blocks what the whole log makes of those
+-- that are read
 abbrev pub GivesHomeBlocks : Past → Bytes → Extent → ℕ → List Bytes → Type 0
 GivesHomeBlocks p header m from image = (b : ℕ) → FIRST_HOME ≤ b → b < p.size
     → updated (updates_between p header from m.end) b (block_at image b) ≡ updated (updates_between p header m.start m.end) b (read_of p b)
@@ -65,7 +67,8 @@ pub record HasHeaders (p : Past) (m : Extent) : Type 0 where
   pub end : end_by (read_of p 0) (read_of p) ≡ m.coming
   pub start : u64_at (read_of p 1) 0 ≡ m.freed
 
--- Of a sealed log: what its block 0 may name is within reach, and it wants of the free log blocks the tags that block 0 in memory has for them
+-- Of a sealed log: what its block 0 may name is within reach, and it wants of the free log blocks
+-- the tags that block 0 in memory has for them
 
 abbrev pub HasHold : ℕ → List Bytes → Type 0
 HasHold end image = end ≤ begin_of (block_at image 0) + MAX_GROUP
@@ -77,7 +80,8 @@ pub record HasHolds (p : Past) (header : Bytes) (start end next : ℕ) : Type 0 
   pub hold : EveryImage p (HasHold end)
   pub wants : EveryImage p (HasWants header start next)
 
--- The log blocks of the group in flight are as they read, or without the tag that is put for them; the free ones are as they read
+-- The log blocks of the group in flight are as they read, or without the tag that is put for them;
+-- the free ones are as they read
 
 abbrev pub HasFlight : Past → Bytes → (end next : ℕ) → List Bytes → Type 0
 HasFlight p header end next image = (q : ℕ) → end ≤ q → q < next

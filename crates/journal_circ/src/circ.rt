@@ -24,10 +24,10 @@ pub use opening::Opened;
 
 /// A disk with its circular log.
 ///
-/// A step or a read answers J6 `DeviceFailed` where the device fails in it, and no other refusal. From then
-/// on each answers J6 without a device call, and the state that was handed in is spent. After a failed step
-/// each image still stands for what it might have stood for during the step. The disk stays here until
-/// `into_disk`.
+/// A step or a read answers J6 `DeviceFailed` where the device fails in it, and no other refusal.
+/// From then on each answers J6 without a device call, and the state that was handed in is spent.
+/// After a failed step each image still stands for what it might have stood for during the step.
+/// The disk stays here until `into_disk`.
 #[derive(Drop)]
 pub struct Circ<D: BlockDisk> {
     device: FailStop<D>,
@@ -35,7 +35,8 @@ pub struct Circ<D: BlockDisk> {
     header: Block,
     // Whether block 0 is of the sealed form.
     sealed: bool,
-    // Of a sealed log, the tag that each log block has as it reads: byte s is the one of block 2 + s.
+    // Of a sealed log, the tag that each log block has as it reads: byte s is the one of block 2 +
+    // s.
     tags: Block,
     // What a tagged log block is written from, so that no step allocates.
     scratch: Block,
@@ -76,8 +77,8 @@ impl<D: BlockDisk> Model for Circ<D> {
 impl<D: BlockDisk> Circ<D> {
     /// Reads a block of the disk, as its last write left it, whatever the log has for it.
     ///
-    /// Answers J6, and nothing else, where the device failed in this call or before. What `into` then holds is
-    /// not said.
+    /// Answers J6, and nothing else, where the device failed in this call or before. What `into`
+    /// then holds is not said.
     pub fn read(&mut self, block: u64, into: &mut Block) -> Result<(), Refusal<()>>
         requires { block < self.old.disk.past.size }
         ensures refusal { IfErr result (IsFault self.old.faulted self.old.disk self.new.disk) }
@@ -91,11 +92,11 @@ impl<D: BlockDisk> Circ<D> {
         self.device.read(block, into)
     }
 
-    /// Reads the log block of a position from the start to the one that is put next, and gives the number of
-    /// its home block.
+    /// Reads the log block of a position from the start to the one that is put next, and gives the
+    /// number of its home block.
     ///
-    /// Answers J6, and nothing else, where the device failed in this call or before. What `into` then holds is
-    /// not said.
+    /// Answers J6, and nothing else, where the device failed in this call or before. What `into`
+    /// then holds is not said.
     pub fn read_logged(&mut self, position: u64, into: &mut Block) -> Result<u64, Refusal<()>>
         requires from_start { self.old.extent.start ≤ position }
         requires put { position < self.old.next }
@@ -177,8 +178,8 @@ impl<D: BlockDisk> Circ<D> {
 }
 
 impl Circ<MemDisk> {
-    /// Makes the `call`-th device call from now on fail, be it a read, a write or a barrier, and no other,
-    /// whatever an earlier `fail_in` said. At 0 none fails.
+    /// Makes the `call`-th device call from now on fail, be it a read, a write or a barrier, and no
+    /// other, whatever an earlier `fail_in` said. At 0 none fails.
     pub fn fail_in(&mut self, call: u64)
         ensures { self.new ≡ self.old }
     {

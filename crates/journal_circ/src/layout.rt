@@ -10,8 +10,9 @@
 // | 2 + s | all | the log block of the position p in use with p % 511 = s |
 // | 513 on | all | home blocks |
 //
-// Of a plain log the word is the number of the home block, and the log block is its content. Of a sealed log
-// the word has these bytes, and the log block is the content with its byte 0 replaced by the tag:
+// Of a plain log the word is the number of the home block, and the log block is its content. Of a
+// sealed log the word has these bytes, and the log block is the content with its byte 0 replaced by
+// the tag:
 //
 // | Bytes of the word | What they have |
 // |---|---|
@@ -20,11 +21,11 @@
 // | 6 | the tag: 0, 1 or 2 as the log writes it |
 // | 7 | byte 0 of the content |
 //
-// Let a be the position in block 0 and n byte 5 of its word. The log ends at a + n if and only if byte 0 of the
-// log block of each position from a to a + n - 1 is the tag in its word, else at a.
+// Let a be the position in block 0 and n byte 5 of its word. The log ends at a + n if and only if
+// byte 0 of the log block of each position from a to a + n - 1 is the tag in its word, else at a.
 //
-// There are two headers so that each cycle writes one of its own, and the steps of the two come in any order.
-// A word of 2^62 up to 2^63 in block 0 is of neither form.
+// There are two headers so that each cycle writes one of its own, and the steps of the two come in
+// any order. A word of 2^62 up to 2^63 in block 0 is of neither form.
 ghost use Rattle.std.specs.Prelude.{◌≡◌};
 ghost use Rattle.journal_circ.specs.Log.{log_block, address_at, is_sealed, home_by};
 
@@ -36,7 +37,8 @@ pub const LOG_POSITIONS: u64 = 511;
 pub const FIRST_HOME: u64 = 513;
 /// How many positions a group of a sealed log has at most, so that two groups share no log block.
 pub const MAX_GROUP: u64 = 255;
-/// How many blocks a disk with a sealed log has at most: its words have 5 bytes for a block's number.
+/// How many blocks a disk with a sealed log has at most: its words have 5 bytes for a block's
+/// number.
 pub const MAX_SEALED_BLOCKS: u64 = 1 << 40;
 /// The block with the log's end, or where its last group begins, and the words of its positions.
 pub(crate) const HEADER: u64 = 0;

@@ -42,7 +42,8 @@ pub(crate) fn put_tagged(into: &mut Block, from: &Block, tag: u8)
     into.copy_range(0, &[tag]);
 }
 
-/// Makes of a position's log block, as it was read, the content that it stands for: of a sealed log it puts byte 0 back.
+/// Makes of a position's log block, as it was read, the content that it stands for: of a sealed log
+/// it puts byte 0 back.
 pub(crate) fn put_back(header: &Block, position: u64, block: &mut Block)
     ensures { block.new ≡ bytes_by header.now (λ _. block.old) position }
 {
@@ -99,7 +100,8 @@ pub(crate) fn word_of(home: u64, count: u8, tag: u8, first: u8) -> u64
     home + count as u64 * (1 << 40) + tag as u64 * (1 << 48) + first as u64 * (1 << 56)
 }
 
-/// Makes the n positions from `begin` on the last group of block 0, which becomes one of a sealed log.
+/// Makes the n positions from `begin` on the last group of block 0, which becomes one of a sealed
+/// log.
 pub(crate) fn put_group(header: &mut Block, begin: u64, n: u8)
     requires { begin < 2 ^ 62 }
     ensures contents { header.new ≡ with_group header.old begin n }
@@ -113,7 +115,8 @@ pub(crate) fn put_group(header: &mut Block, begin: u64, n: u8)
     header.put_u64(BOUND_AT, SEALED + begin);
 }
 
-/// Where a sealed log ends: after its last group, where each of its log blocks has its tag, else before it.
+/// Where a sealed log ends: after its last group, where each of its log blocks has its tag, else
+/// before it.
 pub(crate) fn end_of(header: &Block, tags: &Block) -> u64
     requires { is_sealed header.now ≡ true }
     ensures { result ≡ end_of (tag_in header.now) (tag_at tags.now) (begin_of header.now) (count_in header.now (begin_of header.now)) }

@@ -43,7 +43,8 @@ AsksFor words (Serve path port connections) = AsksServe words path.now port conn
 abbrev pub MayBeAsked : List (List ℕ) → ℕ → Type 0
 MayBeAsked words n = AsksScript words n ⊎ ((path : List ℕ) × AsksFormat words path n)
 
--- why nothing begins that the words ask for: they ask for nothing, or for a disk of a size that there is not
+-- why nothing begins that the words ask for: they ask for nothing, or for a disk of a size that
+-- there is not
 abbrev pub CannotBegin : List (List ℕ) → AskFault → Type 0
 CannotBegin words Usage =
     ((n : ℕ) → AsksScript words n → ⊥)

@@ -61,7 +61,8 @@ AtMost ws (Some most) = IsNumber most × (ws ≡ decimal most ∷ [])
 abbrev pub InBlock : ℕ → ℕ → Type 0
 InBlock at len = (1 ≤ len) × (at + len ≤ 4096)
 
--- The text lists the numbers: they stand in decimal, joined by commas. A line has no room for more than 10000
+-- The text lists the numbers: they stand in decimal, joined by commas. A line has no room for more
+-- than 10000
 pub record Lists (text numbers : List ℕ) : Type 0 where
   pub some : 0 < length numbers
   pub fits : length numbers ≤ 10000

@@ -6,8 +6,8 @@ use Rattle.std.specs.Io.KnownBytes.{Consumes, IsAtEnd}
 use Rattle.journal_command.specs.declared.line.Piece.{Piece}
 use Rattle.journal_command.specs.declared.line.Piece.TheVariants as pieces
 
--- The bytes that are left of an input, where they are known, and the line that was read last, of which no more bytes are
--- kept than show that it is too long
+-- The bytes that are left of an input, where they are known, and the line that was read last, of
+-- which no more bytes are kept than show that it is too long
 pub record LinesState : Type 0 where
   pub left : Option (List ℕ)
   pub line : List ℕ
@@ -47,7 +47,8 @@ ShowsPiece shown n pieces.Part = (0 < n) × (n ≡ length shown) × NoBreak show
 ShowsPiece shown n pieces.Whole = (take (n + 1) shown ≡ take n shown ++ 10 ∷ []) × NoBreak (take n shown)
 ShowsPiece shown n pieces.End = (n ≡ 0) × (shown ≡ [])
 
--- A piece of the line was taken: at least one byte where it goes on, and its newline where that was met; or the input ended
+-- A piece of the line was taken: at least one byte where it goes on, and its newline where that was
+-- met; or the input ended
 abbrev pub TakesPiece : LinesState → LinesState → Piece → Type 0
 TakesPiece old new pieces.Part = (bytes : List ℕ) × (0 < length bytes) × TakesBytes bytes bytes old new
 TakesPiece old new pieces.Whole = (bytes : List ℕ) × TakesBytes bytes (bytes ++ 10 ∷ []) old new

@@ -34,7 +34,8 @@ abbrev pub term_bytes : Term → List ℕ
 term_bytes (listed bytes) = bytes
 term_bytes (repeated byte count) = replicate count byte
 
--- The text spells the value: it is terms joined by `+`, which stand for the value's bytes, at most 4096
+-- The text spells the value: it is terms joined by `+`, which stand for the value's bytes, at most
+-- 4096
 pub record SpellsValue (text value : List ℕ) : Type 0 where
   pub terms : List Term
   pub some : 0 < length terms

@@ -26,8 +26,8 @@ pub enum Ask<'w> {
     Migrate {
         path: &'w str,
     },
-    /// Serve the files of the disk in the file at the path, at a port, or at one that is free where that is 0, to so many
-    /// connections.
+    /// Serve the files of the disk in the file at the path, at a port, or at one that is free where
+    /// that is 0, to so many connections.
     Serve {
         path: &'w str,
         port: u16,

@@ -89,8 +89,8 @@ pub enum Choice<'a> {
 }
 
 impl<'a> Command<'a> {
-    /// The command that the line says, or `None` where it says none. The room takes the bytes of a value and
-    /// the numbers of a choice.
+    /// The command that the line says, or `None` where it says none. The room takes the bytes of a
+    /// value and the numbers of a choice.
     pub fn read(line: &[u8], room: &'a mut Room) -> Option<Command<'a>>
         ensures found { IfSome result (LineSays line.now) }
         ensures inside { IfSome result IsInside }

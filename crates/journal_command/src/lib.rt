@@ -1,12 +1,12 @@
-//! What a program's words and the lines of a script say, with no journal: what the words ask for, the lines of an input, the
-//! command that each says, and how numbers and values are written.
+//! What a program's words and the lines of a script say, with no journal: what the words ask for,
+//! the lines of an input, the command that each says, and how numbers and values are written.
 //!
-//! A line is its words, with one space between each two, and `specs/Commands.antt` says which words say which command. A
-//! command lends the bytes of its value, or the numbers of its choice, from a `Room` whose memory is taken once, so that
-//! no line takes any.
+//! A line is its words, with one space between each two, and `specs/Commands.antt` says which words
+//! say which command. A command lends the bytes of its value, or the numbers of its choice, from a
+//! `Room` whose memory is taken once, so that no line takes any.
 //!
-//! `specs/Values.antt` has the text of a value: terms joined by `+`. A text spells one value at most, and `print_value`
-//! prints the text that spells it by its maximal runs of equal bytes.
+//! `specs/Values.antt` has the text of a value: terms joined by `+`. A text spells one value at
+//! most, and `print_value` prints the text that spells it by its maximal runs of equal bytes.
 #![tactic(auto)]
 
 mod ask;

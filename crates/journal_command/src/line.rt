@@ -25,8 +25,8 @@ pub enum Piece {
 
 /// The lines of an input. The memory for a line is taken once.
 ///
-/// Contracts see the bytes that are left of the input, where they are known, and the line that was read last.
-/// Of a longer one only the first bytes are kept, one more than a line may have.
+/// Contracts see the bytes that are left of the input, where they are known, and the line that was
+/// read last. Of a longer one only the first bytes are kept, one more than a line may have.
 #[derive(Drop)]
 pub struct Lines<I: Read> {
     input: BufReader<I>,
@@ -61,7 +61,8 @@ impl<I: Read + Drop> Lines<I> {
         self.input.buffer().contains(&b'\n')
     }
 
-    /// Reads the next line. `false` at the end of the input. The last line need not end in a newline.
+    /// Reads the next line. `false` at the end of the input. The last line need not end in a
+    /// newline.
     pub fn advance(&mut self) -> io::Result<bool>
         ensures { IfOk result (Advances self.old self.new) }
     {
@@ -83,7 +84,8 @@ impl<I: Read + Drop> Lines<I> {
         &self.line
     }
 
-    // Takes what is at hand of the line, with its newline. Where nothing is at hand, the input is read first.
+    // Takes what is at hand of the line, with its newline. Where nothing is at hand, the input is
+    // read first.
     fn take_piece(&mut self) -> io::Result<Piece>
         ensures { IfOk result (TakesPiece self.old self.new) }
     {

@@ -3,7 +3,8 @@ use crate::choice::ChoiceRoom;
 use crate::value::ValueRoom;
 use std::alloc::{AllocError, Global};
 
-/// Room for what one line spells, a value or a choice, taken once and used for one line after another.
+/// Room for what one line spells, a value or a choice, taken once and used for one line after
+/// another.
 #[derive(Drop)]
 pub struct Room {
     /// For the bytes of a value.

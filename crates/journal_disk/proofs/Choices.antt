@@ -1,4 +1,5 @@
--- The loops over the blocks of a disk in memory: which are pending, and an image put block by block.
+-- The loops over the blocks of a disk in memory: which are pending, and an image put block by
+-- block.
 use Rattle.std.proofs.Common.{◌≡◌, ◌≢◌, ◌⊎◌, inl, inr, ⊎_elim, ◌≤◌, ◌<◌, ◌+◌, ◌-◌, ℕ, List, [], ◌∷◌, ◌++◌, length, get_or, set, drop, Contains, cond, ltb, Option, unwrap_or, ap, ◌∙◌, sym, subst, arith, length-set, length-append, length-drop, get_or-drop}
 use Rattle.std.proofs.lemmas.List.{append-nil, get_or-set_same, get_or-set_other}
 use Rattle.std.proofs.lemmas.Bool.{lt-ltb, le-ltb, cases_eq}

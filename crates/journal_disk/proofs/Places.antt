@@ -1,4 +1,5 @@
--- What the last write of a block and the last barrier tell of its pending writes and its stable content.
+-- What the last write of a block and the last barrier tell of its pending writes and its stable
+-- content.
 use Rattle.std.proofs.Common.{◌≡◌, ◌≢◌, ◌⊎◌, inl, inr, ⊎_elim, ◌<◌, ◌≤◌, ℕ, List, [], ◌∷◌, length, Bool, cond, refl, sym, ap, ◌∙◌, arith, subst}
 use Rattle.std.proofs.lemmas.Bool.{cases_eq, eq-eqb, ne_eqb}
 use Rattle.journal_block.specs.Block.{Bytes}

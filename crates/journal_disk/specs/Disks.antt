@@ -1,4 +1,5 @@
--- What a disk is: its blocks at first, what happened to them since, and what that makes of each block now.
+-- What a disk is: its blocks at first, what happened to them since, and what that makes of each
+-- block now.
 use Rattle.std.specs.Prelude.{ℕ, ◌≡◌, ◌⊎◌, ◌<◌, ◌≤◌, ◌-◌, ◌^◌, ◌==◌, Bool, List, [], ◌∷◌, slice_index_or, if◌then◌else◌}
 use Rattle.journal_block.specs.Block.{Bytes}
 
@@ -7,7 +8,8 @@ pub data DiskEvent : Type 0 where
   write : (block : ℕ) (bytes : Bytes) → DiskEvent
   barrier : DiskEvent
 
--- A disk's past: how many blocks it has, what they held at first, and what happened since, the newest first
+-- A disk's past: how many blocks it has, what they held at first, and what happened since, the
+-- newest first
 pub record Past : Type 0 where
   pub size : ℕ
   pub first : List Bytes
@@ -22,7 +24,8 @@ pub record DiskState : Type 0 where
 abbrev pub block_at : List Bytes → ℕ → Bytes
 block_at blocks b = slice_index_or blocks b []
 
--- the newest of some writes, the first of the list, or where there is none the block that they overwrite
+-- the newest of some writes, the first of the list, or where there is none the block that they
+-- overwrite
 abbrev pub newest : List Bytes → Bytes → Bytes
 newest [] block = block
 newest (bytes ∷ older) block = bytes

@@ -8,7 +8,8 @@ use Rattle.journal_disk.specs.Disks.{Past, block_at, pending_of, stable_of, read
 abbrev pub MayLeave : Past → ℕ → Bytes → Type 0
 MayLeave p b bytes = (bytes ≡ stable_of p b) ⊎ Contains (pending_of p b) bytes
 
--- An image is what a crash leaves: of each block, whatever it leaves of others, what it may leave of that one
+-- An image is what a crash leaves: of each block, whatever it leaves of others, what it may leave
+-- of that one
 pub record IsImage (p : Past) (image : List Bytes) : Type 0 where
   pub size : length image ≡ p.size
   pub each : (b : ℕ) → b < p.size → MayLeave p b (block_at image b)
@@ -21,7 +22,8 @@ EveryImage p Q = (image : List Bytes) → IsImage p image → Q image
 abbrev pub reading : Past → List Bytes
 reading p = map (read_of p) (range_with_len 0 p.size)
 
--- An image from before a write of these bytes to block c, with that block as it was there or as written
+-- An image from before a write of these bytes to block c, with that block as it was there or as
+-- written
 pub record IsOldOrWritten (p : Past) (c : ℕ) (bytes : Bytes) (image : List Bytes) : Type 0 where
   pub old : List Bytes
   pub was : IsImage p old

@@ -1,4 +1,5 @@
--- What follows from the definitions for every disk: its reads, its images and its moments, from event to event.
+-- What follows from the definitions for every disk: its reads, its images and its moments, from
+-- event to event.
 use Rattle.std.proofs.Common.{◌≡◌, ◌≢◌, ◌⊎◌, inl, inr, ⊎_elim, ◌<◌, ℕ, zero, suc, List, [], ◌∷◌, ◌++◌, Bool, cond, length, set, refl, sym, ap, ◌∙◌, arith, length-append, length-set, subst, Contains}
 use Rattle.std.proofs.lemmas.List.{get_or-set_same, get_or-set_other}
 use Rattle.std.proofs.lemmas.List.FromFn.{length-map-range_with_len, get_or-map-range_with_len}
@@ -64,7 +65,8 @@ contains_cons : (x y : Bytes) (ys : List Bytes) → Contains (y ∷ ys) x → (x
 contains_cons x y ys (zero, lt, is) = inl (sym is)
 contains_cons x y ys (suc k, lt, is) = inr (k, omega arith, is)
 
--- after a write a crash may leave of a block what was written to it, or what it might have left before
+-- after a write a crash may leave of a block what was written to it, or what it might have left
+-- before
 pub may_leave_after_write : (p : Past) (b c : ℕ) (bytes x : Bytes) → MayLeave (past_after (write c bytes) p) b x
     → ((b ≡ c) × (x ≡ bytes)) ⊎ MayLeave p b x
 may_leave_after_write p b c bytes x left = ⊎_elim
@@ -163,7 +165,8 @@ images_after_barrier p image is = record {
 same_length : {p q : Past} → p ≡ q → length p.events ≡ length q.events
 same_length same = ap (λ (r : Past). length r.events) same
 
--- what holds of every image before something that may have happened and after it, holds at each moment
+-- what holds of every image before something that may have happened and after it, holds at each
+-- moment
 pub leaves_by : (e : DiskEvent) (p q : Past) (Q : List Bytes → Type 0)
     → MayHaveHappened e p q → EveryImage p Q → EveryImage q Q → LeavesOnly p q Q
 leaves_by e p q Q happened old new = ⊎_elim

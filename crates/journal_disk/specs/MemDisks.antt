@@ -43,12 +43,14 @@ pending_below p n = filter (λ e. nat_lt 0 e.1) (map (count_at p) (range_with_le
 abbrev pub pending_blocks : Past → List (ℕ × ℕ)
 pending_blocks p = pending_below p p.size
 
--- block b where only the first k of its pending writes stand: its stable content where k is 0, the last write where k is too great
+-- block b where only the first k of its pending writes stand: its stable content where k is 0, the
+-- last write where k is too great
 abbrev pub chosen_in : Bytes → List DiskEvent → ℕ → ℕ → Bytes
 chosen_in block events b k =
     let writes = pending_in events b in newest (drop (length writes - k) writes) (stable_in block events b)
 
--- the number for a block: the j-th of the choice for the j-th pending block, and 0 where that is missing
+-- the number for a block: the j-th of the choice for the j-th pending block, and 0 where that is
+-- missing
 abbrev pub number_for : Past → List ℕ → ℕ → ℕ
 number_for p choice b = slice_index_or choice (length (pending_below p b)) 0
 

@@ -26,10 +26,11 @@ impl fmt::Display for DiskFault {
 
 impl Error for DiskFault {}
 
-/// A disk of blocks of 4096 bytes, whose calls may fail, and which a crash may leave as any of its images.
+/// A disk of blocks of 4096 bytes, whose calls may fail, and which a crash may leave as any of its
+/// images.
 ///
-/// What is said of the blocks is owed by an honest disk alone, all else by every disk. No call makes a disk
-/// honest or dishonest.
+/// What is said of the blocks is owed by an honest disk alone, all else by every disk. No call
+/// makes a disk honest or dishonest.
 pub trait BlockDisk {
     /// What is known of the disk.
     ghost state: { Self → DiskState };
@@ -42,7 +43,8 @@ pub trait BlockDisk {
     fn failures(&self) -> u64
         ensures { result ≡ (state self.now).failures };
 
-    /// Copies a block of the disk, as its last write left it. What `into` holds after a fault is not said.
+    /// Copies a block of the disk, as its last write left it. What `into` holds after a fault is
+    /// not said.
     fn read(&mut self, block: u64, into: &mut Block) -> Result<(), DiskFault>
         requires { block < (state self.old).past.size }
         ensures keeps { Keeps (state self.old) (state self.new) }
@@ -51,8 +53,8 @@ pub trait BlockDisk {
             OnOk result (into.new ≡ read_of (state self.old).past block) }
         ensures same { IsTrue (state self.old).honest → (state self.new).past ≡ (state self.old).past };
 
-    /// Overwrites a block of the disk. The write is pending until a barrier succeeds. One that failed may be
-    /// pending or not.
+    /// Overwrites a block of the disk. The write is pending until a barrier succeeds. One that
+    /// failed may be pending or not.
     fn write(&mut self, block: u64, from: &Block) -> Result<(), DiskFault>
         requires { block < (state self.old).past.size }
         ensures keeps { Keeps (state self.old) (state self.new) }
@@ -62,7 +64,8 @@ pub trait BlockDisk {
         ensures written_or_not { IsTrue (state self.old).honest →
             MayHaveHappened (write block from.now) (state self.old).past (state self.new).past };
 
-    /// Makes the pending writes stable, of each block its last. A barrier that failed clears nothing.
+    /// Makes the pending writes stable, of each block its last. A barrier that failed clears
+    /// nothing.
     fn barrier(&mut self) -> Result<(), DiskFault>
         ensures keeps { Keeps (state self.old) (state self.new) }
         ensures cause { OnErr result (HasFailed (state self.old) (state self.new)) }
@@ -76,7 +79,8 @@ pub trait BlockDisk {
     /// The disk as it reads is one of its images.
     ghost reads_as_image: { (past : Past) → IsImage past (reading past) } = { reading_is_image };
 
-    /// At each moment of a write, done or failed, an image has the block as it was or as written, never a part.
+    /// At each moment of a write, done or failed, an image has the block as it was or as written,
+    /// never a part.
     ghost writes_whole: { (old new : Past) (block : ℕ) (bytes : Bytes)
         → block < old.size → MayHaveHappened (write block bytes) old new
         → LeavesOnly old new (IsOldOrWritten old block bytes) } = { leaves_by_write };

@@ -29,10 +29,10 @@ pub enum Entry {
 
 /// All writes and barriers since the beginning, in their order.
 ///
-/// The place of an entry is the number of entries up to it. The record keeps the place of each block's
-/// last write, and each write that of the block's write before it. So a block's last write is found at
-/// once, and its pending writes one after the other, with no look at other blocks or at what was before
-/// the last barrier.
+/// The place of an entry is the number of entries up to it. The record keeps the place of each
+/// block's last write, and each write that of the block's write before it. So a block's last write
+/// is found at once, and its pending writes one after the other, with no look at other blocks or at
+/// what was before the last barrier.
 #[derive(Drop)]
 pub struct Record {
     entries: Vec<Entry>,
@@ -87,9 +87,9 @@ impl Record {
         bytes_at(&self.entries, self.last[block as usize])
     }
 
-    /// The bytes of the block's pending write of this number, or of its last one where there are fewer.
-    /// Where the number is 0 or no write is pending, those of its last write before the last barrier, or
-    /// `None` where there is none.
+    /// The bytes of the block's pending write of this number, or of its last one where there are
+    /// fewer. Where the number is 0 or no write is pending, those of its last write before the last
+    /// barrier, or `None` where there is none.
     pub fn chosen(&self, block: u64, number: u64) -> Option<&Block>
         requires { block < self.now.size }
         ensures { (first : List ℕ) →

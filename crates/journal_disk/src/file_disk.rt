@@ -14,10 +14,11 @@ use std::os::unix::fs::FileExt;
 
 /// A disk in a file, or on a block device.
 ///
-/// Block `b` is the 4096 bytes from byte `4096 * b` on. Blocks are read into the caller's and written from it, with
-/// no copy beside the kernel's, and a barrier is an fdatasync. A call that the system cuts short or interrupts is
-/// carried on; one that the system refuses fails. What the system keeps is not this crate's to prove, so that of
-/// what the blocks hold nothing is promised: the disk counts as not honest.
+/// Block `b` is the 4096 bytes from byte `4096 * b` on. Blocks are read into the caller's and
+/// written from it, with no copy beside the kernel's, and a barrier is an fdatasync. A call that
+/// the system cuts short or interrupts is carried on; one that the system refuses fails. What the
+/// system keeps is not this crate's to prove, so that of what the blocks hold nothing is promised:
+/// the disk counts as not honest.
 #[derive(Drop)]
 pub struct FileDisk<F = File> {
     file: F,
@@ -35,8 +36,8 @@ impl<F> Model for FileDisk<F> {
 }
 
 impl<F: FileExt + OpenFile + Seek + Drop> FileDisk<F> {
-    /// Opens the disk in the file at a path, to be read and written. It has as many blocks as there are whole
-    /// 4096 bytes up to the file's end.
+    /// Opens the disk in the file at a path, to be read and written. It has as many blocks as there
+    /// are whole 4096 bytes up to the file's end.
     ///
     /// Refused as the system refuses the file; a file is never made.
     pub fn open<R: Files<File = F>>(rt: &R, path: &str) -> io::Result<FileDisk<F>>

@@ -15,10 +15,10 @@ use std::marker::Model;
 
 /// An honest disk in memory, which can be made to fail, and to crash to any of its images.
 ///
-/// A call that needs memory takes it from the allocator that the disk was made with. A device call for
-/// which memory is refused fails. No device call takes longer where the record is longer. `pending`, `image`
-/// and `crash` take time linear in the blocks and in the writes since the last barrier, and `crash` also
-/// drops the record.
+/// A call that needs memory takes it from the allocator that the disk was made with. A device call
+/// for which memory is refused fails. No device call takes longer where the record is longer.
+/// `pending`, `image` and `crash` take time linear in the blocks and in the writes since the last
+/// barrier, and `crash` also drops the record.
 #[derive(Drop)]
 pub struct MemDisk {
     alloc: Global,
@@ -74,8 +74,8 @@ impl MemDisk {
         })
     }
 
-    /// Makes the `call`-th device call from now on fail, be it a read, a write or a barrier, and no other,
-    /// whatever an earlier `fail_in` said. At 0 none fails.
+    /// Makes the `call`-th device call from now on fail, be it a read, a write or a barrier, and no
+    /// other, whatever an earlier `fail_in` said. At 0 none fails.
     pub fn fail_in(&mut self, call: u64)
         ensures { self.new ≡ record self.old { fails_in = call } }
     {
@@ -109,8 +109,9 @@ impl MemDisk {
 
     /// The disk that a crash leaves, with a record of its own. It takes no memory.
     ///
-    /// The j-th number of the choice is for the j-th block of `pending`: 0 leaves the stable block, k its
-    /// k-th pending write. A number that is missing is 0, and one that is too great means the last write.
+    /// The j-th number of the choice is for the j-th block of `pending`: 0 leaves the stable block,
+    /// k its k-th pending write. A number that is missing is 0, and one that is too great means the
+    /// last write.
     pub fn crash(self, choice: &[u32]) -> MemDisk
         ensures disk { result ≡ disk_from self.past.size (image_of self.past choice.now) }
         ensures settled { IsSettled result.past }

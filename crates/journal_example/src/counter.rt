@@ -8,7 +8,8 @@ use journal_world::{Addr, AnyMap};
 use std::alloc::Global;
 use std::sync::Wait;
 
-/// The first inode: an object of 128 bytes. The counter is the little-endian number in its first eight.
+/// The first inode: an object of 128 bytes. The counter is the little-endian number in its first
+/// eight.
 const COUNTER: Addr = Addr { block: 515, off: 0 };
 
 const INODE_BYTES: usize = 128;
@@ -27,8 +28,9 @@ pub fn look<'b, D: BlockDisk, J: Naming, W: Wait>(
     found
 }
 
-/// Adds 1 to the counter, in a transaction: no other thread's comes between its read and its overwrite. It stands in the
-/// history at the place that the receipt names, and no crash loses it then.
+/// Adds 1 to the counter, in a transaction: no other thread's comes between its read and its
+/// overwrite. It stands in the history at the place that the receipt names, and no crash loses it
+/// then.
 pub fn add_one<'b, D: BlockDisk, J: Naming, W: Wait>(
     rt: &W,
     alloc: Global,
@@ -45,7 +47,8 @@ pub fn add_one<'b, D: BlockDisk, J: Naming, W: Wait>(
     }
 }
 
-// Takes the counter's slot, which the transaction holds to its end, and remembers what is to be written.
+// Takes the counter's slot, which the transaction holds to its end, and remembers what is to be
+// written.
 fn read_and_add<'j, 'b, D: BlockDisk, J: Naming, W: Wait>(
     rt: &W,
     txn: &mut Txn<'j, 'b, D, AnyMap, J>,

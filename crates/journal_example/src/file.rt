@@ -7,18 +7,19 @@ use std::fs::{File, Files, OpenFile, OpenOptions};
 use std::io;
 use std::os::fd::AsRawFd;
 
-// How many blocks a new disk has. The log takes 513 of them, the bits one, the inodes 16, and each other is an object.
+// How many blocks a new disk has. The log takes 513 of them, the bits one, the inodes 16, and each
+// other is an object.
 const BLOCKS: u64 = 600;
 
 // How many bytes of the file are locked, at its front.
 const LOCKED_BYTES: u64 = 4096;
 
-/// Opens the disk in the file at a path, which is made where it is not there: a file of zeros is a disk whose objects are
-/// all zero. The barrier makes stable what a program that was killed may have left with the system, so that nothing is
-/// pending when the journal is opened.
+/// Opens the disk in the file at a path, which is made where it is not there: a file of zeros is a
+/// disk whose objects are all zero. The barrier makes stable what a program that was killed may
+/// have left with the system, so that nothing is pending when the journal is opened.
 ///
-/// Refused as the system refuses the file, and where another program has it open: of two that write to one disk each
-/// would ruin what the other was told to be stable.
+/// Refused as the system refuses the file, and where another program has it open: of two that write
+/// to one disk each would ruin what the other was told to be stable.
 pub fn open_or_make<R: Files<File = File>>(rt: &R, path: &str) -> io::Result<FileDisk> {
     let file = OpenOptions::new()
         .read(true)

@@ -21,16 +21,16 @@ pub struct Refused;
 
 type Counters<'b, J> = Journal<'b, FileDisk, AnyMap, J>;
 
-/// Opens a journal over the disk, adds 1 so often in each of four threads, and gives the disk up. What the counter was
-/// before, and what it is then, all of it stable.
+/// Opens a journal over the disk, adds 1 so often in each of four threads, and gives the disk up.
+/// What the counter was before, and what it is then, all of it stable.
 pub fn count_in<R: Threads + Wait + Clock + Sync>(
     rt: &R,
     alloc: Global,
     disk: FileDisk,
     times: u32,
 ) -> Result<(u64, u64), Refused> {
-    // The book has the history of one journal, and the cell its slots. The brand names all three, so that no receipt and no
-    // slot of another is taken for one of its.
+    // The book has the history of one journal, and the cell its slots. The brand names all three,
+    // so that no receipt and no slot of another is taken for one of its.
     let Ok(book) = Book::<AnyMap>::open::<()>() else {
         return Err(Refused);
     };
@@ -61,7 +61,8 @@ fn count_in_book<J: Naming + Send + Sync, R: Threads + Wait + Clock + Sync>(
     counted
 }
 
-// Counts beside the logger and the installer, which make commits stable. They end once the journal is stopped.
+// Counts beside the logger and the installer, which make commits stable. They end once the journal
+// is stopped.
 fn count_on<J: Naming + Send + Sync, R: Threads + Wait + Clock + Sync>(
     rt: &R,
     alloc: Global,
@@ -108,8 +109,8 @@ fn in_two<J: Naming + Send + Sync, R: Threads + Wait + Sync>(
     )
 }
 
-// Adds 1 so often in a session of this thread's. Each waits until no crash loses it; a program that makes many commits by
-// `Txn::commit` waits once for all of them, by `Journal::flush`.
+// Adds 1 so often in a session of this thread's. Each waits until no crash loses it; a program that
+// makes many commits by `Txn::commit` waits once for all of them, by `Journal::flush`.
 fn add_often<J: Naming, W: Wait>(rt: &W, alloc: Global, journal: &Counters<J>, times: u32) -> bool {
     match journal.session(rt) {
         Ok(mut session) => { (0..times).all(|_| add_one(rt, alloc, journal, &mut session).is_ok()) }

@@ -1,9 +1,10 @@
-//! A program over the journal: a counter in a file, to which four threads add, each in transactions of its own.
+//! A program over the journal: a counter in a file, to which four threads add, each in transactions
+//! of its own.
 //!
-//! It is what an author of a server starts from. A disk in a file, locked against other programs (`file`); a journal over it,
-//! with the logger and the installer beside the threads that commit (`journal`); a session and transactions for each
-//! thread (`counter`). It prints what the counter was and what it is, and once more what it is after the disk was given
-//! up and opened again.
+//! It is what an author of a server starts from. A disk in a file, locked against other programs
+//! (`file`); a journal over it, with the logger and the installer beside the threads that commit
+//! (`journal`); a session and transactions for each thread (`counter`). It prints what the counter
+//! was and what it is, and once more what it is after the disk was given up and opened again.
 #![tactic(auto)]
 
 mod counter;
@@ -37,7 +38,8 @@ fn run<R: Files<File = File> + Threads + Wait + Clock + Sync, O: Write>(
     writeln!(output, "found {found} on opening it again")
 }
 
-/// Opens the disk, and adds 1 so often in each of four threads. What the counter was, and what it is.
+/// Opens the disk, and adds 1 so often in each of four threads. What the counter was, and what it
+/// is.
 fn count<R: Files<File = File> + Threads + Wait + Clock + Sync>(
     rt: &R,
     alloc: Global,

@@ -32,7 +32,8 @@ File-is : (g f : FileNode) → File g ≡ File f → g ≡ f
 File-is g f is = cc
 
 module _ (version : FormatVersion) where
-  -- The inode g is one of a file of the bytes p: its blocks are distinct data blocks, whole, and hold p and zeros
+  -- The inode g is one of a file of the bytes p: its blocks are distinct data blocks, whole, and
+  -- hold p and zeros
   pub record Stores (n : Map) (g : FileNode) (p : List ℕ) : Type 0 where
     pub born : 1 ≤ g.generation
     pub size : g.size ≡ length p

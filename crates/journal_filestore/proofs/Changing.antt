@@ -71,7 +71,8 @@ HadBlocks-free version m i g is = record {
   distinct = tt;
 }
 
--- what is written where an inode is replaced: the bits of blocks that it gives up, those of new ones, what blocks hold, and itself
+-- what is written where an inode is replaced: the bits of blocks that it gives up, those of new
+-- ones, what blocks hold, and itself
 abbrev pub all_written : ℕ → Node → List ℕ → List ℕ → List ℕ → List ℕ → List Write
 all_written i new cut fresh bs bytes = bits_written 0 cut ++ (bits_written 1 fresh ++ (blocks_written bs bytes ++ (inode i, inode_bytes new) ∷ []))
 
@@ -196,7 +197,8 @@ pub record IsNodeOf (version : FormatVersion) (g : FileNode) (p : List ℕ) : Ty
   pub absent : drop (extra_count version g.size) g.more ≡ replicate (MORE_BLOCKS - extra_count version g.size) 0
   pub fits : Fits (File g)
 
--- The file at number i becomes g, whose blocks are kept ones and new ones, in which these bytes are written to some in the middle
+-- The file at number i becomes g, whose blocks are kept ones and new ones, in which these bytes are
+-- written to some in the middle
 pub Puts-changed : (version : FormatVersion) (m n : Map) (i : ℕ) (g : FileNode) (p kept cut fresh xs bs ys bytes : List ℕ) → is_file_number i ≡ true → HasSoundFiles version m
     → HadBlocks version m i (kept ++ cut) → Distinct fresh → AllByRecursion HasBit fresh → AreClear m fresh
     → file_blocks version g ≡ kept ++ fresh → kept ++ fresh ≡ xs ++ bs ++ ys → ((b : ℕ) → Among xs b ⊎ Among ys b → Among kept b)

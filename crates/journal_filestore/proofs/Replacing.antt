@@ -61,7 +61,8 @@ sized_others m n (b ∷ []) same sized = (ap length (same b refl) ∙ sized.0, t
 sized_others m n (b ∷ c ∷ bs) same sized = (ap length (same b (inl refl)) ∙ sized.0, sized_others m n (c ∷ bs) (λ x has. same x (inr has)) sized.1)
 
 module _ (version : FormatVersion) where
-  -- The map n is m with inode i replaced, by one that has some of the old one's blocks and some that were free, and with the bits of these blocks
+  -- The map n is m with inode i replaced, by one that has some of the old one's blocks and some
+  -- that were free, and with the bits of these blocks
   pub record Replaces (m n : Map) (i : ℕ) (new : Node) : Type 0 where
     pub layout : n.layout ≡ m.layout
     pub begins : object n superblock ≡ object m superblock

@@ -33,7 +33,8 @@ use Rattle.journal_filestore.proofs.Changing.{HadBlocks, HadBlocks-file, Puts-ch
 abbrev pub written : FormatVersion → FileNode → List ℕ → ℕ → List ℕ → Time → FileNode
 written version f fresh offset bs now = with_blocks f (extra_count version f.size) fresh (max f.size (offset + length bs)) now
 
--- Old blocks and new ones, of which those from one place to another are overwritten: those before, in the middle and behind
+-- Old blocks and new ones, of which those from one place to another are overwritten: those before,
+-- in the middle and behind
 pub record AreSpread (old fresh rest : List ℕ) (first after : ℕ) : Type 0 where
   pub parts : old ++ fresh ≡ take first old ++ slice_range (old ++ fresh ++ rest) first after ++ drop after old
   pub before : old ≡ take first old ++ slice_range (old ++ fresh ++ rest) first (min (length old) after) ++ drop after old

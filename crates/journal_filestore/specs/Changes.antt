@@ -18,7 +18,8 @@ use Rattle.journal_filestore.specs.Doing.{LearnsThat, Puts, Makes}
 abbrev pub extra_blocks_of : List ℕ → List ℕ → List ℕ
 extra_blocks_of kept fresh = kept ++ fresh ++ replicate (MORE_BLOCKS - (length kept + length fresh)) 0
 
--- the inode of a file with another size and time, so many of its further blocks, and new ones after them
+-- the inode of a file with another size and time, so many of its further blocks, and new ones after
+-- them
 abbrev pub with_blocks : FileNode → ℕ → List ℕ → ℕ → Time → FileNode
 with_blocks f kept fresh size mtime = record f { size = size; more = extra_blocks_of (take kept f.more) fresh; mtime = mtime }
 
@@ -27,7 +28,8 @@ abbrev pub FileBecomes : FormatVersion → Map → Map → ℕ → FileNode → 
 FileBecomes version m n i f bytes mtime =
     is_file_number i ≡ true → node_at m i ≡ File f → Puts version m n i (record { generation = f.generation; file = Some (record { bytes = bytes; mtime = mtime }) })
 
--- Blocks are not handed out that a file of the new size has beside those of the old one: the transaction only read
+-- Blocks are not handed out that a file of the new size has beside those of the old one: the
+-- transaction only read
 pub record LacksBlocks (version : FormatVersion) (layout : Shape) (old new : TxnState) (from to : ℕ) : Type 0 where
   pub needed : extra_count version from < extra_count version to
   pub told : LearnsThat version layout old new (λ m. Unit {0})

@@ -23,7 +23,8 @@ use Rattle.journal_filestore.specs.Operations.{Outcome}
 abbrev pub GivesPairs : Map → List Pair → Type 0
 GivesPairs m ps = (a : Addr) (v : Value) → value_among ps a ≡ Some v → value_at m a ≡ v
 
--- A map that the transaction may have read: sound, on a disk of so many blocks, and with the values that were read
+-- A map that the transaction may have read: sound, on a disk of so many blocks, and with the values
+-- that were read
 pub record MayBeRead (version : FormatVersion) (layout : Shape) (reads : List Pair) (m : Map) : Type 0 where
   pub on_disk : m.layout ≡ layout
   pub sound : HasSoundFiles version m
@@ -109,7 +110,8 @@ pub record Makes (version : FormatVersion) (layout : Shape) (old new : TxnState)
   pub now : (m : Map) → MayBeRead version layout new.reads m → P m (overwritten m new.writes)
   pub few : written_blocks new.writes ≤ MAX_UPDATES
 
--- Wherever a sound map gives what was read, the writes leave it sound, and the answer fits the files before and after
+-- Wherever a sound map gives what was read, the writes leave it sound, and the answer fits the
+-- files before and after
 pub record Does {A : Type 0} (version : FormatVersion) (layout : Shape) (case : Files → A → Files → Type 0) (reads writes : List Pair) (answer : A) : Type 0 where
   pub sound : (m : Map) → m.layout ≡ layout → HasSoundFiles version m → Agrees m reads → HasSoundFiles version (overwritten m writes)
   pub answers : (m : Map) → m.layout ≡ layout → HasSoundFiles version m → Agrees m reads → case (files_of version m) answer (files_of version (overwritten m writes))

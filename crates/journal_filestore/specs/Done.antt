@@ -30,7 +30,8 @@ pub record IsMadeAt {A : Type 0} (version : FormatVersion) (case : Files → Res
   -- and as one more of the session's own
   pub number : new.number ≡ old.number
   pub one_more : commits_of new.number new.mine ≡ commits_of old.number old.mine ++ made ∷ []
-  -- where the disk was honest and settled, the answer fits the files of the maps before and after it, and the map is sound after each number of commits
+  -- where the disk was honest and settled, the answer fits the files of the maps before and after
+  -- it, and the map is sound after each number of commits
   pub answers : IsTrue (is_trusted new.seen) → case (files_of version (latest (take place new.seen))) answer (files_of version (apply made (latest (take place new.seen))))
   pub ruled : IsTrue (is_trusted new.seen) → (n : ℕ) → HasSoundFiles version (at new.seen n)
 
@@ -43,7 +44,8 @@ pub record IsDone {A : Type 0} (version : FormatVersion) (waits : Bool) (case : 
   -- what waits is marked as stable, with all commits before it, where it is answered Ok
   pub stable : IsTrue waits → OnOk answer (count (take (place + 1) new.seen) ≤ floor new.seen)
 
--- Refused, it was not done. In doubt, it was done with some answer that the case gives, and is not known to be stable
+-- Refused, it was not done. In doubt, it was done with some answer that the case gives, and is not
+-- known to be stable
 abbrev pub IsOperationFault : {A : Type 0} → FormatVersion → Bool → (Files → Result A Status → Files → Type 0) → SessionState → SessionState → Fault CauseState → Type 0
 IsOperationFault version waits case old new (Refused why) = OnlyExtends old new
 IsOperationFault {A} version waits case old new (Unsure why) = IsTrue waits × ((answer : Result A Status) × (place : ℕ) × IsMadeAt version case old new answer place)
@@ -59,7 +61,8 @@ pub record IsReceiptOf (history : List Entry) (index : ℕ) (receipt : CommitPla
   pub place : receipt.place ≡ index
   pub counted : receipt.count ≡ count (take (index + 1) history)
 
--- What is owed for an answer whose commit stands at this place: a success that waits is owed the wait for its receipt, and else nothing is
+-- What is owed for an answer whose commit stands at this place: a success that waits is owed the
+-- wait for its receipt, and else nothing is
 abbrev pub IsWaitOf : {A : Type 0} → Bool → Result A Status → List Entry → ℕ → PendingWait CommitPlace → Type 0
 IsWaitOf waits answer history place Nothing = IsTrue waits → OnOk answer ⊥
 IsWaitOf waits answer history place (Wait receipt) = IsTrue waits × IsReceiptOf history place receipt

@@ -12,7 +12,8 @@ use Rattle.journal_filestore.specs.declared.fault.Fault.TheVariants as fault
 use Rattle.journal_filestore.specs.declared.operation.AttemptFault.{AttemptFault}
 use Rattle.journal_filestore.specs.declared.operation.AttemptFault.TheVariants.{Held, Refused}
 
--- Why a transaction on files is refused: never for the size of a value or for too many blocks, and never for room
+-- Why a transaction on files is refused: never for the size of a value or for too many blocks, and
+-- never for room
 abbrev pub IsFilesRefusal : Refusal CauseState → Type 0
 IsFilesRefusal NoMemory = Unit {0}
 IsFilesRefusal BadAddress = Unit {0}
@@ -25,7 +26,8 @@ IsFilesRefusal (Closed cause) = IsUnexplained J13 cause
 IsFilesRefusal Fenced = Unit {0}
 IsFilesRefusal other = ⊥
 
--- Why an operation has no answer: it is refused, or its wait until it is stable is, after which the session has seen this
+-- Why an operation has no answer: it is refused, or its wait until it is stable is, after which the
+-- session has seen this
 abbrev pub IsFaultOf : SessionState → Fault CauseState → Type 0
 IsFaultOf s (fault.Refused why) = IsFilesRefusal why
 IsFaultOf s (fault.Unsure why) = IsWaitRefusal s why

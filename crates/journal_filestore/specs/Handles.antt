@@ -56,7 +56,8 @@ abbrev pub IsSmall : FormatVersion → Node → Type 0
 IsSmall version (File f) = f.size ≤ most_bytes version
 IsSmall version _ = Unit {0}
 
--- the numbers of a file's inode fit their bytes, its blocks are enough, and the root alone is a directory
+-- the numbers of a file's inode fit their bytes, its blocks are enough, and the root alone is a
+-- directory
 abbrev pub IsTarget : FormatVersion → ℕ → Target → Type 0
 IsTarget version i (Regular f) = Fits (File f) × IsSmall version (File f)
 IsTarget version i (Directory t) = i ≡ 1

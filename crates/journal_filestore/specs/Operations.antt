@@ -1,4 +1,5 @@
--- The eight operations on files: of each, the cases in their order, the first that holds is answered.
+-- The eight operations on files: of each, the cases in their order, the first that holds is
+-- answered.
 use Rattle.std.specs.Prelude.{ℕ, ◌≡◌, ◌+◌, ◌-◌, ◌*◌, max, Bool, true, false, not, ◌&&◌, ◌||◌, ◌==◌, nat_le, nat_lt, min, if◌then◌else◌, List, [], ◌∷◌, ◌++◌, length, take, drop, replicate, slice_range, Option, Some, None, is_some, unwrap_or, Result, Ok, Err}
 use Rattle.journal_world.specs.declared.moment.TheConstants.{MAX_NANOS}
 use Rattle.journal_inode.specs.declared.version.FormatVersion.{FormatVersion}
@@ -100,7 +101,8 @@ abbrev pub is_too_big : FormatVersion → Option ℕ → Bool
 is_too_big version None = false
 is_too_big version (Some size) = nat_lt (most_bytes version) size
 
--- the blocks that a file of the new size has beside those of the old one are not handed out. In version 1 there are none
+-- the blocks that a file of the new size has beside those of the old one are not handed out. In
+-- version 1 there are none
 abbrev pub lacks_blocks : FormatVersion → Bool → ℕ → ℕ → Bool
 lacks_blocks version room old new = nat_lt (extra_count version old) (extra_count version new) && not room
 
@@ -167,7 +169,8 @@ portion offset n i d = record {
   is_end = nat_le (length d.bytes) (offset + n);
 }
 
--- how many bytes are read of those that lie after the offset. In version 1 there are no more than one call reads
+-- how many bytes are read of those that lie after the offset. In version 1 there are no more than
+-- one call reads
 abbrev pub portion_length : FormatVersion → ℕ → ℕ → ℕ
 portion_length One count left = min count left
 portion_length Two count left = min (min count READ_BYTES) left

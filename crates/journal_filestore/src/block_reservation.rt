@@ -27,8 +27,8 @@ impl<'a> BlockReservation<'a> {
         }
     }
 
-    // Takes the lowest free numbers, so many or none, to be given back where the attempt comes to nothing. Memory for
-    // them comes first, so that none is lost for want of it.
+    // Takes the lowest free numbers, so many or none, to be given back where the attempt comes to
+    // nothing. Memory for them comes first, so that none is lost for want of it.
     pub(crate) fn take<W: Wait>(&mut self, rt: &W, count: usize) -> Result<bool, AllocError>
         requires { self.old.taken.items ≡ [] }
         ensures count { IfOk result (λ took. IsTrue took → length self.new.taken.items ≡ count) }

@@ -73,7 +73,8 @@ fn are_clear<'j, 'b, D: BlockDisk, J: Naming, V: Version, W: Wait>(
     Ok(true)
 }
 
-// Takes `count` blocks that no file has, if as many are handed out: their bits are clear. `count` is above 0.
+// Takes `count` blocks that no file has, if as many are handed out: their bits are clear. `count`
+// is above 0.
 pub(crate) fn take_blocks<'j, 'b, D: BlockDisk, J: Naming, V: Version, W: Wait>(
     rt: &W,
     txn: &mut FileTxn<'j, 'b, D, J, V>,
@@ -135,7 +136,8 @@ fn write_blocks<'j, 'b, D: BlockDisk, J: Naming, V: Version, W: Wait>(
     Ok(())
 }
 
-// Overwrites a file's inode, the bits of its new blocks, and those of its blocks that get these bytes.
+// Overwrites a file's inode, the bits of its new blocks, and those of its blocks that get these
+// bytes.
 pub(crate) fn write_file<'j, 'b, D: BlockDisk, J: Naming, V: Version, W: Wait>(
     rt: &W,
     txn: &mut FileTxn<'j, 'b, D, J, V>,
@@ -182,7 +184,8 @@ pub(crate) fn read_span<'j, 'b, D: BlockDisk, J: Naming, V: Version, W: Wait>(
     Ok(bytes)
 }
 
-// The inode of a file with another size and time, so many of its further blocks, and new ones after them.
+// The inode of a file with another size and time, so many of its further blocks, and new ones after
+// them.
 pub(crate) fn with_blocks(
     file: FileNode,
     kept: usize,

@@ -50,11 +50,12 @@ impl<J: Naming, V: Version> Operation<J, V> for Commit {
 }
 
 impl<'b, D: BlockDisk, J: Naming, V: Version> FileStore<'b, D, J, V> {
-    /// COMMIT (RFC 1813, 3.3.21): the attributes of a file, once all that the session had seen is stable, with all
-    /// that was written before. Its own transaction changes nothing, and waits until it is stable: a mark of it is a
-    /// mark of all commits before it.
+    /// COMMIT (RFC 1813, 3.3.21): the attributes of a file, once all that the session had seen is
+    /// stable, with all that was written before. Its own transaction changes nothing, and waits
+    /// until it is stable: a mark of it is a mark of all commits before it.
     ///
-    /// The first that holds is answered: `Stale` where the handle's file was removed, `Invalid` on the root.
+    /// The first that holds is answered: `Stale` where the handle's file was removed, `Invalid` on
+    /// the root.
     pub fn commit<W: Wait>(
         &self,
         rt: &W,
@@ -67,8 +68,9 @@ impl<'b, D: BlockDisk, J: Naming, V: Version> FileStore<'b, D, J, V> {
         self.run(rt, session, &Commit { handle })
     }
 
-    /// COMMIT up to its commit: as `commit` does it, and answered before it is stable. Where that waits, what is pending is the
-    /// wait for its receipt, by `Journal::wait_stable`: the answer stands in the history, and a crash before may lose it.
+    /// COMMIT up to its commit: as `commit` does it, and answered before it is stable. Where that
+    /// waits, what is pending is the wait for its receipt, by `Journal::wait_stable`: the answer
+    /// stands in the history, and a crash before may lose it.
     pub fn commit_no_wait<W: Wait>(
         &self,
         rt: &W,

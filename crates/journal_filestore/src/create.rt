@@ -183,15 +183,17 @@ fn found(number: u32, file: FileNode, root: Time) -> Found
 }
 
 impl<'b, D: BlockDisk, J: Naming, V: Version> FileStore<'b, D, J, V> {
-    /// CREATE (RFC 1813, 3.3.8): makes a file of a name in the root, of the size given or none and all zeros, with a
-    /// generation that no file of its number had; or sets the file, where it is there and `how` allows it. It waits
-    /// until it is stable.
+    /// CREATE (RFC 1813, 3.3.8): makes a file of a name in the root, of the size given or none and
+    /// all zeros, with a generation that no file of its number had; or sets the file, where it is
+    /// there and `how` allows it. It waits until it is stable.
     ///
-    /// The first that holds is answered: `Stale` where the handle's file was removed; `NotDirectory` where it is a
-    /// file's; `NotSupported` for `Exclusive`; `Invalid` where the name is not `f` and three digits, from `f002` to `f511`,
-    /// or a time is given that is none; `Exists` where the file is there and `how` is `Guarded`; `TooBig` where the size is
-    /// above what a file of the version has; `NoSpace` where its blocks are not handed out, or the number's generation is at
-    /// its greatest. Blocks that calls at work hold are not handed out, so `NoSpace` may come while one is free.
+    /// The first that holds is answered: `Stale` where the handle's file was removed;
+    /// `NotDirectory` where it is a file's; `NotSupported` for `Exclusive`; `Invalid` where the
+    /// name is not `f` and three digits, from `f002` to `f511`, or a time is given that is none;
+    /// `Exists` where the file is there and `how` is `Guarded`; `TooBig` where the size is above
+    /// what a file of the version has; `NoSpace` where its blocks are not handed out, or the
+    /// number's generation is at its greatest. Blocks that calls at work hold are not handed out,
+    /// so `NoSpace` may come while one is free.
     pub fn create<W: Wait>(
         &self,
         rt: &W,
@@ -213,8 +215,9 @@ impl<'b, D: BlockDisk, J: Naming, V: Version> FileStore<'b, D, J, V> {
         self.run(rt, session, &create)
     }
 
-    /// CREATE up to its commit: as `create` does it, and answered before it is stable. Where that waits, what is pending is the
-    /// wait for its receipt, by `Journal::wait_stable`: the answer stands in the history, and a crash before may lose it.
+    /// CREATE up to its commit: as `create` does it, and answered before it is stable. Where that
+    /// waits, what is pending is the wait for its receipt, by `Journal::wait_stable`: the answer
+    /// stands in the history, and a crash before may lose it.
     pub fn create_no_wait<W: Wait>(
         &self,
         rt: &W,

@@ -4,8 +4,9 @@ ghost use Rattle.journal_inode.specs.declared.place.TheConstants.{INODES};
 
 use journal_inode::INODES;
 
-/// What callers name a file or the root by: the number of an inode other than 0, and a generation. The root has
-/// number 1 and generation 1. A handle names nothing any more once its file was removed.
+/// What callers name a file or the root by: the number of an inode other than 0, and a generation.
+/// The root has number 1 and generation 1. A handle names nothing any more once its file was
+/// removed.
 #[derive(Clone, Copy, Debug, PartialEq, Eq)]
 pub struct Handle {
     pub number: u32,

@@ -66,8 +66,9 @@ impl<'a, J: Naming, V: Version> Operation<J, V> for Lookup<'a> {
 impl<'b, D: BlockDisk, J: Naming, V: Version> FileStore<'b, D, J, V> {
     /// LOOKUP (RFC 1813, 3.3.3): the file of a name in the root.
     ///
-    /// The first that holds is answered: `Stale` where the handle's file was removed, `NotDirectory` where it is a
-    /// file's, `NoEntry` where there is no file of the name. It does not wait until it is stable.
+    /// The first that holds is answered: `Stale` where the handle's file was removed,
+    /// `NotDirectory` where it is a file's, `NoEntry` where there is no file of the name. It does
+    /// not wait until it is stable.
     pub fn lookup<W: Wait>(
         &self,
         rt: &W,

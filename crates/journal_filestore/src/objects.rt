@@ -1,5 +1,5 @@
-// The objects of files, read and overwritten through a transaction. An operation reads each object once, and reads
-// first and then writes.
+// The objects of files, read and overwritten through a transaction. An operation reads each object
+// once, and reads first and then writes.
 ghost use Rattle.std.specs.Prelude.{ℕ, ◌≡◌, ◌<◌, ◌≤◌, ◌+◌, ◌-◌, ◌↔◌, [], ◌∷◌, length, true, IsTrue, IfOk, IfErr, OnOk, if◌then◌else◌};
 ghost use Rattle.journal_world.specs.declared.address.Kind.TheVariants.{Bit};
 ghost use Rattle.journal_world.specs.declared.layout.TheConstants.{FIRST_DATA, BLOCK_BITS, BLOCK_BYTES};

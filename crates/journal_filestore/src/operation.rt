@@ -64,8 +64,8 @@ pub(crate) trait Operation<J: Naming, V: Version> {
     fn waits(&self) -> bool
         ensures { result ≡ is_waiting self.now };
 
-    // One attempt. Its transaction, which has done nothing yet, is then to be committed, or where the attempt is
-    // given up to be aborted.
+    // One attempt. Its transaction, which has done nothing yet, is then to be committed, or where
+    // the attempt is given up to be aborted.
     fn attempt<'j, 'b, D: BlockDisk, W: Wait>(
         &self,
         rt: &W,

@@ -23,7 +23,8 @@ pub struct Committed<A, P> {
     pub wait: PendingWait<P>,
 }
 
-/// What an operation comes to that is not waited for: committed, or refused by the journal, without a commit.
+/// What an operation comes to that is not waited for: committed, or refused by the journal, without
+/// a commit.
 pub type CommitResult<'b, J, A, V = VersionOne> = Result<
     Committed<A, Receipt<'b, J, SoundFiles<V>>>,
     Refusal<Cause<'b, J, SoundFiles<V>>>,

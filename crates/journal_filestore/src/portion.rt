@@ -5,7 +5,8 @@ ghost use Rattle.journal_filestore.specs.declared.read.TheConstants.{READ_BYTES}
 use crate::Attributes;
 use std::marker::Model;
 
-/// A portion of a file, with the file's attributes. It holds blocks of the file, and lends what was asked for.
+/// A portion of a file, with the file's attributes. It holds blocks of the file, and lends what was
+/// asked for.
 #[derive(Debug, Drop)]
 pub struct Portion {
     file: Attributes,

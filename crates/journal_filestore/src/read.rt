@@ -73,8 +73,8 @@ impl<J: Naming, V: Version> Operation<J, V> for Read {
     }
 }
 
-// How many bytes are read: what lies from the offset to the file's end, and no more than were asked for, or than one call
-// reads.
+// How many bytes are read: what lies from the offset to the file's end, and no more than were asked
+// for, or than one call reads.
 fn length_read(version: FormatVersion, size: u64, offset: u64, count: u32) -> u64
     requires small { size ≤ most_bytes version }
     ensures value { result ≡ portion_length version count (size - offset) }
@@ -87,11 +87,11 @@ fn length_read(version: FormatVersion, size: u64, offset: u64, count: u32) -> u6
 }
 
 impl<'b, D: BlockDisk, J: Naming, V: Version> FileStore<'b, D, J, V> {
-    /// READ (RFC 1813, 3.3.6): the bytes of a file from an offset on, `count` of them or as many as there are, at most
-    /// `READ_BYTES`, and whether they reach its end. It changes no time.
+    /// READ (RFC 1813, 3.3.6): the bytes of a file from an offset on, `count` of them or as many as
+    /// there are, at most `READ_BYTES`, and whether they reach its end. It changes no time.
     ///
-    /// The first that holds is answered: `Stale` where the handle's file was removed, `Invalid` on the root. It does
-    /// not wait until it is stable.
+    /// The first that holds is answered: `Stale` where the handle's file was removed, `Invalid` on
+    /// the root. It does not wait until it is stable.
     pub fn read<W: Wait>(
         &self,
         rt: &W,

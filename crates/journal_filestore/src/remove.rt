@@ -66,11 +66,12 @@ impl<'a, J: Naming, V: Version> Operation<J, V> for Remove<'a> {
 }
 
 impl<'b, D: BlockDisk, J: Naming, V: Version> FileStore<'b, D, J, V> {
-    /// REMOVE (RFC 1813, 3.3.12): removes the file of a name from the root, whose attributes are answered. The number
-    /// keeps its generation, so that no handle of the file names a later one. It waits until it is stable.
+    /// REMOVE (RFC 1813, 3.3.12): removes the file of a name from the root, whose attributes are
+    /// answered. The number keeps its generation, so that no handle of the file names a later one.
+    /// It waits until it is stable.
     ///
-    /// The first that holds is answered: `Stale` where the handle's file was removed, `NotDirectory` where it is a
-    /// file's, `NoEntry` where there is no file of the name.
+    /// The first that holds is answered: `Stale` where the handle's file was removed,
+    /// `NotDirectory` where it is a file's, `NoEntry` where there is no file of the name.
     pub fn remove<W: Wait>(
         &self,
         rt: &W,
@@ -84,8 +85,9 @@ impl<'b, D: BlockDisk, J: Naming, V: Version> FileStore<'b, D, J, V> {
         self.run(rt, session, &Remove { directory, name })
     }
 
-    /// REMOVE up to its commit: as `remove` does it, and answered before it is stable. Where that waits, what is pending is the
-    /// wait for its receipt, by `Journal::wait_stable`: the answer stands in the history, and a crash before may lose it.
+    /// REMOVE up to its commit: as `remove` does it, and answered before it is stable. Where that
+    /// waits, what is pending is the wait for its receipt, by `Journal::wait_stable`: the answer
+    /// stands in the history, and a crash before may lose it.
     pub fn remove_no_wait<W: Wait>(
         &self,
         rt: &W,

@@ -25,7 +25,8 @@ use journal_inode::{FileNode, FormatVersion, Time, Version};
 use journal_world::{BLOCK_BYTES, MAX_NANOS, Moment};
 use std::sync::Wait;
 
-// Sets what is asked for of the file that stands at the number; `None` where it needs more blocks than are handed out.
+// Sets what is asked for of the file that stands at the number; `None` where it needs more blocks
+// than are handed out.
 pub(crate) fn set_file<'j, 'b, D: BlockDisk, J: Naming, V: Version, W: Wait>(
     rt: &W,
     txn: &mut FileTxn<'j, 'b, D, J, V>,
@@ -90,8 +91,8 @@ fn shrink<'j, 'b, D: BlockDisk, J: Naming, V: Version, W: Wait>(
     Ok(after)
 }
 
-// Gives a file zeros after its bytes, as many as there may be none, and the blocks for them; `None` where they are not
-// handed out.
+// Gives a file zeros after its bytes, as many as there may be none, and the blocks for them; `None`
+// where they are not handed out.
 fn grow<'j, 'b, D: BlockDisk, J: Naming, V: Version, W: Wait>(
     rt: &W,
     txn: &mut FileTxn<'j, 'b, D, J, V>,

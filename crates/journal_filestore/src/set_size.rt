@@ -104,14 +104,15 @@ fn is_other_time(guard: Option<Time>, mtime: Time) -> bool
 }
 
 impl<'b, D: BlockDisk, J: Naming, V: Version> FileStore<'b, D, J, V> {
-    /// SETATTR (RFC 1813, 3.3.2): sets the size of a file, its time, or both. Bytes past a smaller size become zero,
-    /// and a greater one shows zeros. The time becomes the one given, or the moment where it is asked for or where a
-    /// size is given alone. It waits until it is stable.
+    /// SETATTR (RFC 1813, 3.3.2): sets the size of a file, its time, or both. Bytes past a smaller
+    /// size become zero, and a greater one shows zeros. The time becomes the one given, or the
+    /// moment where it is asked for or where a size is given alone. It waits until it is stable.
     ///
-    /// The first that holds is answered: `Stale` where the handle's file was removed; on the root `Invalid` where a
-    /// size is given; `NotSync` where a guard is given and is not the file's time; `Invalid` where a time is given that
-    /// is none; `TooBig` where the size is above what a file of the version has; `NoSpace` where it needs more blocks than
-    /// are handed out. The root's attributes never change.
+    /// The first that holds is answered: `Stale` where the handle's file was removed; on the root
+    /// `Invalid` where a size is given; `NotSync` where a guard is given and is not the file's
+    /// time; `Invalid` where a time is given that is none; `TooBig` where the size is above what a
+    /// file of the version has; `NoSpace` where it needs more blocks than are handed out. The
+    /// root's attributes never change.
     pub fn set_size<W: Wait>(
         &self,
         rt: &W,
@@ -133,8 +134,9 @@ impl<'b, D: BlockDisk, J: Naming, V: Version> FileStore<'b, D, J, V> {
         self.run(rt, session, &set)
     }
 
-    /// SETATTR up to its commit: as `set_size` does it, and answered before it is stable. Where that waits, what is pending is the
-    /// wait for its receipt, by `Journal::wait_stable`: the answer stands in the history, and a crash before may lose it.
+    /// SETATTR up to its commit: as `set_size` does it, and answered before it is stable. Where
+    /// that waits, what is pending is the wait for its receipt, by `Journal::wait_stable`: the
+    /// answer stands in the history, and a crash before may lose it.
     pub fn set_size_no_wait<W: Wait>(
         &self,
         rt: &W,

@@ -1,7 +1,8 @@
 // How an operation is answered that is no success.
 
-/// How an operation is answered that is no success: a case of the file service, which leaves the files as they
-/// were. It is an answer like any other, and the operation's transaction is committed.
+/// How an operation is answered that is no success: a case of the file service, which leaves the
+/// files as they were. It is an answer like any other, and the operation's transaction is
+/// committed.
 #[derive(Clone, Copy, Debug, PartialEq, Eq)]
 pub enum Status {
     /// There is no file of the name.

@@ -47,12 +47,14 @@ pub(crate) type FileTxn<'j, 'b, D, J, V> = Txn<'j, 'b, D, SoundFiles<V>, J>;
 // How often an attempt that was refused by J5 is made again.
 const RETRIES: u32 = 8;
 
-/// The files of a disk, which threads share by `&`. Contracts see the history at the opening of its journal.
+/// The files of a disk, which threads share by `&`. Contracts see the history at the opening of its
+/// journal.
 #[derive(Drop)]
 pub struct FileStore<'b, D: BlockDisk, J: Naming, V: Version = VersionOne> {
     pub(crate) alloc: Global,
     journal: Journal<'b, D, SoundFiles<V>, J>,
-    // The numbers of the blocks that no file has. A file that is on its way has its block's number too.
+    // The numbers of the blocks that no file has. A file that is on its way has its block's number
+    // too.
     pub(crate) free: Mutex<Alloc>,
 }
 
@@ -68,11 +70,11 @@ impl<'b, D: BlockDisk, J: Naming, V: Version> Model for FileStore<'b, D, J, V> {
 }
 
 impl<'b, D: BlockDisk, J: Naming, V: Version> FileStore<'b, D, J, V> {
-    /// Mounts a disk on which nothing is pending: opens its journal under the rule of sound files, which tells which
-    /// of its blocks are free.
+    /// Mounts a disk on which nothing is pending: opens its journal under the rule of sound files,
+    /// which tells which of its blocks are free.
     ///
-    /// It is refused as `Journal::open` is: J8 `BadSuper` where the disk's files are not sound. A refusal hands the disk
-    /// back, with nothing written.
+    /// It is refused as `Journal::open` is: J8 `BadSuper` where the disk's files are not sound. A
+    /// refusal hands the disk back, with nothing written.
     pub fn mount(
         alloc: Global,
         book: &'b Book<SoundFiles<V>>,
@@ -91,8 +93,9 @@ impl<'b, D: BlockDisk, J: Naming, V: Version> FileStore<'b, D, J, V> {
         FileStore::mount_with_cache(alloc, book, cell, disk, CACHED_BLOCKS)
     }
 
-    /// Mounts a disk as `mount` does, and is refused as it is. Copies of no more than so many blocks that are at home are
-    /// kept in memory, as `Journal::open_with_cache` keeps them, from 1 to 4096.
+    /// Mounts a disk as `mount` does, and is refused as it is. Copies of no more than so many
+    /// blocks that are at home are kept in memory, as `Journal::open_with_cache` keeps them, from 1
+    /// to 4096.
     pub fn mount_with_cache(
         alloc: Global,
         book: &'b Book<SoundFiles<V>>,
@@ -138,12 +141,12 @@ impl<'b, D: BlockDisk, J: Naming, V: Version> FileStore<'b, D, J, V> {
         V::VERSION
     }
 
-    /// Ends the store, and gives the disk up, as `Journal::close` does. The session has then seen the whole history,
-    /// and each image that a crash may leave of the disk opens as the map after a front of it that has every marked
-    /// commit.
+    /// Ends the store, and gives the disk up, as `Journal::close` does. The session has then seen
+    /// the whole history, and each image that a crash may leave of the disk opens as the map after
+    /// a front of it that has every marked commit.
     ///
-    /// Answers J9 `Stale` where the session had seen more of the history than the core, and nothing else. The disk
-    /// is then given up too.
+    /// Answers J9 `Stale` where the session had seen more of the history than the core, and nothing
+    /// else. The disk is then given up too.
     pub fn close(
         self,
         session: &mut Session<'b, J, SoundFiles<V>>,
@@ -207,9 +210,9 @@ impl<'b, D: BlockDisk, J: Naming, V: Version> FileStore<'b, D, J, V> {
         }
     }
 
-    // Attempts an operation until it is committed, or refused by another number than J5, or refused by J5 once more
-    // after the last retry. Before each retry it waits for the slot that was held, so that it is refused by J5 only
-    // where others took slots in between each time.
+    // Attempts an operation until it is committed, or refused by another number than J5, or refused
+    // by J5 once more after the last retry. Before each retry it waits for the slot that was held,
+    // so that it is refused by J5 only where others took slots in between each time.
     pub(crate) fn run_no_wait<O: Operation<J, V>, W: Wait>(
         &self,
         rt: &W,
@@ -231,8 +234,9 @@ impl<'b, D: BlockDisk, J: Naming, V: Version> FileStore<'b, D, J, V> {
         }
     }
 
-    // Waits until nobody holds the slot of the address, by a transaction that only reads it: it holds no other slot,
-    // so it waits for this one. What refuses the read refuses the next attempt too.
+    // Waits until nobody holds the slot of the address, by a transaction that only reads it: it
+    // holds no other slot, so it waits for this one. What refuses the read refuses the next attempt
+    // too.
     fn await_slot<W: Wait>(&self, rt: &W, session: &mut Session<'b, J, SoundFiles<V>>, held: Addr)
         ensures { OnlyExtends session.old session.new }
     {
@@ -241,7 +245,8 @@ impl<'b, D: BlockDisk, J: Naming, V: Version> FileStore<'b, D, J, V> {
         txn.abort(rt);
     }
 
-    // One attempt: committed, or undone. Where another holds a slot that it needs, the address of that slot.
+    // One attempt: committed, or undone. Where another holds a slot that it needs, the address of
+    // that slot.
     fn once<O: Operation<J, V>, W: Wait>(
         &self,
         rt: &W,

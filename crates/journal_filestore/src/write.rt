@@ -118,7 +118,8 @@ impl<'a> Write<'a> {
         Ok(Some(written))
     }
 
-    // Overwrites what changes. What the blocks hold that the bytes do not fill is read, and new ones begin as zeros.
+    // Overwrites what changes. What the blocks hold that the bytes do not fill is read, and new
+    // ones begin as zeros.
     fn put_bytes<'j, 'b, D: BlockDisk, J: Naming, V: Version, W: Wait>(
         &self,
         rt: &W,
@@ -168,12 +169,14 @@ fn place(block: &mut Vec<u8>, offset: usize, bytes: &[u8])
 }
 
 impl<'b, D: BlockDisk, J: Naming, V: Version> FileStore<'b, D, J, V> {
-    /// WRITE (RFC 1813, 3.3.7): places bytes in a file from an offset on, with zeros before them where the file was
-    /// shorter. The file's time becomes the moment. It waits until it is stable where `stability` says so.
+    /// WRITE (RFC 1813, 3.3.7): places bytes in a file from an offset on, with zeros before them
+    /// where the file was shorter. The file's time becomes the moment. It waits until it is stable
+    /// where `stability` says so.
     ///
-    /// The first that holds is answered: `Stale` where the handle's file was removed, `Invalid` on the root and where
-    /// `count` is not the number of bytes, a success that changes nothing where there are none, `TooBig` where the
-    /// file would have more bytes than one of its version has, `NoSpace` where it needs more blocks than are handed out.
+    /// The first that holds is answered: `Stale` where the handle's file was removed, `Invalid` on
+    /// the root and where `count` is not the number of bytes, a success that changes nothing where
+    /// there are none, `TooBig` where the file would have more bytes than one of its version has,
+    /// `NoSpace` where it needs more blocks than are handed out.
     pub fn write<W: Wait>(
         &self,
         rt: &W,
@@ -199,8 +202,9 @@ impl<'b, D: BlockDisk, J: Naming, V: Version> FileStore<'b, D, J, V> {
         self.run(rt, session, &write)
     }
 
-    /// WRITE up to its commit: as `write` does it, and answered before it is stable. Where that waits, what is pending is the
-    /// wait for its receipt, by `Journal::wait_stable`: the answer stands in the history, and a crash before may lose it.
+    /// WRITE up to its commit: as `write` does it, and answered before it is stable. Where that
+    /// waits, what is pending is the wait for its receipt, by `Journal::wait_stable`: the answer
+    /// stands in the history, and a crash before may lose it.
     pub fn write_no_wait<W: Wait>(
         &self,
         rt: &W,

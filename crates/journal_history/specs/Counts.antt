@@ -8,7 +8,8 @@ use Rattle.journal_history.specs.declared.count_cell.View.{View}
 abbrev pub view : Bool → List ℕ → Bool → ℕ → ℕ → View
 view keeps counts has number count = record { keeps = keeps; counts = counts; has = has; number = number; count = count }
 
--- the pass that knows all numbers of commits, in the order of the sessions' numbers, all of which were given
+-- the pass that knows all numbers of commits, in the order of the sessions' numbers, all of which
+-- were given
 abbrev pub keeper : List ℕ → View
 keeper counts = view true counts false 0 0
 
@@ -34,7 +35,8 @@ pub record KeepsRule (seat : ℕ) (counts : List ℕ) (by : ℕ) (v : View) : Ty
   pub agrees : v.has ≡ true → v.count ≡ slice_index counts v.number
   pub given : v.has ≡ true → v.number < length counts
 
--- One pass at most knows all numbers, each token agrees with them, and no session's number has two tokens
+-- One pass at most knows all numbers, each token agrees with them, and no session's number has two
+-- tokens
 pub record IsKept (seat : ℕ) (counts : List ℕ) (views : List View) : Type 0 where
   pub each : (by : ℕ) (v : View) → get_elem? views by ≡ some v → KeepsRule seat counts by v
   pub once : (by other : ℕ) (v w : View) → get_elem? views by ≡ some v → get_elem? views other ≡ some w → v.has ≡ true → w.has ≡ true → v.number ≡ w.number → by ≡ other

@@ -4,7 +4,8 @@ use mathlib.Core.List.{IsPrefix}
 use Rattle.journal_world.specs.Maps.{Map}
 use Rattle.journal_world.specs.Histories.{Entry, Each, Follows, IsTrueTo, is_trusted, at, latest}
 
--- Whatever the disk does, each entry may follow those before it. Where the disk was honest and settled, the history is legal, and the rule holds of the map after each number of commits
+-- Whatever the disk does, each entry may follow those before it. Where the disk was honest and
+-- settled, the history is legal, and the rule holds of the map after each number of commits
 pub record IsSound (rule : Map → Type 0) (history : List Entry) : Type 0 where
   pub follows : Each Follows history
   pub agrees : IsTrue (is_trusted history) → Each (IsTrueTo rule) history

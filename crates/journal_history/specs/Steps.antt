@@ -24,7 +24,8 @@ pub record IsBook (book : Book) (head floor : Named) (seen : List Entry) : Type 
   pub floor_is : floor ≡ floor_word book
   pub empty : seen ≡ []
 
--- A front of a journal's book: it has the book itself, a token of it that has seen a sound history, and that history's length
+-- A front of a journal's book: it has the book itself, a token of it that has seen a sound history,
+-- and that history's length
 pub record IsFront (rule : Map → Type 0) (journal book seen_of : Book) (seen : List Entry) (len : ℕ) : Type 0 where
   pub book_is : book ≡ journal
   pub token_is : seen_of ≡ journal

@@ -52,7 +52,8 @@ pub record IsReceipt (r : CommitPlace) : Type 0 where
   pub stands : IsCommitAt r.front r.place
   pub counted : r.count ≡ count (take (r.place + 1) r.front)
 
--- The session's transaction was committed: it was added to the whole history, which the session has then seen, after all that it had seen; and it is one more of the session's own
+-- The session's transaction was committed: it was added to the whole history, which the session has
+-- then seen, after all that it had seen; and it is one more of the session's own
 pub record Commits (t : Transaction) (old new : SessionState) (before after : List Entry) : Type 0 where
   pub added : after ≡ before ++ commit t ∷ []
   pub session : new ≡ record { number = old.number; mine = after; seen = after }
@@ -69,7 +70,8 @@ pub record StableCount : Type 0 where
   pub front : List Entry
   pub count : ℕ
 
--- What a writer knows of the whole history on a disk of a layout: how many commits it has, its greatest mark, and the mark that FLOOR has
+-- What a writer knows of the whole history on a disk of a layout: how many commits it has, its
+-- greatest mark, and the mark that FLOOR has
 pub record IsWhole (layout : Shape) (history : List Entry) (commits mark published : ℕ) : Type 0 where
   pub begun : history ≢ []
   pub on_disk : (opened history).layout ≡ layout

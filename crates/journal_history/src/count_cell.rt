@@ -4,7 +4,8 @@ use crossbeam_utils::atomic::seq_cell::{Pass, RuledSeqCell};
 use crossbeam_utils::rule::{Outcome, Protocol};
 use std::collections::LinkedList;
 
-/// What a pass knows: the keeper how many commits each session has, a token that of its own. No value of it is made.
+/// What a pass knows: the keeper how many commits each session has, a token that of its own. No
+/// value of it is made.
 pub struct View {
     /// Whether it is the keeper: its `counts` are the sessions' numbers of commits.
     pub keeps: bool,
@@ -15,7 +16,8 @@ pub struct View {
     pub count: u64,
 }
 
-/// The rule: one pass at most is the keeper, each token agrees with it, and no session has two tokens.
+/// The rule: one pass at most is the keeper, each token agrees with it, and no session has two
+/// tokens.
 pub struct Counted;
 
 impl Protocol<[u64; 1], View> for Counted {

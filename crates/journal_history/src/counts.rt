@@ -14,8 +14,8 @@ use std::alloc::{AllocError, Global};
 use std::marker::{Model, PhantomData};
 use std::sync::Wait;
 
-/// The cell of the sessions of a journal that has no name yet. Contracts see which cell it is, so that whoever opens
-/// the journal can name it by the cell.
+/// The cell of the sessions of a journal that has no name yet. Contracts see which cell it is, so
+/// that whoever opens the journal can name it by the cell.
 #[derive(Drop)]
 pub struct SessionCell {
     cell: Cell,
@@ -43,12 +43,12 @@ impl SessionCell {
     }
 }
 
-/// How many commits each session has, by the sessions' numbers, all of which were given. Contracts see them in that
-/// order.
+/// How many commits each session has, by the sessions' numbers, all of which were given. Contracts
+/// see them in that order.
 ///
-/// They stand in proofs alone, as what one pass of the cell, the keeper, knows; a session's token knows that of its
-/// own. No number has two tokens, so that the session alone commits under it: its own count is the history's. So it
-/// takes the same memory however many sessions there were.
+/// They stand in proofs alone, as what one pass of the cell, the keeper, knows; a session's token
+/// knows that of its own. No number has two tokens, so that the session alone commits under it: its
+/// own count is the history's. So it takes the same memory however many sessions there were.
 #[derive(Drop)]
 pub struct SessionCounts<J: Naming> {
     cell: Cell,
@@ -99,8 +99,8 @@ impl<J: Naming> SessionCounts<J> {
         raise(rt, &self.cell, &mut self.keeper, bound);
     }
 
-    /// Shows that the session made all commits that are counted under its number. Nothing changes, and it waits for
-    /// nobody.
+    /// Shows that the session made all commits that are counted under its number. Nothing changes,
+    /// and it waits for nobody.
     pub fn verify_session<'b, R: MapRule, W: Wait>(
         &mut self,
         rt: &W,

@@ -17,8 +17,8 @@ use std::marker::{Model, PhantomData};
 
 /// A beginning of the history that was seen. Contracts see it as its entries.
 ///
-/// It is a length beside a token without bytes, so it does not grow with the history. Whatever other
-/// threads do, it stays a beginning of the history for good.
+/// It is a length beside a token without bytes, so it does not grow with the history. Whatever
+/// other threads do, it stays a beginning of the history for good.
 #[derive(Drop)]
 pub struct Front<'b, J: Naming, R: MapRule> {
     book: &'b Book<R>,
@@ -119,8 +119,8 @@ impl<'b, J: Naming, R: MapRule> Front<'b, J, R> {
         *self = Front::at_head(self.book, self.seen.again());
     }
 
-    // A number that is at most the greatest mark of the history, which it has then seen, by one load of
-    // FLOOR. That step does not load the history's length, so a load of HEAD follows.
+    // A number that is at most the greatest mark of the history, which it has then seen, by one
+    // load of FLOOR. That step does not load the history's length, so a load of HEAD follows.
     pub(crate) fn load_floor(&mut self) -> u64
         ensures marked { result ≤ floor self.new }
         ensures seen { IsPrefix self.old self.new }
@@ -137,8 +137,9 @@ impl<'b, J: Naming, R: MapRule> Front<'b, J, R> {
         floor
     }
 
-    // The history with an entry added, by one exchange of HEAD, where the front is the whole history. All
-    // that `other` has seen then stands before the entry. At `Err` the history is longer, and is seen.
+    // The history with an entry added, by one exchange of HEAD, where the front is the whole
+    // history. All that `other` has seen then stands before the entry. At `Err` the history is
+    // longer, and is seen.
     pub(crate) fn add_after<X, M: Plain<X, LogEntry, u64>>(
         &self,
         other: &Front<'b, J, R>,

@@ -10,7 +10,8 @@ use std::fmt;
 use std::fmt::Debug;
 use std::marker::Model;
 
-/// Where a commit stands in the history. Contracts see a front, the place in it, and the count of commits.
+/// Where a commit stands in the history. Contracts see a front, the place in it, and the count of
+/// commits.
 #[derive(Drop)]
 pub struct Receipt<'b, J: Naming, R: MapRule> {
     front: Front<'b, J, R>,
@@ -66,7 +67,8 @@ impl<'b, J: Naming, R: MapRule> Receipt<'b, J, R> {
     }
 }
 
-/// That so many commits are stable. Contracts see a front and the count, which its greatest mark covers.
+/// That so many commits are stable. Contracts see a front and the count, which its greatest mark
+/// covers.
 #[derive(Drop)]
 pub struct StableNote<'b, J: Naming, R: MapRule> {
     seen: Front<'b, J, R>,

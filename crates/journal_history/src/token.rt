@@ -10,7 +10,8 @@ use std::marker::{Model, PhantomData};
 use std::mem::replace;
 use std::sync::Wait;
 
-/// The token of a session, of which there is one. Contracts see the session's number, and how many commits it has.
+/// The token of a session, of which there is one. Contracts see the session's number, and how many
+/// commits it has.
 #[derive(Drop)]
 pub(crate) struct Token<J: Naming> {
     pub(crate) number: u64,
@@ -32,7 +33,8 @@ impl<J: Naming> Model for Token<J> {
 }
 
 impl<J: Naming> Token<J> {
-    // The token of a session without commits. It is a pass that was split off: only such a one can be joined again.
+    // The token of a session without commits. It is a pass that was split off: only such a one can
+    // be joined again.
     pub(crate) fn new(number: u64, pass: SessionPass) -> Token<J>
         requires cell { pass.table_id ≡ J.cell.sessions }
         requires fresh { pass.me.1 ≡ [] }
@@ -61,8 +63,8 @@ impl<J: Naming> Token<J> {
         self.count
     }
 
-    // Shows that it agrees with the keeper. Nothing changes. A pass that knows nothing takes its place meanwhile,
-    // since one can be joined by value alone.
+    // Shows that it agrees with the keeper. Nothing changes. A pass that knows nothing takes its
+    // place meanwhile, since one can be joined by value alone.
     pub(crate) fn verify<W: Wait>(&mut self, rt: &W, cell: &Cell, all: &mut SessionPass)
         requires cell { cell.now.table.shared.table_id ≡ J.cell.sessions }
         requires pass { all.old.table_id ≡ J.cell.sessions }

@@ -20,11 +20,12 @@ use std::fmt::Debug;
 use std::marker::Model;
 use std::sync::Wait;
 
-/// The right to add entries to the history, with all of it that was added. Contracts see the history.
+/// The right to add entries to the history, with all of it that was added. Contracts see the
+/// history.
 ///
-/// Beginning a book's history makes its one writer, which cannot be copied. So its owner alone decides which
-/// sessions there are, and adds commits and marks. Each call is safe all the
-/// same where the book has more entries: it is refused, and gives the longer history as a front.
+/// Beginning a book's history makes its one writer, which cannot be copied. So its owner alone
+/// decides which sessions there are, and adds commits and marks. Each call is safe all the same
+/// where the book has more entries: it is refused, and gives the longer history as a front.
 #[derive(Drop)]
 pub struct Writer<'b, J: Naming, R: MapRule> {
     front: Front<'b, J, R>,
@@ -69,7 +70,8 @@ impl<'b, J: Naming, R: MapRule> Writer<'b, J, R> {
         })
     }
 
-    /// How many entries the history has. They are sound, and legal where the disk was honest and settled.
+    /// How many entries the history has. They are sound, and legal where the disk was honest and
+    /// settled.
     pub fn len(&self) -> u64
         ensures length { result ≡ length self.now }
         ensures begun { self.now ≢ [] }
@@ -101,8 +103,8 @@ impl<'b, J: Naming, R: MapRule> Writer<'b, J, R> {
         self.front.again()
     }
 
-    /// A session of the next number, which the history has no commit of. It has seen the whole history, and no other
-    /// session has its number.
+    /// A session of the next number, which the history has no commit of. It has seen the whole
+    /// history, and no other session has its number.
     pub fn session(&self, counts: &mut SessionCounts<J>, number: u64) -> Session<'b, J, R>
         requires next { number ≡ length counts.old }
         requires fresh { commits_of number self.now ≡ [] }
@@ -129,11 +131,11 @@ impl<'b, J: Naming, R: MapRule> Writer<'b, J, R> {
         Ok(())
     }
 
-    /// Commits the session's next transaction: adds it to the history, which the session has then seen. The
-    /// receipt says where it stands.
+    /// Commits the session's next transaction: adds it to the history, which the session has then
+    /// seen. The receipt says where it stands.
     ///
-    /// At `Err` the history is longer than the writer's, and the front has seen it. The writer, the numbers of commits
-    /// and the session stay as they were.
+    /// At `Err` the history is longer than the writer's, and the front has seen it. The writer, the
+    /// numbers of commits and the session stay as they were.
     pub fn commit<T: Recorded, W: Wait>(
         &mut self,
         rt: &W,
@@ -169,8 +171,8 @@ impl<'b, J: Naming, R: MapRule> Writer<'b, J, R> {
 
     /// Marks that so many commits are stable, by an entry of the history.
     ///
-    /// At `Err` the history is longer than the writer's, and the front has seen it. The writer stays as it
-    /// was.
+    /// At `Err` the history is longer than the writer's, and the front has seen it. The writer
+    /// stays as it was.
     pub fn mark(&mut self, n: u64) -> Result<(), Front<'b, J, R>>
         requires room { length self.old < 2 ^ 62 }
         requires rises { floor self.old ≤ n }
@@ -189,8 +191,8 @@ impl<'b, J: Naming, R: MapRule> Writer<'b, J, R> {
 
     /// Fences a session: no commit of that number is added from then on.
     ///
-    /// At `Err` the history is longer than the writer's, and the front has seen it. The writer stays as it
-    /// was.
+    /// At `Err` the history is longer than the writer's, and the front has seen it. The writer
+    /// stays as it was.
     pub fn fence(&mut self, session: u64) -> Result<(), Front<'b, J, R>>
         requires room { length self.old < 2 ^ 62 }
         ensures added { OnOk result (self.new ≡ self.old ++ fence session ∷ []) }
@@ -205,8 +207,8 @@ impl<'b, J: Naming, R: MapRule> Writer<'b, J, R> {
         Ok(())
     }
 
-    /// Publishes the greatest mark in FLOOR, so that `Session::is_stable` finds it. The history stays.
-    /// Nothing is promised of the word, which other threads read at any time.
+    /// Publishes the greatest mark in FLOOR, so that `Session::is_stable` finds it. The history
+    /// stays. Nothing is promised of the word, which other threads read at any time.
     pub fn publish_floor(&mut self)
         ensures { self.new ≡ self.old }
     {

@@ -24,7 +24,8 @@ pub record IsSoundInode (version : FormatVersion) (m : Map) (i : ℕ) : Type 0 w
   pub placed : IsInPlace i (node_at m i)
   pub file : (f : FileNode) → node_at m i ≡ File f → IsSoundFile version m f
 
--- What the rule says of the first inodes: each is sound, no two have one block, and none has one twice
+-- What the rule says of the first inodes: each is sound, no two have one block, and none has one
+-- twice
 pub record AreSoundBelow (version : FormatVersion) (m : Map) (n : ℕ) : Type 0 where
   pub each : (i : ℕ) → i < n → IsSoundInode version m i
   pub apart : (i j b : ℕ) → i < n → j < n → HasBlock version (node_at m i) b → HasBlock version (node_at m j) b → i ≡ j
@@ -37,7 +38,8 @@ IsOwnedBelow version m n b = (i : ℕ) × (i < n) × HasBlock version (node_at m
 abbrev pub AreOwners : FormatVersion → Map → ℕ → List Bool → Type 0
 AreOwners version m n owners = (k : ℕ) → (slice_get owners k ≡ Some true) ↔ IsOwnedBelow version m n (FIRST_DATA + k)
 
--- The blocks of the inode are as many as it has room for, and data blocks of a disk of so many blocks
+-- The blocks of the inode are as many as it has room for, and data blocks of a disk of so many
+-- blocks
 abbrev pub HasDataBlocks : FormatVersion → ℕ → Node → Type 0
 HasDataBlocks version blocks (File f) = (f.size ≤ most_bytes version) × AllByRecursion (IsDataBlock blocks) (file_blocks version f)
 HasDataBlocks version blocks _ = Unit {0}
@@ -74,7 +76,8 @@ abbrev pub AreSoundBlocks : Map → ℕ → List ℕ → Type 0
 AreSoundBlocks m size [] = Unit {0}
 AreSoundBlocks m size (b ∷ bs) = IsSoundBlock m size b × AreSoundBlocks m (size - BLOCK_BYTES) bs
 
--- What is known once the first blocks of a file were looked at, and so many bytes are left: the map, the trust and the failure as for inodes
+-- What is known once the first blocks of a file were looked at, and so many bytes are left: the
+-- map, the trust and the failure as for inodes
 pub record AreBlocksScanned (before now : Map) (trusted still failed fails : Bool) (size left : ℕ) (bs rest : List ℕ) : Type 0 where
   pub same_map : now ≡ before
   pub same_trust : still ≡ trusted
@@ -82,7 +85,9 @@ pub record AreBlocksScanned (before now : Map) (trusted still failed fails : Boo
   pub in_range : AllByRecursion (IsDataBlock before.layout.blocks) rest → AllByRecursion (IsDataBlock before.layout.blocks) bs
   pub so_far : IsTrue trusted → AreSoundBlocks before left rest ↔ AreSoundBlocks before size bs
 
--- What is known once the first inodes were looked at: the map and the trust in the reader are as before, and where it is trusted, these inodes are sound and the table says whose blocks are theirs
+-- What is known once the first inodes were looked at: the map and the trust in the reader are as
+-- before, and where it is trusted, these inodes are sound and the table says whose blocks are
+-- theirs
 pub record IsScanned (version : FormatVersion) (before now : Map) (trusted still failed fails : Bool) (n : ℕ) (owners : List Bool) : Type 0 where
   pub same_map : now ≡ before
   pub same_trust : still ≡ trusted

@@ -22,7 +22,8 @@ AreZeros blocks read = (b : ℕ) → b < blocks → read b ≡ zeros_of Block
 abbrev pub inode_in : (ℕ → Bytes) → ℕ → Bytes
 inode_in read i = slice_range (read (FIRST_INODES + i / 32)) (i % 32 * 128) (i % 32 * 128 + 128)
 
--- What the blocks of a disk of this version without files read as. The log is empty, since its headers are zeros
+-- What the blocks of a disk of this version without files read as. The log is empty, since its
+-- headers are zeros
 pub record IsFormatted (version : FormatVersion) (blocks : ℕ) (made : Time) (read : ℕ → Bytes) : Type 0 where
   pub superblock : read SUPERBLOCK ≡ superblock_of version blocks
   -- the bit of each data block is clear, and all others are set

@@ -20,7 +20,8 @@ no_time = record { secs = 0; nanos = 0 }
 abbrev pub no_more : List ℕ
 no_more = replicate MORE_BLOCKS 0
 
--- kind, generation, size, block, seconds, nanoseconds and the further blocks, little-endian, and zeros
+-- kind, generation, size, block, seconds, nanoseconds and the further blocks, little-endian, and
+-- zeros
 unfoldable pub bytes_of_fields : ℕ → ℕ → ℕ → ℕ → Time → List ℕ → Value
 bytes_of_fields kind generation size block mtime more =
     to_le_bytes w32 kind ++ to_le_bytes w32 generation ++ to_le_bytes w64 size ++ to_le_bytes w64 block

@@ -75,7 +75,8 @@ IsInPlace (suc (suc i)) (Free generation) = Unit {0}
 IsInPlace (suc (suc i)) (File f) = Unit {0}
 IsInPlace _ _ = ⊥
 
--- A file has a generation, a size and a time within bounds, and data blocks, whose bytes from its size on are zero
+-- A file has a generation, a size and a time within bounds, and data blocks, whose bytes from its
+-- size on are zero
 pub record IsSoundFile (version : FormatVersion) (m : Map) (f : FileNode) : Type 0 where
   pub born : 1 ≤ f.generation
   pub small : f.size ≤ most_bytes version

@@ -21,12 +21,12 @@ use journal_world::{
 };
 use std::alloc::Global;
 
-/// Makes a disk of this version without files of a disk of zeros: writes its superblock, the bitmap of its data blocks, and the
-/// root directory's inode, with this moment as its time. The log is empty, since its headers are zeros. Nothing
-/// is pending then.
+/// Makes a disk of this version without files of a disk of zeros: writes its superblock, the bitmap
+/// of its data blocks, and the root directory's inode, with this moment as its time. The log is
+/// empty, since its headers are zeros. Nothing is pending then.
 ///
-/// Answers J1 `NoMemory` where memory for a block is refused, and J6 `DeviceFailed` where the device failed
-/// meanwhile. The disk is handed back then, and what its blocks hold is not said.
+/// Answers J1 `NoMemory` where memory for a block is refused, and J6 `DeviceFailed` where the
+/// device failed meanwhile. The disk is handed back then, and what its blocks hold is not said.
 pub fn format<D: BlockDisk>(
     alloc: Global,
     disk: D,

@@ -26,7 +26,8 @@ const WORD_BITS: u32 = 64;
 /// disk's, each inode is in its place, each file is sound, no two files have one block, and the
 /// bitmap says which data blocks are taken.
 ///
-/// It keeps an allocator, for the table of the blocks that files have, and the first such table that it made.
+/// It keeps an allocator, for the table of the blocks that files have, and the first such table
+/// that it made.
 #[derive(Drop)]
 pub struct SoundFiles<V = VersionOne> {
     alloc: Global,
@@ -44,8 +45,8 @@ impl<V: Version> SoundFiles<V> {
         }
     }
 
-    /// The table that `admit` made of the first map whose inodes were sound: for each data block, whether a file has it.
-    /// It is a hint, of which nothing is promised.
+    /// The table that `admit` made of the first map whose inodes were sound: for each data block,
+    /// whether a file has it. It is a hint, of which nothing is promised.
     pub fn into_owners(self) -> Option<Vec<bool>> {
         let SoundFiles {
             alloc: _,
@@ -235,8 +236,8 @@ fn sound_inode<O: ObjectReader>(
     Ok(Some(node))
 }
 
-// The table of owners, which says of each data block whether a file has it; `None` where an inode is not sound, or
-// two files have one block. The map stays.
+// The table of owners, which says of each data block whether a file has it; `None` where an inode
+// is not sound, or two files have one block. The map stays.
 fn owners<O: ObjectReader>(
     reader: &mut O,
     version: FormatVersion,

@@ -60,8 +60,8 @@ fn take(numbers: &mut Alloc, n: usize, out: &mut Vec<u64>) -> Result<bool, Alloc
     Ok(numbers.take_many(n, out))
 }
 
-// Whether four of the three numbers go at once; two; none; and, once the lowest came back, the two that are left. Whether that
-// was taken back stands behind them.
+// Whether four of the three numbers go at once; two; none; and, once the lowest came back, the two
+// that are left. Whether that was taken back stands behind them.
 fn take_in_turn(numbers: &mut Alloc, out: &mut Vec<u64>) -> Result<[bool; 5], AllocError> {
     let too_many = take(numbers, 4, out)?;
     let two = take(numbers, 2, out)?;

@@ -1,4 +1,5 @@
-// What tests want of what they found. An assertion is dear to prove wherever it stands, so almost all stand here.
+// What tests want of what they found. An assertion is dear to prove wherever it stands, so almost
+// all stand here.
 use std::fmt::Debug;
 use std::process::Abort;
 use std::test::*;

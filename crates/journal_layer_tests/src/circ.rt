@@ -75,8 +75,9 @@ fn positions_come_round(rt: HostRuntime) {
     wants(&rt, &wrong_row(&rt, rt.alloc(), 510, 510, &ROUND), &None);
 }
 
-// The same two groups of a sealed log. The log block has the tag 1 in place of byte 0. Its word has the home block in
-// bytes 0 to 4, how many positions the group has in byte 5, the tag in byte 6, and in byte 7 the byte 0 that was replaced.
+// The same two groups of a sealed log. The log block has the tag 1 in place of byte 0. Its word has
+// the home block in bytes 0 to 4, how many positions the group has in byte 5, the tag in byte 6,
+// and in byte 7 the byte 0 that was replaced.
 static SEALED_ROUND: [Row; 30] = [
     (1, Append(520, &[0x107]), 1),
     (4, Log, 1),

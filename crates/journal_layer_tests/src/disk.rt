@@ -1,6 +1,7 @@
 // Disks of four blocks in memory, and disks round them, call by call.
 //
-// Any one request for memory may be refused in a run. What stands is then looked at, and the call made again.
+// Any one request for memory may be refused in a run. What stands is then looked at, and the call
+// made again.
 use crate::asserts::wants;
 use crate::runs::{
     DEVICE_FAILED, NO_MEMORY, Run, Wrong, block_with, called, is_refused, number, told,
@@ -177,8 +178,8 @@ fn answer_in_memory(rt: &impl Abort, alloc: Global, disk: &mut MemDisk, call: Ca
     }
 }
 
-// The same, again where memory was refused. A call that was refused so is counted as a failure if it was one of the
-// device, and nothing is pending by it.
+// The same, again where memory was refused. A call that was refused so is counted as a failure if
+// it was one of the device, and nothing is pending by it.
 fn answer_again(rt: &impl Abort, alloc: Global, disk: &mut MemDisk, call: Call, want: u64) -> u64 {
     let before = pending_again(disk);
     let failures = disk.failures();
@@ -203,7 +204,8 @@ fn wrong_row_in_memory(rt: &impl Abort, alloc: Global, disk: &mut MemDisk, rows:
     None
 }
 
-// The first row that a new disk answers otherwise, and the numbers of its blocks after the rows and a crash.
+// The first row that a new disk answers otherwise, and the numbers of its blocks after the rows and
+// a crash.
 fn run(rt: &impl Abort, alloc: Global, rows: &[Row], choice: &[u32]) -> Run<(Wrong, u64)> {
     let mut disk = MemDisk::new(alloc, 4)?;
     let wrong = wrong_row_in_memory(rt, alloc, &mut disk, rows);

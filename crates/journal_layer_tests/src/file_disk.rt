@@ -137,7 +137,8 @@ static WRITTEN: [Row; 3] = [(Size, 3), (Write(2, 7), 0), (Barrier, 0)];
 // The same file, opened again.
 static READ: [Row; 3] = [(Read(1), 0), (Read(2), 7), (Failures, 0)];
 
-// What is answered otherwise as the file is written, and as it is read; and whether no disk is opened once it is gone.
+// What is answered otherwise as the file is written, and as it is read; and whether no disk is
+// opened once it is gone.
 fn wrong_in_both(
     rt: &(impl Files<File = File> + AllocGlobal + Abort),
     name: &str,
@@ -176,7 +177,8 @@ fn wrong_where_cut(
     Ok(wrong)
 }
 
-// Who cuts the file of a disk that is used makes its calls fail, and no bytes are made up for what is gone.
+// Who cuts the file of a disk that is used makes its calls fail, and no bytes are made up for what
+// is gone.
 #[test]
 fn a_block_that_was_cut_off_is_not_read(rt: HostRuntime) -> Result<(), Fail> {
     let path = new_named(&rt, "palkhuveg-cut-disk", 2 * 4096)?;
@@ -203,7 +205,8 @@ static REFUSED: [Row; 4] = [
 
 static AGAIN: [Row; 2] = [(Read(1), 5), (Failures, 3)];
 
-// The first row that is answered otherwise, of those before the refusals, during them and after them.
+// The first row that is answered otherwise, of those before the refusals, during them and after
+// them.
 fn wrong_unevenly(
     rt: &impl Abort,
     alloc: Global,

@@ -48,8 +48,8 @@ type Told = [u64; 3];
 
 const REFUSED: Told = [u64::MAX; 3];
 
-// A writer with the sessions' numbers of commits, and a session whose commits are all that the history has under its
-// number, and which is not fenced.
+// A writer with the sessions' numbers of commits, and a session whose commits are all that the
+// history has under its number, and which is not fenced.
 #[derive(Drop)]
 struct Author<'b, J: Naming> {
     writer: Writer<'b, J, AnyMap>,
@@ -60,8 +60,8 @@ struct Author<'b, J: Naming> {
 }
 
 impl<'b, J: Naming> Author<'b, J> {
-    // The history of a new book, with a second session that has committed nothing. Three numbers are given to nobody
-    // first, and one between the two sessions'.
+    // The history of a new book, with a second session that has committed nothing. Three numbers
+    // are given to nobody first, and one between the two sessions'.
     fn begin<W: Wait>(
         rt: &W,
         book: &'b Book<AnyMap>,
@@ -101,8 +101,8 @@ impl<'b, J: Naming> Author<'b, J> {
         }
     }
 
-    // Marks all commits as stable, and tells it. How long the history is then, how many commits it has, and how many of
-    // them are stable.
+    // Marks all commits as stable, and tells it. How long the history is then, how many commits it
+    // has, and how many of them are stable.
     fn mark(&mut self) -> Told {
         if self.writer.len() >= 100 || self.writer.count() < self.writer.floor() {
             return REFUSED;
@@ -114,8 +114,8 @@ impl<'b, J: Naming> Author<'b, J> {
         [self.writer.len(), self.writer.count(), self.writer.floor()]
     }
 
-    // Fences the other session's number, 5 where this one's is 3. How long the history is then, how many commits it has, and how
-    // many of them are stable.
+    // Fences the other session's number, 5 where this one's is 3. How long the history is then, how
+    // many commits it has, and how many of them are stable.
     fn fence(&mut self) -> Told {
         if self.writer.len() >= 100 || self.session.number() == 5 {
             return REFUSED;
@@ -135,8 +135,9 @@ impl<'b, J: Naming> Author<'b, J> {
     }
 }
 
-// Nothing that threads keep or share grows with the history. A book is its two words; a front is a reference to the
-// book and a length, so that what it has seen has no bytes, and the others are fronts beside their numbers.
+// Nothing that threads keep or share grows with the history. A book is its two words; a front is a
+// reference to the book and a length, so that what it has seen has no bytes, and the others are
+// fronts beside their numbers.
 #[test]
 fn tokens_have_no_bytes(rt: HostRuntime) {
     let sizes = [
@@ -160,7 +161,8 @@ fn told<J: Naming>(session: &Session<J, AnyMap>) -> Told {
     ]
 }
 
-// How long the history is that refuses a further writer, which has then seen all of it. 0 where none does.
+// How long the history is that refuses a further writer, which has then seen all of it. 0 where
+// none does.
 fn begin_again<J: Naming>(book: &Book<AnyMap>, layout: Layout) -> u64
     requires book { book.now ≡ J.book }
     requires layout { shape layout ≡ J.layout }
@@ -251,8 +253,8 @@ fn walk_on<'b, J: Naming, W: Wait>(
     (walk(rt, author, other, &start, rows), start.len())
 }
 
-// The first row that is answered otherwise. Beside it, how long the beginning of the history is, and the history that a
-// further writer finds before and after the rows.
+// The first row that is answered otherwise. Beside it, how long the beginning of the history is,
+// and the history that a further writer finds before and after the rows.
 fn run<J: Naming, W: Wait>(
     rt: &W,
     book: &Book<AnyMap>,
@@ -278,7 +280,8 @@ fn run_new<W: Wait>(rt: &W, alloc: Global, rows: &[Row]) -> Option<(Wrong, [u64;
     run::<Brand, _>(rt, &book, cell, layout, rows)
 }
 
-// A mark is known once it is told, and no more than it. What is shown is seen, and nothing is forgotten.
+// A mark is known once it is told, and no more than it. What is shown is seen, and nothing is
+// forgotten.
 static ANSWERS: [Row; 18] = [
     (Commit, [1, 1, 2]),
     (Commit, [2, 2, 3]),
@@ -344,7 +347,8 @@ fn waits<'b, J: Naming>(
     session
 }
 
-// Two sessions meet. What the first knows before, what both know then, and whether two commits are known to be stable.
+// Two sessions meet. What the first knows before, what both know then, and whether two commits are
+// known to be stable.
 fn meeting<'b, J: Naming>(
     author: &mut Session<'b, J, AnyMap>,
     reader: &mut Session<'b, J, AnyMap>,

@@ -44,7 +44,8 @@ fn tries<J: Naming, R: Wait>(rt: &R, map: &LockMap<J>, slot: u16) -> Run<u64>
     Ok(u64::from(slot))
 }
 
-// The slot that is held, what is answered for it and for others meanwhile, and for it once it is free.
+// The slot that is held, what is answered for it and for others meanwhile, and for it once it is
+// free.
 fn hold<J: Naming, R: Wait>(
     rt: &R,
     alloc: Global,
@@ -135,7 +136,8 @@ fn whole_blocks_in_a_row_have_different_slots(rt: HostRuntime) {
     wants(&rt, &some_meet(&layout, 2000), &false);
 }
 
-// Adds by a load and a store, which another thread would come between if the slot did not exclude it.
+// Adds by a load and a store, which another thread would come between if the slot did not exclude
+// it.
 fn adds<J: Naming, R: Wait>(rt: &R, map: &LockMap<J>, sum: &AtomicU64)
     requires { 137 < J.layout.slots }
 {
@@ -211,7 +213,8 @@ struct Flags {
     taken: AtomicBool,
 }
 
-// Holds the slot until another one asks for it. Says whether one asked, and whether it was let in early.
+// Holds the slot until another one asks for it. Says whether one asked, and whether it was let in
+// early.
 fn holds<J: Naming, R: Wait>(rt: &R, map: &LockMap<J>, flags: &Flags) -> (bool, bool)
     requires { 9 < J.layout.slots }
 {

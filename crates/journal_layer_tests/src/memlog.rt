@@ -3,7 +3,8 @@ use crate::asserts::wants;
 use crate::wal::Call::{Append, End, Install, Latest, Left, Log, Peek, Read, Stands, Start};
 use crate::wal::{Row, sized_wrong_row, wrong_row};
 
-// Positions 7 to 9 have block 531 as it was before the cut, block 532, and block 531 as it was after.
+// Positions 7 to 9 have block 531 as it was before the cut, block 532, and block 531 as it was
+// after.
 static ONCE: [Row; 16] = [
     (1, Append(531, &[1, 2]), 2),
     (1, Append(531, &[3]), 2),
@@ -51,9 +52,9 @@ fn what_is_trimmed_is_forgotten(rt: HostRuntime) {
     wants(&rt, &wrong_row(&rt, rt.alloc(), 7, 7, &TRIMMED), &None);
 }
 
-// Blocks that are 1021 apart meet in one bucket: 531, 1552 and 2573 in one, 532 and 1553 in another. What one of them has
-// stays apart from the others' in the tail, in a group, on the disk's log and after a recovery, and while the first of
-// them are dropped.
+// Blocks that are 1021 apart meet in one bucket: 531, 1552 and 2573 in one, 532 and 1553 in
+// another. What one of them has stays apart from the others' in the tail, in a group, on the disk's
+// log and after a recovery, and while the first of them are dropped.
 static ONE_BUCKET: [Row; 56] = [
     (1, Append(531, &[1]), 1),
     (1, Append(1552, &[2]), 2),

@@ -1,6 +1,8 @@
-// The map of objects over a disk in memory, beside the objects in memory whose groups it takes, call by call.
+// The map of objects over a disk in memory, beside the objects in memory whose groups it takes,
+// call by call.
 //
-// Any one request for memory may be refused in a run. A refused run is made again, from its disk on.
+// Any one request for memory may be refused in a run. A refused run is made again, from its disk
+// on.
 ghost use Rattle.std.specs.Prelude.{◌≡◌, length, IfOk};
 ghost use Rattle.journal_disk.specs.Disks.{IsSettled};
 ghost use Rattle.journal_object.specs.Objects.{size_at};
@@ -25,8 +27,8 @@ use std::process::Abort;
 mod crashes;
 mod tails;
 
-/// The objects in memory, which know no disk, and the log on the disk, which takes what they cut. Neither knows the
-/// layout that both are read by.
+/// The objects in memory, which know no disk, and the log on the disk, which takes what they cut.
+/// Neither knows the layout that both are read by.
 #[derive(Drop)]
 struct Pair {
     layout: Layout,
@@ -59,7 +61,8 @@ enum Call {
     FillBlocks(u64, u64),
     /// 1 where the object is so.
     Has(Fill),
-    /// The next of the logger: 1 where it moved, and 0 where it is idle. To take what was overwritten is a move.
+    /// The next of the logger: 1 where it moved, and 0 where it is idle. To take what was
+    /// overwritten is a move.
     Logger,
     /// The next of the installer.
     Installer,
@@ -115,7 +118,8 @@ fn usable(log: &ObjectLog<MemDisk>) -> Run<()> {
     Ok(())
 }
 
-// How many bytes an object of the block has, by the layout of files, and by the one with four regions more behind it.
+// How many bytes an object of the block has, by the layout of files, and by the one with four
+// regions more behind it.
 fn bytes_in(block: u64) -> usize {
     match block {
         514 | 820..=829 => 1,
@@ -388,7 +392,8 @@ fn wrong_row(rt: &impl Abort, alloc: Global, blocks: u64, rows: &[Row]) -> Wrong
     wrong
 }
 
-// What is in memory is not read, nor what is overwritten whole: the third read of the device is that of block 516.
+// What is in memory is not read, nor what is overwritten whole: the third read of the device is
+// that of block 516.
 static READ_ONCE: [Row; 7] = [
     (1, FailIn(3), 0),
     (
@@ -456,8 +461,9 @@ fn take(rt: &impl Abort, alloc: Global, pair: &mut Pair, fill: Fill) -> Run<u64>
     logger(pair)
 }
 
-// A layout of 600 blocks, an overwrite, the device call that fails after it, and whether a rule then admits the map. Beside
-// that, whether the group with the overwrite is in flight, and whether the log has failed.
+// A layout of 600 blocks, an overwrite, the device call that fails after it, and whether a rule
+// then admits the map. Beside that, whether the group with the overwrite is in flight, and whether
+// the log has failed.
 type Asked = (InUse, Fill, u64, [u64; 3]);
 
 fn admitted<R: MapRule>(rt: &impl Abort, alloc: Global, rule: &R, asked: &Asked) -> Run<[u64; 3]> {

@@ -105,8 +105,9 @@ fn requests_as_the_page_spells_them(rt: HostRuntime) -> Result<(), Fail> {
     Ok(())
 }
 
-// What is no request: an operation that is none, its number cut short, bytes behind a request, a boolean that is none, an
-// action that is none, padding other than zeros, a value that is cut short, too many addresses, and a value that is too long.
+// What is no request: an operation that is none, its number cut short, bytes behind a request, a
+// boolean that is none, an action that is none, padding other than zeros, a value that is cut
+// short, too many addresses, and a value that is too long.
 const NO_REQUESTS: [(&[u32], ReadFault); 9] = [
     (&[6], ReadFault::UnknownOperation),
     (&[], ReadFault::Malformed),
@@ -139,7 +140,8 @@ fn answer_again(alloc: Global, words: &[u32]) -> Result<(Vec<u8>, Option<Vec<u8>
     Ok((record, again))
 }
 
-// Answers of each form: hello, commit, read, flush, stat, stop, and a commit that is not known to be stable.
+// Answers of each form: hello, commit, read, flush, stat, stop, and a commit that is not known to
+// be stable.
 const ANSWERS: [&[u32]; 7] = [
     &[0x14, 0, 0, 1, 0, 600],
     &[0x18, 0, 1, 0, 3, 0, 2],

@@ -16,8 +16,8 @@ fn bytes_of(alloc: Global, words: &[u32]) -> Result<Vec<u8>, AllocError> {
     Ok(bytes)
 }
 
-// A call of procedure 0 of version 3 of program 100003, as a record of one fragment; and the same cut into three
-// fragments, of which the second is empty.
+// A call of procedure 0 of version 3 of program 100003, as a record of one fragment; and the same
+// cut into three fragments, of which the second is empty.
 const CALL: [u32; 11] = [0x8000_0028, 1, 0, 2, 0x186a3, 3, 0, 0, 0, 0, 0];
 
 const CALL_IN_FRAGMENTS: [u32; 13] = [0x14, 1, 0, 2, 0x186a3, 3, 0, 0x8000_0014, 0, 0, 0, 0, 0];
@@ -104,8 +104,9 @@ fn a_record_in_any_cutting(rt: HostRuntime) -> Result<(), Fail> {
     Ok(())
 }
 
-// What is answered to a record of the greatest length, and whether it comes; to one that is too long, and to any piece behind
-// it; and whether the stream may end there, and just the empty record comes that stands before it.
+// What is answered to a record of the greatest length, and whether it comes; to one that is too
+// long, and to any piece behind it; and whether the stream may end there, and just the empty record
+// comes that stands before it.
 type Limits = (
     (Result<usize, FeedRefused>, bool),
     [Result<usize, FeedRefused>; 2],
@@ -161,8 +162,8 @@ fn come_empty(records: &mut Records) -> usize {
     came
 }
 
-// What is answered to a piece, to its rest while all records wait, and to that once one has come, whether that came, and how many
-// are left.
+// What is answered to a piece, to its rest while all records wait, and to that once one has come,
+// whether that came, and how many are left.
 fn feed_in_turn(alloc: Global, piece: &[u8]) -> ([Result<usize, FeedRefused>; 3], bool, usize) {
     let rest = piece.get(4 * WAITING_RECORDS..).unwrap_or(&[]);
     let mut records = Records::new(alloc);

@@ -6,7 +6,8 @@ use std::alloc::Global;
 
 pub(crate) type Run<T> = Result<T, Refusal<()>>;
 
-/// The first row of a table that was answered otherwise, counted from 1, and that answer. Row 0 is what comes before.
+/// The first row of a table that was answered otherwise, counted from 1, and that answer. Row 0 is
+/// what comes before.
 pub(crate) type Wrong = Option<(usize, u64)>;
 
 // Refusals as answers: no call answers such a number otherwise.
@@ -47,7 +48,8 @@ pub(crate) fn told(ran: Run<u64>) -> u64 {
     }
 }
 
-/// Whether memory was refused, to the run itself or to the device, as far as one can see. The run is then made again.
+/// Whether memory was refused, to the run itself or to the device, as far as one can see. The run
+/// is then made again.
 pub(crate) fn is_refused(wrong: Wrong) -> bool {
     matches!(wrong, Some((_, NO_MEMORY | DEVICE_FAILED)))
 }

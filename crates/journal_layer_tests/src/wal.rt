@@ -1,6 +1,8 @@
-// A write-ahead log over a disk in memory, beside the updates in memory that it takes, call by call.
+// A write-ahead log over a disk in memory, beside the updates in memory that it takes, call by
+// call.
 //
-// Any one request for memory may be refused in a run. A refused run is made again, from its disk on.
+// Any one request for memory may be refused in a run. A refused run is made again, from its disk
+// on.
 ghost use Rattle.std.specs.Prelude.{◌≡◌, ◌≤◌, ◌<◌, ◌^◌, length, IfOk};
 ghost use Rattle.journal_disk.specs.Disks.{IsSettled};
 ghost use Rattle.journal_memlog.specs.Logs.{fresh_count, tail_of};
@@ -27,14 +29,16 @@ pub(crate) const SEALED: u64 = 1 << 63;
 /// A call of a pair. It answers a number.
 #[derive(Clone, Copy)]
 pub(crate) enum Call {
-    /// Updates of blocks that follow each other from the first on, each with a number at its front. How many blocks the
-    /// tail then has.
+    /// Updates of blocks that follow each other from the first on, each with a number at its front.
+    /// How many blocks the tail then has.
     Append(u64, &'static [u64]),
-    /// The next of the logger: 1 where it moved, and 0 where it is idle. To take what was appended is a move.
+    /// The next of the logger: 1 where it moved, and 0 where it is idle. To take what was appended
+    /// is a move.
     Log,
     /// The next of the installer.
     Install,
-    /// The number at the front of a block with all updates, read from the log where it is not in memory.
+    /// The number at the front of a block with all updates, read from the log where it is not in
+    /// memory.
     Read(u64),
     /// The same where the block is in memory, and 0 where it is not.
     Latest(u64),
@@ -50,8 +54,8 @@ pub(crate) enum Call {
     Peek(u64, usize),
     /// How many blocks of the disk have pending writes.
     Pending,
-    /// The number at the front of a block, as it is read by the log of what a crash leaves where no pending write reaches
-    /// the disk.
+    /// The number at the front of a block, as it is read by the log of what a crash leaves where no
+    /// pending write reaches the disk.
     Left(u64),
     /// Makes a device call fail.
     FailIn(u64),
@@ -357,8 +361,8 @@ fn run_once(
     }
 }
 
-/// The first row that is answered otherwise by the log of a disk of 600 blocks with these numbers in front of blocks 1
-/// and 0.
+/// The first row that is answered otherwise by the log of a disk of 600 blocks with these numbers
+/// in front of blocks 1 and 0.
 pub(crate) fn wrong_row(
     rt: &impl Abort,
     alloc: Global,

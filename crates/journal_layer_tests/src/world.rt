@@ -79,7 +79,8 @@ impl MapRule for FirstBitIsClear {
     }
 }
 
-/// Block 514 has bits, and bit 127 is set, which is the last of the second 64 of them. It is read with the 63 before it.
+/// Block 514 has bits, and bit 127 is set, which is the last of the second 64 of them. It is read
+/// with the 63 before it.
 pub(crate) struct Bit127IsSet;
 
 impl MapRule for Bit127IsSet {

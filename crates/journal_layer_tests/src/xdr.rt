@@ -51,7 +51,8 @@ const OWNER_BYTES: u32 = 32;
 
 const DATA_BYTES: u32 = 65535;
 
-// A file of RFC 4506, section 7: its name, its kind, the program that made it or runs it, its owner and its data.
+// A file of RFC 4506, section 7: its name, its kind, the program that made it or runs it, its owner
+// and its data.
 type File<'a> = (&'a [u8], Kind, &'a [u8], &'a [u8], &'a [u8]);
 
 fn read_kind(reader: &mut Reader<'_>) -> Option<Kind> {
@@ -103,8 +104,8 @@ fn the_example_of_the_standard(rt: HostRuntime) -> Result<(), Fail> {
     Ok(())
 }
 
-// Changes of the example: the place of a byte, and what stands there in place of the right one. They are padding, a
-// length over its limit, or a kind that is not listed.
+// Changes of the example: the place of a byte, and what stands there in place of the right one.
+// They are padding, a length over its limit, or a kind that is not listed.
 const CHANGES: [(usize, u8); 8] = [
     (13, 1),
     (15, 255),
@@ -224,13 +225,15 @@ static ITEMS: [(Item, &[u8]); 10] = [
     ),
 ];
 
-// Whether the item is read of these bytes, or `None` where they are refused, and whether nothing is left.
+// Whether the item is read of these bytes, or `None` where they are refused, and whether nothing is
+// left.
 fn read_of(bytes: &[u8], item: Item) -> (Option<bool>, bool) {
     let mut reader = Reader::new(bytes);
     (reads(&mut reader, item), reader.is_at_end())
 }
 
-// What is written of the items where room is reserved for so many bytes, and how long the writer says that it is.
+// What is written of the items where room is reserved for so many bytes, and how long the writer
+// says that it is.
 fn spelled(alloc: Global, room: usize, items: &[Item]) -> Result<(Vec<u8>, usize), AllocError> {
     let mut writer = Writer::with_capacity(alloc, room)?;
     write_all(&mut writer, items)?;
@@ -263,7 +266,8 @@ fn one_item_of_each_type(rt: HostRuntime) -> Result<(), Fail> {
     Ok(())
 }
 
-// The words of two numbers, what is left between them, and whether nothing is left before and behind the second.
+// The words of two numbers, what is left between them, and whether nothing is left before and
+// behind the second.
 fn two_words(bytes: &[u8]) -> ([Option<u32>; 2], &[u8], [bool; 2]) {
     let mut reader = Reader::new(bytes);
     let first = reader.word();

@@ -4,9 +4,11 @@ use crossbeam_utils::atomic::seq_cell::{Pass, RuledSeqCell};
 use crossbeam_utils::rule::{Outcome, Protocol};
 use std::collections::LinkedList;
 
-/// What a pass knows: the keeper the number of every slot, a token that of its own. No value of it is made.
+/// What a pass knows: the keeper the number of every slot, a token that of its own. No value of it
+/// is made.
 pub struct View {
-    /// Whether it is the keeper: its `counts` are the slots' numbers, and the first `made` slots have tokens.
+    /// Whether it is the keeper: its `counts` are the slots' numbers, and the first `made` slots
+    /// have tokens.
     pub keeps: bool,
     pub counts: LinkedList<u64>,
     pub made: u64,

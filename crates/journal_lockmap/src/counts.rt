@@ -18,8 +18,8 @@ use std::alloc::{AllocError, Global};
 use std::marker::Model;
 use std::sync::Wait;
 
-/// The cells of a journal that has no name yet: that of its slots, and that of its sessions. Contracts see which cells
-/// they are, so that whoever opens the journal can name it by them.
+/// The cells of a journal that has no name yet: that of its slots, and that of its sessions.
+/// Contracts see which cells they are, so that whoever opens the journal can name it by them.
 #[derive(Drop)]
 pub struct SlotCell {
     cell: Cell,
@@ -53,8 +53,9 @@ impl SlotCell {
     }
 }
 
-/// The numbers of commits that touched each slot. Contracts see them in the slots' order. They stand in proofs
-/// alone, as what one pass of the cell, the keeper, knows; a token knows that of its slot.
+/// The numbers of commits that touched each slot. Contracts see them in the slots' order. They
+/// stand in proofs alone, as what one pass of the cell, the keeper, knows; a token knows that of
+/// its slot.
 #[derive(Drop)]
 pub struct SlotCounts<J: Naming> {
     keeper: Keeper<J>,
@@ -115,8 +116,8 @@ impl<J: Naming> SlotCounts<J> {
         Ok((counts, slots, SessionCounts::begin(sessions)))
     }
 
-    /// Shows that the numbers of what is held are those that are kept here. Nothing changes, and it waits for
-    /// nobody.
+    /// Shows that the numbers of what is held are those that are kept here. Nothing changes, and it
+    /// waits for nobody.
     pub fn verify_tokens<W: Wait>(&mut self, rt: &W, held: &mut [Held<J>])
         ensures same { self.new ≡ self.old }
         ensures held { held.new ≡ held.old }
@@ -127,9 +128,10 @@ impl<J: Naming> SlotCounts<J> {
         }
     }
 
-    /// Counts one more commit, which writes these addresses, of slots that are held: a slot once, however many
-    /// addresses of it the commit writes. What is held agrees then, and holds the same slots. It takes no memory,
-    /// waits for nobody, and goes over the writes once and over what is held once.
+    /// Counts one more commit, which writes these addresses, of slots that are held: a slot once,
+    /// however many addresses of it the commit writes. What is held agrees then, and holds the same
+    /// slots. It takes no memory, waits for nobody, and goes over the writes once and over what is
+    /// held once.
     pub fn count_writes<W: Wait>(&mut self, rt: &W, held: &mut [Held<J>], writes: &Objects)
         requires apart { AreApart held.old }
         requires covered { HoldsSlots J.layout held.old writes.now }

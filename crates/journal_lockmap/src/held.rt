@@ -9,10 +9,11 @@ use std::fmt;
 use std::fmt::Debug;
 use std::marker::Model;
 
-/// A slot that its holder took, with the slot's token. Contracts see which slot, and how many commits touched it.
+/// A slot that its holder took, with the slot's token. Contracts see which slot, and how many
+/// commits touched it.
 ///
-/// A `LockMap` gives it, and `LockMap::release` alone spends it: a `Held` that is let go does not compile. The
-/// token takes no memory.
+/// A `LockMap` gives it, and `LockMap::release` alone spends it: a `Held` that is let go does not
+/// compile. The token takes no memory.
 pub struct Held<J: Naming> {
     pub(crate) token: Token<J>,
 }

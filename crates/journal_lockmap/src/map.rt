@@ -18,14 +18,16 @@ use std::sync::{Condvar, Mutex, Wait};
 // How often a slot is looked at before whoever waits for it sleeps.
 const SPIN_TURNS: u32 = 32;
 
-// How long it waits between two looks: so many of the processor's pauses, each of some tens of nanoseconds.
+// How long it waits between two looks: so many of the processor's pauses, each of some tens of
+// nanoseconds.
 const SPIN_PAUSES: u32 = 16;
 
 // The most slots whose locks lie on lines of their own. With more of them two threads seldom meet
 // on a line by chance, and lines of their own would take 150 bytes and more a slot.
 const MAX_PADDED: u16 = 1024;
 
-// What belongs to one slot: its place, and the condition variable on which those sleep who wait for the slot.
+// What belongs to one slot: its place, and the condition variable on which those sleep who wait for
+// the slot.
 #[derive(Drop)]
 struct SlotLock<J: Naming> {
     place: Mutex<Place<J>>,
@@ -50,11 +52,11 @@ impl<J: Naming> SlotLock<J> {
     }
 }
 
-/// A lock and a condition variable for each slot, for those who wait for it, with the place in which its token is to lie: all the
-/// memory that a lock map needs beside its slots.
+/// A lock and a condition variable for each slot, for those who wait for it, with the place in
+/// which its token is to lie: all the memory that a lock map needs beside its slots.
 ///
-/// It is made before the slots are, so that nothing can be refused between the making of a journal's slots and
-/// their lock map.
+/// It is made before the slots are, so that nothing can be refused between the making of a
+/// journal's slots and their lock map.
 #[derive(Drop)]
 pub struct SlotLocks<J: Naming> {
     // Each on lines of its own, so that threads that take different slots write no line in common.
@@ -159,10 +161,10 @@ impl<J: Naming> Debug for SlotLocks<J> {
 /// The slots of one journal, which threads share. A slot is named by its number, below the layout's
 /// number of slots.
 ///
-/// Each slot has a lock of its own, so threads that take different slots do not meet. Each slot has a condition
-/// variable of its own, on which those sleep who wait for it. So a release wakes no one in vain who waits for
-/// another slot, and it need wake only one: that one takes the slot, or finds it taken by someone whose release
-/// wakes the next.
+/// Each slot has a lock of its own, so threads that take different slots do not meet. Each slot has
+/// a condition variable of its own, on which those sleep who wait for it. So a release wakes no one
+/// in vain who waits for another slot, and it need wake only one: that one takes the slot, or finds
+/// it taken by someone whose release wakes the next.
 #[derive(Drop)]
 pub struct LockMap<J: Naming> {
     slot_locks: SlotLocks<J>,
@@ -176,7 +178,8 @@ impl<J: Naming> LockMap<J> {
         }
     }
 
-    /// Takes the slot, and waits for it as long as someone holds it: for ever where that is the caller.
+    /// Takes the slot, and waits for it as long as someone holds it: for ever where that is the
+    /// caller.
     pub fn acquire<R: Wait>(&self, rt: &R, slot: u16) -> Held<J>
         requires in_range { slot < J.layout.slots }
         ensures { result.slot ≡ slot }
@@ -192,7 +195,8 @@ impl<J: Naming> LockMap<J> {
         Held::take(&mut place, slot).unwrap()
     }
 
-    // Takes the slot if it is free within some microseconds: most are held for less time than a sleep and a wake take.
+    // Takes the slot if it is free within some microseconds: most are held for less time than a
+    // sleep and a wake take.
     fn spin_for<R: Wait>(&self, rt: &R, slot: u16) -> Option<Held<J>>
         requires in_range { slot < J.layout.slots }
         ensures { IfSome result (λ held. held.slot ≡ slot) }

@@ -6,8 +6,8 @@ use crate::token::Token;
 use journal_history::Naming;
 use std::marker::Model;
 
-/// The place in which the token of one slot lies while the slot is free. Contracts see the table of all slots, in
-/// which each slot reads as taken whose token does not lie here.
+/// The place in which the token of one slot lies while the slot is free. Contracts see the table of
+/// all slots, in which each slot reads as taken whose token does not lie here.
 #[derive(Drop)]
 pub(crate) struct Place<J: Naming> {
     token: Option<Token<J>>,

@@ -8,8 +8,8 @@ use std::fmt;
 use std::fmt::Debug;
 use std::marker::Model;
 
-/// The table of slots, in which the token of each that is free lies. Contracts see a list that says of each slot
-/// whether it is taken.
+/// The table of slots, in which the token of each that is free lies. Contracts see a list that says
+/// of each slot whether it is taken.
 ///
 /// `SlotCounts::begin` makes the table of a journal, with the tokens of all its slots.
 #[derive(Drop)]

@@ -11,7 +11,8 @@ use std::marker::{Model, PhantomData};
 use std::mem::replace;
 use std::sync::Wait;
 
-/// The token of a slot, with the slot's number. Contracts see the slot, and how many commits touched it.
+/// The token of a slot, with the slot's number. Contracts see the slot, and how many commits
+/// touched it.
 #[derive(Drop)]
 pub(crate) struct Token<J: Naming> {
     slot: u16,
@@ -55,8 +56,8 @@ impl<J: Naming> Token<J> {
         self.slot
     }
 
-    // Shows that it agrees with the keeper. Nothing changes. A pass that knows nothing takes its place meanwhile,
-    // since one can be joined by value alone.
+    // Shows that it agrees with the keeper. Nothing changes. A pass that knows nothing takes its
+    // place meanwhile, since one can be joined by value alone.
     pub(crate) fn verify<W: Wait>(&mut self, rt: &W, cell: &Cell, all: &mut SlotPass)
         requires cell { cell.now.table.shared.table_id ≡ J.cell.slots }
         requires pass { all.old.table_id ≡ J.cell.slots }

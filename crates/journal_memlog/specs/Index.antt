@@ -17,8 +17,8 @@ abbrev pub state_of_fields : ℕ → ℕ → ℕ → ℕ → List Entry → ℕ 
 state_of_fields blocks start logged cut entries room =
     record { blocks = blocks; start = start; logged = logged; cut = cut; updates = updates_of entries; room = room }
 
--- The place is one more than the position of the bucket's last update among the first `count`, or no more than `start`
--- where it has none there
+-- The place is one more than the position of the bucket's last update among the first `count`, or
+-- no more than `start` where it has none there
 pub record LeadsTo (start : ℕ) (updates : List Update) (bucket count place : ℕ) : Type 0 where
   pub within : place ≤ start + count
   pub same : start < place → bucket_of (update_at updates (place - 1 - start)).block ≡ bucket

@@ -158,7 +158,8 @@ All-with_update P tail u all this =
 
 -- Many
 
--- absorbing loses nothing: each block has what it has after the tail and the updates, one after the other
+-- absorbing loses nothing: each block has what it has after the tail and the updates, one after the
+-- other
 pub updated-absorbed : (tail updates : List Update) (b : ℕ) (bytes : Bytes)
     → updated (absorbed tail updates) b bytes ≡ updated (tail ++ updates) b bytes
 updated-absorbed tail [] b bytes = ap (λ (us : List Update). updated us b bytes) (sym (append-nil tail))

@@ -7,7 +7,8 @@ use Rattle.journal_memlog.specs.Logs.{LogState, appended}
 use Rattle.journal_memlog.specs.Buckets.{update_at}
 use Rattle.journal_memlog.specs.contracts.mem_log.MemLog.{the_row}
 
--- the log with other content in the update at a position of its tail: that update was appended again
+-- the log with other content in the update at a position of its tail: that update was appended
+-- again
 abbrev pub with_content : LogState → ℕ → Bytes → LogState
 with_content log position bytes =
     appended log (record (update_at log.updates (position - log.start)) { bytes = bytes } ∷ [])

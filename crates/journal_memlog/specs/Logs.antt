@@ -5,8 +5,8 @@ use Rattle.journal_block.specs.declared.update.Update.{Update}
 use Rattle.journal_block.specs.Updates.{updates_block}
 use Rattle.journal_memlog.specs.declared.bounds.Bounds.{Bounds}
 
--- A log of a disk of so many blocks. Positions from `start` on each hold an update. Those before `logged` are on the disk,
--- those before `cut` in flight, and the others are the tail
+-- A log of a disk of so many blocks. Positions from `start` on each hold an update. Those before
+-- `logged` are on the disk, those before `cut` in flight, and the others are the tail
 pub record LogState : Type 0 where
   pub blocks : ℕ
   pub start : ℕ
@@ -59,7 +59,8 @@ pub record IsMemLog (log : LogState) : Type 0 where
 abbrev pub replaced : Update → Update → Update
 replaced u t = if t.block == u.block then u else t
 
--- the tail once the update is in it: in the place of that of its block, or where there is none at the end
+-- the tail once the update is in it: in the place of that of its block, or where there is none at
+-- the end
 abbrev pub with_update : List Update → Update → List Update
 with_update tail u = if updates_block tail u.block then map (replaced u) tail else tail ++ u ∷ []
 

@@ -6,8 +6,9 @@ use journal_block::Update;
 
 /// The number of buckets that the blocks of a disk are divided into.
 ///
-/// A log of a journal has at most 511 updates in the disk's log and 255 in its tail, so there are more buckets
-/// than updates. The number is a prime, so that blocks at a distance of a power of two meet in no bucket early.
+/// A log of a journal has at most 511 updates in the disk's log and 255 in its tail, so there are
+/// more buckets than updates. The number is a prime, so that blocks at a distance of a power of two
+/// meet in no bucket early.
 pub const BUCKETS: u64 = 1021;
 
 /// An update, and the link to the one before it in its bucket.
@@ -15,7 +16,8 @@ pub const BUCKETS: u64 = 1021;
 pub struct Entry {
     /// The update.
     pub update: Update,
-    /// One more than the position of the bucket's update before it, or no more than the log's `start`.
+    /// One more than the position of the bucket's update before it, or no more than the log's
+    /// `start`.
     pub earlier: u64,
 }
 

@@ -109,8 +109,8 @@ impl MemLog {
         &self.entries[(position - self.start) as usize].update
     }
 
-    // The position of the block's last update, if one stands at `floor` or after it. It looks at the updates of
-    // the block's bucket from the last one on.
+    // The position of the block's last update, if one stands at `floor` or after it. It looks at
+    // the updates of the block's bucket from the last one on.
     fn newest(&self, block: u64, floor: u64) -> Option<u64>
         requires { self.now.start ≤ floor }
         ensures found { is_some result ≡ updates_block (updates_from self.now floor) block }
@@ -147,8 +147,8 @@ impl MemLog {
         self.newest(block, self.cut)
     }
 
-    /// The content of the update at a position of the tail, lent to be overwritten. The log is then what it is with
-    /// that update appended.
+    /// The content of the update at a position of the tail, lent to be overwritten. The log is then
+    /// what it is with that update appended.
     pub fn tail_block(&mut self, position: u64) -> &mut Block
         requires from_cut { self.old.cut ≤ position }
         requires to_next { position < next_position self.old }
@@ -171,11 +171,11 @@ impl MemLog {
         }
     }
 
-    /// Adds a position that the disk's log has already, for a recovery: the log has neither tail nor group.
-    /// A block that comes again gets a position of its own.
+    /// Adds a position that the disk's log has already, for a recovery: the log has neither tail
+    /// nor group. A block that comes again gets a position of its own.
     ///
-    /// Answers J1 `NoMemory`, and nothing else, where memory for it is refused; the log is then as it was,
-    /// but may have more room.
+    /// Answers J1 `NoMemory`, and nothing else, where memory for it is refused; the log is then as
+    /// it was, but may have more room.
     pub fn push_logged<C>(&mut self, update: Update) -> Result<(), Refusal<C>>
         requires no_group { self.old.logged ≡ self.old.cut }
         requires no_tail { self.old.cut ≡ next_position self.old }
@@ -198,8 +198,8 @@ impl MemLog {
 
     /// Makes room for `n` fresh blocks, those that do not stand in the tail.
     ///
-    /// Answers J1 `NoMemory`, and nothing else, where memory for them is refused. Refused or not, the log is
-    /// as it was, but may have more room where it had too little.
+    /// Answers J1 `NoMemory`, and nothing else, where memory for them is refused. Refused or not,
+    /// the log is as it was, but may have more room where it had too little.
     pub fn reserve<C>(&mut self, n: usize) -> Result<(), Refusal<C>>
         ensures room { OnOk result (n ≤ self.new.room) }
         ensures same { self.new ≡ record self.old { room = self.new.room } }
@@ -215,14 +215,15 @@ impl MemLog {
         Ok(())
     }
 
-    /// Puts updates into the tail, one after the other: each in the place of the update of its block, or at the end.
-    /// It takes no memory and moves the blocks. It takes time by these updates, and by the log's updates of their
-    /// buckets.
+    /// Puts updates into the tail, one after the other: each in the place of the update of its
+    /// block, or at the end. It takes no memory and moves the blocks. It takes time by these
+    /// updates, and by the log's updates of their buckets.
     pub fn append(&mut self, updates: Vec<Update>)
         requires { CanTake self.old updates.items }
         ensures log { self.new ≡ appended self.old updates.items }
 
-        // Nothing is lost, what was cut is as it was, and no more positions came than there was room for.
+        // Nothing is lost, what was cut is as it was, and no more positions came than there was
+        // room for.
         ensures content { (b : ℕ) (before : Bytes) →
             updated self.new.updates b before ≡ updated (self.old.updates ++ updates.items) b before }
         ensures head { head_of self.new ≡ head_of self.old }
@@ -251,7 +252,8 @@ impl MemLog {
         }
     }
 
-    /// Makes the whole tail a group, and answers its positions. The group has no block twice, and may be empty.
+    /// Makes the whole tail a group, and answers its positions. The group has no block twice, and
+    /// may be empty.
     pub fn cut(&mut self) -> Group
         ensures first { result.first ≡ self.old.cut }
         ensures end { result.end ≡ next_position self.old }

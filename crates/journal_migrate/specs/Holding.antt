@@ -26,7 +26,8 @@ pub record OpensWith (P : Map → Type 0) (image : List Bytes) : Type 0 where
   pub opens : OpensAs map image
   pub holds : P map
 
--- each image that a crash may leave of the disk opens as a map of sound files of this version, which are these
+-- each image that a crash may leave of the disk opens as a map of sound files of this version,
+-- which are these
 abbrev pub HoldsFilesOf : FormatVersion → Files → DiskState → Type 0
 HoldsFilesOf version files disk = EveryImage disk.past (OpensWith (HasFiles version files))
 
@@ -34,6 +35,7 @@ HoldsFilesOf version files disk = EveryImage disk.past (OpensWith (HasFiles vers
 abbrev pub HoldsFiles : Files → DiskState → Type 0
 HoldsFiles files disk = EveryImage disk.past (OpensWith (HasFilesOfEither files))
 
--- P holds of each map that a crash may leave by the history: that after n commits, where n is no fewer than the greatest mark
+-- P holds of each map that a crash may leave by the history: that after n commits, where n is no
+-- fewer than the greatest mark
 abbrev pub LeavesMaps : (Map → Type 0) → List Entry → Type 0
 LeavesMaps P history = (n : ℕ) → floor history ≤ n → n ≤ count history → P (at history n)

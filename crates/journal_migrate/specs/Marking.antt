@@ -19,14 +19,16 @@ upto_of (install_sync upto) other = upto
 upto_of install_none other = other
 upto_of install_spent other = other
 
--- How many steps of the installer are left until the log has a place for the tail, where it has none
+-- How many steps of the installer are left until the log has a place for the tail, where it has
+-- none
 abbrev pub steps_to_place : WalState → ℕ → ℕ
 steps_to_place w tail =
     if nat_lt (free_positions w) tail then
     (if install_steps w == 0 then distinct_blocks (logged_updates w) + 3 else install_steps w)
     else 0
 
--- and how many of both until the commit is marked, at most: that of the tail is cut, put on the disk in four steps, and marked
+-- and how many of both until the commit is marked, at most: that of the tail is cut, put on the
+-- disk in four steps, and marked
 abbrev pub steps_to_mark : CoreState → ℕ
 steps_to_mark c =
     if tail_length c.objects == 0 then log_steps c.objects.wal + 1
@@ -55,7 +57,8 @@ pub record ComesNearer (old new : CoreState) : Type 0 where
   pub history : new.history ≡ old.history
   pub nearer : steps_to_mark new < steps_to_mark old
 
--- Why a core that runs refuses: memory is refused, the device failed meanwhile, or the history is longer than the core's
+-- Why a core that runs refuses: memory is refused, the device failed meanwhile, or the history is
+-- longer than the core's
 abbrev pub IsRunningRefusal : CoreState → CoreState → Refusal CauseState → Type 0
 IsRunningRefusal old new NoMemory = Unit {0}
 IsRunningRefusal old new (DeviceFailed cause) = HasFailed (disk_of old) (disk_of new) × IsUnexplained J6 cause

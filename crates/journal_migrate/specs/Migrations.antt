@@ -14,12 +14,14 @@ use Rattle.journal_filestore.specs.Files.{Files}
 use Rattle.journal_migrate.specs.Either.{HasEitherFiles}
 use Rattle.journal_migrate.specs.Holding.{HoldsFilesOf, HoldsFiles}
 
--- Sound files of either version were on the disk, and they are on it in version 2, whatever a crash leaves
+-- Sound files of either version were on the disk, and they are on it in version 2, whatever a crash
+-- leaves
 pub record IsMigrated (old new : DiskState) : Type 0 where
   pub sound : (files : Files) × HoldsFiles files old
   pub same : (files : Files) → HoldsFiles files old → HoldsFilesOf Two files new
 
--- where sound files of either version were on the disk, they still are, in one of the two, whatever a crash leaves
+-- where sound files of either version were on the disk, they still are, in one of the two, whatever
+-- a crash leaves
 abbrev pub KeepsFiles : DiskState → DiskState → Type 0
 KeepsFiles old new = (files : Files) → HoldsFiles files old → HoldsFiles files new
 
@@ -33,8 +35,9 @@ pub record WasOpened (disk : DiskState) (end : ℕ) : Type 0 where
   pub sound : IsTrue disk.honest → (files : Files) × HoldsFiles files disk
   pub ends : IsTrue disk.honest → end ≡ end_in (reading disk.past)
 
--- why a disk is not migrated that was opened, and whose log ends at this position: memory is refused, the device failed
--- meanwhile, the book has a longer history, or the positions of the log are used up
+-- why a disk is not migrated that was opened, and whose log ends at this position: memory is
+-- refused, the device failed meanwhile, the book has a longer history, or the positions of the log
+-- are used up
 abbrev pub IsUpgradeRefusal : ℕ → DiskState → DiskState → Refusal CauseState → Type 0
 IsUpgradeRefusal end old new NoMemory = Unit {0}
 IsUpgradeRefusal end old new (DeviceFailed cause) = HasFailed old new × IsUnexplained J6 cause

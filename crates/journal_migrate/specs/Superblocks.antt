@@ -15,8 +15,8 @@ version_byte bytes = slice_index bytes 8
 abbrev pub in_version_two : Value → Value
 in_version_two bytes = slice_set bytes 8 2
 
--- The transaction has read a superblock of version 1, as it is at the end of the history, and overwrites it by the one of
--- version 2. It has done nothing else
+-- The transaction has read a superblock of version 1, as it is at the end of the history, and
+-- overwrites it by the one of version 2. It has done nothing else
 pub record DraftsUpgrade (history : List Entry) (t : TransactionState) : Type 0 where
   pub found : Value
   pub agrees : IsTrue (is_trusted history) → object (latest history) superblock ≡ found

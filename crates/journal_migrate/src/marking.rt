@@ -11,11 +11,12 @@ use journal_memory::Cause;
 use journal_parts::LogStep;
 use journal_world::{MapRule, Refusal};
 
-/// Makes steps of the logger until the one commit is marked that is not, and a step of the installer where there is none,
-/// since the log is full.
+/// Makes steps of the logger until the one commit is marked that is not, and a step of the
+/// installer where there is none, since the log is full.
 ///
-/// Answers J1 `NoMemory` where memory is refused, J6 `DeviceFailed` where the device failed meanwhile, and J9 `Stale` where the
-/// history is longer than the core's. The commit is not marked then.
+/// Answers J1 `NoMemory` where memory is refused, J6 `DeviceFailed` where the device failed
+/// meanwhile, and J9 `Stale` where the history is longer than the core's. The commit is not marked
+/// then.
 pub(crate) fn make_stable<'b, D: BlockDisk, R: MapRule, J: Naming>(
     core: &mut Core<'b, D, R, J>,
 ) -> Result<(), Refusal<Cause<'b, J, R>>>

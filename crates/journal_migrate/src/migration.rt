@@ -41,15 +41,17 @@ const COPIES: usize = 1;
 // Why it is refused.
 type MigrationRefusal<'b, J> = Refusal<Cause<'b, J, EitherVersion>>;
 
-/// Makes a disk of version 2 of one on which nothing is pending: opens it under the rule "sound in version 1 or in version 2",
-/// overwrites its superblock in one transaction, makes that stable, and gives the disk up. To a disk of version 2 nothing is
-/// done. Then, whatever a crash leaves, it is a disk of version 2 with the same files.
+/// Makes a disk of version 2 of one on which nothing is pending: opens it under the rule "sound in
+/// version 1 or in version 2", overwrites its superblock in one transaction, makes that stable, and
+/// gives the disk up. To a disk of version 2 nothing is done. Then, whatever a crash leaves, it is
+/// a disk of version 2 with the same files.
 ///
-/// It is refused as `Core::open_step` is, with nothing written: J8 `BadSuper` where the number of blocks is out of range, J7
-/// `BadLog` where the disk's log is not well formed, J8 where the files are sound in neither version, J9 `Stale` where the book
-/// has a history already, J1 `NoMemory` where memory is refused, and J6 `DeviceFailed` where the device fails. Once it is
-/// opened, it is refused by J11 `Worn` where the log's positions are used up, by J1, J6 and J9. Whatever a crash leaves is then
-/// the disk with the same files, in version 1 or in version 2.
+/// It is refused as `Core::open_step` is, with nothing written: J8 `BadSuper` where the number of
+/// blocks is out of range, J7 `BadLog` where the disk's log is not well formed, J8 where the files
+/// are sound in neither version, J9 `Stale` where the book has a history already, J1 `NoMemory`
+/// where memory is refused, and J6 `DeviceFailed` where the device fails. Once it is opened, it is
+/// refused by J11 `Worn` where the log's positions are used up, by J1, J6 and J9. Whatever a crash
+/// leaves is then the disk with the same files, in version 1 or in version 2.
 pub fn migrate<'b, D: BlockDisk, J: Naming, W: Wait>(
     rt: &W,
     alloc: Global,
@@ -97,7 +99,8 @@ pub fn migrate<'b, D: BlockDisk, J: Naming, W: Wait>(
     }
 }
 
-// Brings the map of a mount that begins to version 2, under the superblock's slot, and makes that stable.
+// Brings the map of a mount that begins to version 2, under the superblock's slot, and makes that
+// stable.
 fn upgrade<'b, D: BlockDisk, J: Naming, W: Wait>(
     rt: &W,
     alloc: Global,
@@ -126,7 +129,8 @@ fn upgrade<'b, D: BlockDisk, J: Naming, W: Wait>(
     make_stable(core)
 }
 
-// Reads the superblock, and where it is of version 1 overwrites it by that of version 2. Whether it is.
+// Reads the superblock, and where it is of version 1 overwrites it by that of version 2. Whether it
+// is.
 fn draft<'b, D: BlockDisk, J: Naming, W: Wait>(
     rt: &W,
     alloc: Global,
@@ -156,7 +160,8 @@ fn draft<'b, D: BlockDisk, J: Naming, W: Wait>(
     Ok(true)
 }
 
-// Remembers what was read of the superblock, which is of version 1, and overwrites it by that of version 2.
+// Remembers what was read of the superblock, which is of version 1, and overwrites it by that of
+// version 2.
 fn overwrite<'b, J: Naming>(
     alloc: Global,
     transaction: &mut Transaction<'b, J, EitherVersion>,

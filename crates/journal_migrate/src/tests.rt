@@ -1,5 +1,5 @@
-// Disks that are migrated: as they were left in several ways, and with each device call failing in turn. What is mounted then
-// has the file's old bytes.
+// Disks that are migrated: as they were left in several ways, and with each device call failing in
+// turn. What is mounted then has the file's old bytes.
 ghost use Rattle.std.specs.Prelude.{◌≡◌, IfSome};
 ghost use Rattle.journal_world.specs.Files.{files};
 ghost use Rattle.journal_disk.specs.Disks.{IsSettled};
@@ -287,7 +287,8 @@ fn migrated<J: Naming, W: Wait>(
     }
 }
 
-/// Whether it may be so: an Ok is version 2, and comes wherever no call failed; a refusal leaves version 1 or 2.
+/// Whether it may be so: an Ok is version 2, and comes wherever no call failed; a refusal leaves
+/// version 1 or 2.
 fn may_be(outcome: Outcome) -> bool {
     if outcome.is_migrated || !outcome.has_failed {
         return outcome.is_migrated && outcome.version == 2;
@@ -295,8 +296,8 @@ fn may_be(outcome: Outcome) -> bool {
     outcome.version == 1 || outcome.version == 2
 }
 
-/// Migrates the disk with one of these device calls failing, and then the next, until none does. Answers the first that went
-/// wrong, or how many failed.
+/// Migrates the disk with one of these device calls failing, and then the next, until none does.
+/// Answers the first that went wrong, or how many failed.
 fn each_call<W: Wait>(
     rt: &W,
     alloc: Global,

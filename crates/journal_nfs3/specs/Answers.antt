@@ -29,12 +29,14 @@ procedure_for (Create e how) = procedure.Create
 procedure_for (Remove e) = procedure.Remove
 procedure_for (Commit h offset count) = procedure.Commit
 
--- The results are in the grammar of their procedure's, and a reply with them is no longer than a fragment may be
+-- The results are in the grammar of their procedure's, and a reply with them is no longer than a
+-- fragment may be
 pub record IsResult (r : Results) : Type 0 where
   pub has : (results (procedure_of_results r)).Has r
   pub short : length (results_text r) < 2 ^ 30
 
--- What a call comes to, and how far it is: why it is refused, and then it does nothing; or the results of its operation, which is done
+-- What a call comes to, and how far it is: why it is refused, and then it does nothing; or the
+-- results of its operation, which is done
 abbrev pub ServesCall : FormatVersion → Standing → List ℕ → Time → Result Operation CallRefused → SessionState → Result Results CallRefused → SessionState → Type 0
 ServesCall version standing verifier now (Err why) old outcome new = (outcome ≡ Err why) × (new ≡ old) × HasNoWait standing
 ServesCall version standing verifier now (Ok operation) old outcome new =
@@ -44,13 +46,15 @@ ServesCall version standing verifier now (Ok operation) old outcome new =
 abbrev pub sent : ℕ → Result Results CallRefused → List ℕ
 sent xid outcome = one_fragment (reply results_text xid outcome)
 
--- The text is the reply to a call with this number, which asks this, the session has seen that then, and so far is the reply
+-- The text is the reply to a call with this number, which asks this, the session has seen that
+-- then, and so far is the reply
 pub record AnswersAs (version : FormatVersion) (standing : Standing) (verifier : List ℕ) (now : Time) (xid : ℕ) (asked : Result Operation CallRefused) (old new : SessionState) (text : List ℕ) : Type 0 where
   pub outcome : Result Results CallRefused
   pub comes : ServesCall version standing verifier now asked old outcome new
   pub is_sent : text ≡ sent xid outcome
 
--- the same of a reply that has waited: what is to be stable is marked in what the session then has seen
+-- the same of a reply that has waited: what is to be stable is marked in what the session then has
+-- seen
 abbrev pub Answers : FormatVersion → List ℕ → Time → ℕ → Result Operation CallRefused → SessionState → SessionState → List ℕ → Type 0
 Answers version verifier now xid asked old new text = AnswersAs version (marked new.seen) verifier now xid asked old new text
 
@@ -71,7 +75,8 @@ pub record AnswersNoWait (version : FormatVersion) (verifier : List ℕ) (now : 
   pub answers : AnswersAs version (awaiting (pending_wait_for soon.wait)) verifier now xid asked old new soon.reply.items
   pub procedure : IfSome soon.wait (λ awaited. IsCallOf awaited.procedure asked)
 
--- The text may stand in place of a reply to a call with this number and of this procedure for which a wait is owed: it says that it is not known to be stable
+-- The text may stand in place of a reply to a call with this number and of this procedure for which
+-- a wait is owed: it says that it is not known to be stable
 abbrev pub TakesPlace : ℕ → Procedure → List ℕ → Type 0
 TakesPlace xid procedure text =
     (version : FormatVersion) (verifier : List ℕ) (now : Time) (asked : Result Operation CallRefused) (old new : SessionState) (receipt : CommitPlace) (soon : List ℕ) (history : List Entry)

@@ -1,4 +1,5 @@
--- What a call asks of the program: an operation, or why it is refused (RFC 5531, section 9; RFC 1813, section 3.3).
+-- What a call asks of the program: an operation, or why it is refused (RFC 5531, section 9; RFC
+-- 1813, section 3.3).
 use Rattle.std.specs.Prelude.{ℕ, List, Option, Some, None, Result, Ok, Err}
 use Rattle.journal_rpc.specs.declared.replies.CallRefused.{CallRefused}
 use Rattle.journal_rpc.specs.declared.replies.CallRefused.TheVariants.{ProcedureUnavailable, GarbageArguments}

@@ -18,7 +18,8 @@ use Rattle.journal_nfs3.specs.declared.writing.Untold.TheVariants as untold
 use Rattle.journal_nfs3.specs.Handles.{FileHandle}
 use Rattle.journal_nfs3.specs.Results.{status, post_op_attributes, change, Fattr, Before, Change, LookupResults, ReadResults, WriteResults, CreateResults, CommitResults, Results, Null, GetAttributes, SetAttributes, Lookup, Read, Write, Create, Remove, Commit}
 
--- how many bytes the blocks of a file of this size have, of which no file has more than its version's most: in version 1 they are 4096
+-- how many bytes the blocks of a file of this size have, of which no file has more than its
+-- version's most: in version 1 they are 4096
 abbrev pub used_bytes : FormatVersion → ℕ → ℕ
 used_bytes version size = room_of version (min size (most_bytes version))
 

@@ -63,7 +63,8 @@ error_of status.Stale = Stale
 error_of status.NotSync = NotSync
 error_of status.NotSupported = NotSupported
 
--- what the journal refuses: a slot was held once more after the last attempt, the device failed, or anything else
+-- what the journal refuses: a slot was held once more after the last attempt, the device failed, or
+-- anything else
 abbrev pub refusal_error : {C : Type 0} → Refusal C → NfsError
 refusal_error Busy = Jukebox
 refusal_error (DeviceFailed cause) = Io
@@ -113,7 +114,8 @@ pub record IsDoneAs {A : Type 0} (version : FormatVersion) (standing : Standing)
   pub exact : IsExact new
   pub so_far : IsSoFar standing waits answer new.seen place
 
--- Refused, it was not done. In doubt, it was done with some answer that the case gives, and is not known to be stable
+-- Refused, it was not done. In doubt, it was done with some answer that the case gives, and is not
+-- known to be stable
 abbrev pub IsFaultAs : {A : Type 0} → FormatVersion → Standing → Bool → (Files → Result A Status → Files → Type 0) → SessionState → SessionState → Fault CauseState → Type 0
 IsFaultAs version standing waits case old new (Refused why) = OnlyExtends old new × HasNoWait standing
 IsFaultAs {A} version (marked history) waits case old new (Unsure why) = IsTrue waits × ((answer : Result A Status) × (place : ℕ) × IsMadeAt version case old new answer place)
@@ -125,7 +127,8 @@ IsAnsweredAs version standing waits case old new (Err fault) = IsFaultAs version
 
 -- ---- operations
 
--- What is told of an operation on what the handle names: that it is none, or what the file store answers by this case
+-- What is told of an operation on what the handle names: that it is none, or what the file store
+-- answers by this case
 abbrev pub TellsOutcome : {A : Type 0} → FormatVersion → Standing → Option FileHandle → Bool → (FileHandle → Files → Result A Status → Files → Type 0) → SessionState → SessionState → Result A NfsError → Type 0
 TellsOutcome version standing None waits case old new outcome = (outcome ≡ Err BadHandle) × (new ≡ old) × HasNoWait standing
 TellsOutcome {A} version standing (Some handle) waits case old new outcome =
@@ -135,7 +138,8 @@ TellsOutcome {A} version standing (Some handle) waits case old new outcome =
 abbrev pub Performs : {A : Type 0} → FormatVersion → Standing → Option FileHandle → Bool → (FileHandle → Files → Result A Status → Files → Type 0) → (Result A NfsError → Results) → SessionState → Results → SessionState → Type 0
 Performs {A} version standing handle waits case as_results old results new = (outcome : Result A NfsError) × TellsOutcome version standing handle waits case old new outcome × (results ≡ as_results outcome)
 
--- What an operation does at a moment, from what its session had seen to what it then has seen, its results, and how far they are
+-- What an operation does at a moment, from what its session had seen to what it then has seen, its
+-- results, and how far they are
 abbrev pub ServesAs : FormatVersion → Standing → List ℕ → Time → Operation → SessionState → Results → SessionState → Type 0
 ServesAs version standing verifier now operation.Null old results new = (results ≡ Null) × (new ≡ old) × HasNoWait standing
 ServesAs version standing verifier now (operation.GetAttributes h) old results new =
@@ -163,7 +167,8 @@ ServesAs version standing verifier now (operation.Commit h offset count) old res
     Performs version standing (handle_in h) true (λ k F r F2. (t : Time) → Op version (call.commit k.number k.generation) t F (reply.committed r) F2)
     (λ r. Commit (outcome_of (commit_of version verifier) no_change r)) old results new
 
--- the same of an operation that has waited: what is to be stable is marked in what the session then has seen
+-- the same of an operation that has waited: what is to be stable is marked in what the session then
+-- has seen
 abbrev pub Serves : FormatVersion → List ℕ → Time → Operation → SessionState → Results → SessionState → Type 0
 Serves version verifier now operation old results new = ServesAs version (marked new.seen) verifier now operation old results new
 
@@ -190,7 +195,8 @@ is_accepted (Create r) = is_ok r
 is_accepted (Remove r) = is_ok r
 is_accepted (Commit r) = is_ok r
 
--- The session has one more commit, which stands at this place in what it has then seen, after all that it had seen
+-- The session has one more commit, which stands at this place in what it has then seen, after all
+-- that it had seen
 pub record CommitsOnceAt (old new : SessionState) (place : ℕ) : Type 0 where
   pub made : Transaction
   pub stands : slice_get new.seen place ≡ Some (commit made)

@@ -33,7 +33,8 @@ pub enum StableHow {
 }
 
 impl StableHow {
-    /// How stable what was written is, once it is answered: what waits is stable with all its attributes.
+    /// How stable what was written is, once it is answered: what waits is stable with all its
+    /// attributes.
     pub fn committed(self) -> StableHow
         ensures { result ≡ stability_told self }
     {
@@ -116,8 +117,8 @@ pub struct CreateArguments<'a> {
     pub how: CreateHow<'a>,
 }
 
-/// A procedure with its arguments (RFC 1813, section 3.3). Handles are as the caller sent them, of at most 64
-/// bytes.
+/// A procedure with its arguments (RFC 1813, section 3.3). Handles are as the caller sent them, of
+/// at most 64 bytes.
 #[derive(Clone, Copy, Debug)]
 pub enum Operation<'a> {
     Null,

@@ -66,7 +66,8 @@ fn error_of(status: Status) -> NfsError
     }
 }
 
-// What the journal refuses, as clients see it: to try again later, a fault of the device, or one of the server.
+// What the journal refuses, as clients see it: to try again later, a fault of the device, or one of
+// the server.
 pub(crate) fn refusal_error<C>(refusal: &Refusal<C>) -> NfsError
     ensures { result ≡ refusal_error refusal.now }
 {

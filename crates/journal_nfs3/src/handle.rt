@@ -9,8 +9,8 @@ use journal_xdr::Reader;
 // What every handle begins with: `JNL1`.
 pub(crate) const HANDLE_MARK: u32 = 0x4a4e_4c31;
 
-// The handle that the bytes are, or `None` where they are none: they are not 12, they begin with another mark, or
-// the inode is 0 or above 511.
+// The handle that the bytes are, or `None` where they are none: they are not 12, they begin with
+// another mark, or the inode is 0 or above 511.
 pub(crate) fn read_handle(bytes: &[u8]) -> Option<Handle>
     ensures { named result ≡ handle_in bytes.now }
 {

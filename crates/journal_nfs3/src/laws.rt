@@ -28,8 +28,8 @@ ghost use Rattle.journal_nfs3.specs.Served.{marked, awaiting, Serves, has_to_wai
 ghost use Rattle.journal_nfs3.specs.Answers.{AnswersAs};
 
 /// A procedure's arguments are an item: what is read is spelled so, and what is spelled so is read
-/// (RFC 1813, section 3.3). An operation is run exactly where the arguments are its spelling, and they are
-/// refused exactly where they are the spelling of none.
+/// (RFC 1813, section 3.3). An operation is run exactly where the arguments are its spelling, and
+/// they are refused exactly where they are the spelling of none.
 pub fn arguments_are_spellings()
     ensures items { (procedure : Procedure) → IsGrammar (arguments procedure) }
     ensures runs { (procedure : Procedure) (bytes : List ℕ) (operation : Operation)
@@ -51,17 +51,18 @@ pub fn handles_are_spellings()
         → (handle_in bytes ≡ Some handle) ↔ IsSpelling used_handle bytes handle }
 {}
 
-/// Where an operation that waits until it is stable is answered OK, the session has one more commit, and has seen a
-/// mark that covers it, at its place, and all commits before it. So it is of COMMIT (RFC 1813, section 3.3.21),
-/// SETATTR, CREATE, REMOVE, and WRITE with DATA_SYNC or FILE_SYNC.
+/// Where an operation that waits until it is stable is answered OK, the session has one more
+/// commit, and has seen a mark that covers it, at its place, and all commits before it. So it is of
+/// COMMIT (RFC 1813, section 3.3.21), SETATTR, CREATE, REMOVE, and WRITE with DATA_SYNC or
+/// FILE_SYNC.
 pub fn answers_that_wait_are_stable()
     ensures { (version : FormatVersion) (verifier : List ℕ) (now : Time) (operation : Operation) (old new : SessionState) (r : Results)
         → IsTrue (has_to_wait operation) → IsTrue (is_accepted r) → Serves version verifier now operation old r new
         → (place : ℕ) × CommitsOnceAt old new place × IsMarked new.seen place }
 {}
 
-/// A reply that has a wait is what the call's reply is to be once a mark covers its receipt: that mark stands for what
-/// is stable of it. It stays so in each history that has greater marks.
+/// A reply that has a wait is what the call's reply is to be once a mark covers its receipt: that
+/// mark stands for what is stable of it. It stays so in each history that has greater marks.
 pub fn pending_replies_hold_once_stable()
     ensures paid { (version : FormatVersion) (verifier : List ℕ) (now : Time) (xid : ℕ) (asked : Result Operation CallRefused) (old new then : SessionState)
         (wait : PendingWait CommitPlace) (text : List ℕ)

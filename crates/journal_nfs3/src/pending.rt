@@ -34,7 +34,8 @@ pub struct ReplyWait<P> {
     pub receipt: P,
 }
 
-/// The reply to a call that is committed, as a record of one fragment, and the wait before it may be sent.
+/// The reply to a call that is committed, as a record of one fragment, and the wait before it may
+/// be sent.
 #[derive(Debug, Drop)]
 pub struct PendingReply<P> {
     /// The reply.

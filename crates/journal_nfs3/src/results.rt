@@ -15,8 +15,9 @@ use journal_inode::FormatVersion;
 use journal_xdr::Writer;
 use std::alloc::AllocError;
 
-/// What a server tells with each WRITE and COMMIT (RFC 1813, section 3.3.7, writeverf3). It is the same as long as
-/// the server runs, and another once it began anew and may have lost what was not stable.
+/// What a server tells with each WRITE and COMMIT (RFC 1813, section 3.3.7, writeverf3). It is the
+/// same as long as the server runs, and another once it began anew and may have lost what was not
+/// stable.
 #[derive(Clone, Copy, Debug, PartialEq, Eq)]
 pub struct Verifier(pub [u8; 8]);
 
@@ -62,7 +63,8 @@ pub enum Results {
 }
 
 impl Results {
-    /// What a procedure answers that is refused so: nothing is told of any file, and nothing of what was asked.
+    /// What a procedure answers that is refused so: nothing is told of any file, and nothing of
+    /// what was asked.
     pub fn refused(procedure: Procedure, why: NfsError) -> Results
         ensures { (version : FormatVersion) → results_of version result ≡ refused_results procedure why }
     {

@@ -26,8 +26,8 @@ const ROOT: u32 = 1;
 // The only file system.
 const FILE_SYSTEM: u64 = 1;
 
-// What differs between files and the root, beside what a file has itself: the type (RFC 1813, section 2.5, ftype3), the
-// mode and the number of links.
+// What differs between files and the root, beside what a file has itself: the type (RFC 1813,
+// section 2.5, ftype3), the mode and the number of links.
 #[derive(Clone, Copy)]
 struct Shape {
     kind: u32,
@@ -64,7 +64,8 @@ pub fn write_time(writer: &mut Writer, value: Time) -> Result<(), AllocError>
     writer.word(value.nanos)
 }
 
-/// How many bytes the blocks of a file of this size have. No file has more bytes than its version's most.
+/// How many bytes the blocks of a file of this size have. No file has more bytes than its version's
+/// most.
 pub fn used_bytes(version: FormatVersion, size: u64) -> u64
     ensures { result ≡ used_bytes version size }
 {

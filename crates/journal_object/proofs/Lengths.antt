@@ -1,4 +1,5 @@
--- What the length of an object tells of it: one byte is a bit, and any other length a range of the block's bytes.
+-- What the length of an object tells of it: one byte is a bit, and any other length a range of the
+-- block's bytes.
 use Rattle.std.proofs.Common.{◌≡◌, ◌≢◌, ◌≤◌, ◌+◌, ◌/◌, ℕ, true, false, ◌==◌, [], ◌∷◌, IsTrue, Option, Some, None, length, cond, slice_index, slice_set, refl, sym, ◌∙◌, subst, arith, ⊎_elim}
 use mir.Val.{bool_byte}
 use Rattle.std.specs.Prelude.{slice_range}
@@ -59,7 +60,8 @@ object_of-range (Some Bit) bytes off n starts whole size longer = absurd (longer
 object_of-range (Some (Record m)) bytes off n starts whole size longer = rw size refl
 object_of-range (Some Block) bytes off n starts whole size longer = rw (block_start off starts, size) (take_all 4096 bytes (omega arith))
 
--- of the objects of one kind in a block, the one at bit `off` becomes the value, and each other stays
+-- of the objects of one kind in a block, the one at bit `off` becomes the value, and each other
+-- stays
 pub record Stores (kind : Option Kind) (old new : Bytes) (off : ℕ) (value : Value) : Type 0 where
   pub stored : new ≡ with_object_of kind old off value
   pub changed : object_of kind new off ≡ value

@@ -45,11 +45,13 @@ pub record ChangesOnly (layout : Shape) (old new : Bytes) (a : Addr) (value : Va
   pub others : (b : Addr) → IsTrue (is_valid layout b) → b.block ≡ a.block → b.off ≢ a.off
       → object_at layout new b ≡ object_at layout old b
 
--- The map gives each valid address the object that its block holds there. The content is each block's bytes, by its number
+-- The map gives each valid address the object that its block holds there. The content is each
+-- block's bytes, by its number
 pub record IsMapOf (content : ℕ → Bytes) (m : Map) : Type 0 where
   pub values : (a : Addr) → IsTrue (is_valid m.layout a) → value_at m a ≡ object_at m.layout (content a.block) a
 
--- To change this one block from the old bytes to the new is to overwrite the map of the disk's blocks by the value
+-- To change this one block from the old bytes to the new is to overwrite the map of the disk's
+-- blocks by the value
 abbrev pub OverwritesMap : Shape → Bytes → Bytes → Addr → Value → Type 0
 OverwritesMap layout old new a value =
     (m : Map) (before after : ℕ → Bytes) → m.layout ≡ layout → IsMapOf before m

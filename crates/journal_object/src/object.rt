@@ -8,8 +8,8 @@ ghost use Rattle.journal_object.specs.Objects.{object_of, with_object_of, object
 use journal_block::Block;
 use journal_world::{Addr, BLOCK_BYTES, Layout, Refusal};
 
-/// Reads into `out` the object that the address names, where `block` is its block: one byte, 0 or 1,
-/// for a bit, the bytes of its size for a record, 4096 for a block.
+/// Reads into `out` the object that the address names, where `block` is its block: one byte, 0 or
+/// 1, for a bit, the bytes of its size for a record, 4096 for a block.
 ///
 /// Answers J2 `BadAddress` where the address is not valid in the layout, else J3 `BadSize` where
 /// `out` has not the object's length. After a refusal `out` is as it was.
@@ -54,12 +54,12 @@ pub fn load_valid(layout: &Layout, block: &Block, addr: Addr, out: &mut [u8])
     }
 }
 
-/// Overwrites the object that the address names by a value, where `block` is its block. No other bit
-/// of the block changes.
+/// Overwrites the object that the address names by a value, where `block` is its block. No other
+/// bit of the block changes.
 ///
 /// Answers J2 `BadAddress` where the address is not valid in the layout, else J3 `BadSize` where
-/// `value` has not the object's length, or is a bit's and exceeds 1. After a refusal the block is as
-/// it was.
+/// `value` has not the object's length, or is a bit's and exceeds 1. After a refusal the block is
+/// as it was.
 pub fn store<C>(
     layout: &Layout,
     block: &mut Block,

@@ -67,9 +67,10 @@ answer_of (fault.Refused why) = Refused (refused_as why)
 
 -- ---- a request to commit
 
--- The parts were committed by the session as one transaction: some time after all that it had seen it has one more commit, whose reads
--- are what the parts compare, and whose writes are what they write. Where the opening was trusted, each part that compares has the
--- value that the map gives there
+-- The parts were committed by the session as one transaction: some time after all that it had seen
+-- it has one more commit, whose reads are what the parts compare, and whose writes are what they
+-- write. Where the opening was trusted, each part that compares has the value that the map gives
+-- there
 pub record CommitsParts (layout : Shape) (parts : List Part) (old new : SessionState) (place count : ℕ) : Type 0 where
   -- the session when the transaction began
   pub begun : SessionState
@@ -102,7 +103,8 @@ IsRefusal layout parts old new other = ⊥
 abbrev pub IsConflict : List Part → SessionState → refused.Refused → Type 0
 IsConflict parts new n = (n ≡ Conflict) × (IsTrue (is_trusted new.seen) → (p : Part) × Contains parts p × DiffersAt (latest new.seen) p)
 
--- What a request to commit these parts is owed. One that is to wait is told to be committed only where a mark of this history covers it
+-- What a request to commit these parts is owed. One that is to wait is told to be committed only
+-- where a mark of this history covers it
 abbrev pub IsCommitAnswer : Shape → List Part → Bool → List Entry → SessionState → SessionState → Answer → Type 0
 IsCommitAnswer layout parts waits marks old new (Committed place count) = CommitsParts layout parts old new place count × (IsTrue waits → count ≤ floor marks)
 IsCommitAnswer layout parts waits marks old new (Unsure place count) = IsTrue waits × CommitsParts layout parts old new place count
@@ -166,7 +168,8 @@ abbrev pub IsStatAnswer : SessionState → SessionState → Answer → Type 0
 IsStatAnswer old new (told.Stat commits stable) = OnlyExtends old new × (stable ≤ floor new.seen)
 IsStatAnswer old new other = ⊥
 
--- The service ends once all that the session had seen is stable. A connection that may not end it is refused
+-- The service ends once all that the session had seen is stable. A connection that may not end it
+-- is refused
 abbrev pub IsStopAnswer : Bool → SessionState → SessionState → Answer → Type 0
 IsStopAnswer may_stop old new told.Stopping = IsTrue may_stop × ((stable : ℕ) × IsFlushed old new stable)
 IsStopAnswer may_stop old new (Refused n) = ((may_stop ≡ false) × (n ≡ Forbidden) × (new ≡ old)) ⊎ (IsTrue may_stop × IsNotFlushed old new n)
@@ -174,7 +177,8 @@ IsStopAnswer may_stop old new other = ⊥
 
 -- ---- any request
 
--- What a request is owed as its answer, which leads the session from what it had seen to what it has then seen, by the marks of this history
+-- What a request is owed as its answer, which leads the session from what it had seen to what it
+-- has then seen, by the marks of this history
 abbrev pub IsAnswerTo : Shape → Bool → List Entry → Request → SessionState → SessionState → Answer → Type 0
 IsAnswerTo layout may_stop marks (Hello version) old new answer = IsHelloAnswer layout.blocks version old new answer
 IsAnswerTo layout may_stop marks (Commit parts waits) old new answer = IsCommitAnswer layout parts.items waits marks old new answer
@@ -183,11 +187,13 @@ IsAnswerTo layout may_stop marks Flush old new answer = IsFlushAnswer old new an
 IsAnswerTo layout may_stop marks Stat old new answer = IsStatAnswer old new answer
 IsAnswerTo layout may_stop marks Stop old new answer = IsStopAnswer may_stop old new answer
 
--- The request was done and led the session to a state, which has only seen more since, as the mark that it waited for
+-- The request was done and led the session to a state, which has only seen more since, as the mark
+-- that it waited for
 abbrev pub IsAnswered : Shape → Bool → Request → SessionState → SessionState → Answer → Type 0
 IsAnswered layout may_stop request old new answer = (done : SessionState) × IsAnswerTo layout may_stop new.seen request old done answer × OnlyExtends done new
 
--- what is answered where so many commits are stable: of one that was not known to be, that it is, where it is among them
+-- what is answered where so many commits are stable: of one that was not known to be, that it is,
+-- where it is among them
 abbrev pub settled : ℕ → Answer → Answer
 settled stable (Unsure place count) = if nat_le count stable then Committed place count else Unsure place count
 settled stable other = other

@@ -21,8 +21,9 @@ use Rattle.journal_port.specs.Reads.{KeepsReads}
 abbrev pub IsRead : List Pair → Part → Type 0
 IsRead reads p = p.action ≡ Compare → value_among reads p.addr ≡ Some p.value
 
--- The transaction did these parts, one after another. Where the opening was trusted, a value that it has read stays what
--- it has read, so that each part that compares has that value, also where others compare its address
+-- The transaction did these parts, one after another. Where the opening was trusted, a value that
+-- it has read stays what it has read, so that each part that compares has that value, also where
+-- others compare its address
 pub record Does (ps : List Part) (old new : TxnState) : Type 0 where
   pub reads : SamePairs new.reads (compared ps ++ old.reads)
   pub writes : SamePairs new.writes (written ps ++ old.writes)
@@ -31,7 +32,8 @@ pub record Does (ps : List Part) (old new : TxnState) : Type 0 where
   pub kept : IsTrue (is_trusted old.seen) → KeepsReads old.reads new.reads
   pub matched : IsTrue (is_trusted old.seen) → All (IsRead new.reads) ps
 
--- The part can be done without a slot below one that is held, and what it compares is not the transaction's own
+-- The part can be done without a slot below one that is held, and what it compares is not the
+-- transaction's own
 pub record IsReady (layout : Shape) (t : TxnState) (p : Part) : Type 0 where
   pub ascends : holds_above t.held (slot_of layout p.addr) ≡ false
   pub unwritten : p.action ≡ Compare → value_among t.writes p.addr ≡ None

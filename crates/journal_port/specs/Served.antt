@@ -39,7 +39,8 @@ IsFoundAnswer layout may_stop marks (Err why) old new told = (new ≡ old) × (t
 abbrev pub IsReplyTo : Shape → Bool → List Entry → List ℕ → SessionState → SessionState → Answer → Type 0
 IsReplyTo layout may_stop marks bytes old new told = (found : Result Request ReadFault) × ReadsRequest bytes found × IsFoundAnswer layout may_stop marks found old new told
 
--- These are the answers to the records, in order. Each leads from one state of the session to another, and between them it may see more
+-- These are the answers to the records, in order. Each leads from one state of the session to
+-- another, and between them it may see more
 abbrev pub AreAnswers : Shape → Bool → List Entry → List (List ℕ) → SessionState → SessionState → List Answer → Type 0
 AreAnswers layout may_stop marks [] old new answers = OnlyExtends old new × (answers ≡ [])
 AreAnswers layout may_stop marks (r ∷ rs) old new answers =
@@ -137,14 +138,15 @@ refuses_long = Refused why.TooLong
 abbrev pub IsBehind : List ℕ → List Answer → Type 0
 IsBehind rest behind = (behind ≡ []) ⊎ ((behind ≡ refuses_long ∷ []) × BeginsTooLong rest)
 
--- Where each end comes: the reader is at its end, with less than a record; the last answer says that the service ends; or a record is too long
+-- Where each end comes: the reader is at its end, with less than a record; the last answer says
+-- that the service ends; or a record is too long
 abbrev pub IsEnd : End → Option (List ℕ) → List ℕ → List Answer → List Answer → Type 0
 IsEnd NoMore left rest answers behind = IsAtEnd left × IsPartial rest × (behind ≡ [])
 IsEnd Stopped left rest answers behind = EndsStopping answers × (behind ≡ [])
 IsEnd TooLong left rest answers behind = BeginsTooLong rest × (behind ≡ refuses_long ∷ [])
 
--- A connection that was served to its end: what the reader gave is some records and a rest, and what was written is the answers to the records,
--- in order, and what is answered after them
+-- A connection that was served to its end: what the reader gave is some records and a rest, and
+-- what was written is the answers to the records, in order, and what is answered after them
 pub record Serves (layout : Shape) (may_stop : Bool) (end : End) (from left before holds : Option (List ℕ)) (old new : SessionState) : Type 0 where
   pub rest : List ℕ
   pub answers : List Answer

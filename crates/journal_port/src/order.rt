@@ -25,8 +25,8 @@ pub(crate) fn sort<'b, D: BlockDisk, J: Naming>(
     Ok(())
 }
 
-// Where a part comes in its transaction: by slot, so that slots are taken in ascending order, and under one slot
-// those that compare first.
+// Where a part comes in its transaction: by slot, so that slots are taken in ascending order, and
+// under one slot those that compare first.
 fn order<'b, D: BlockDisk, J: Naming>(journal: &Journal<'b, D, AnyMap, J>, part: &Part) -> u32
     ensures { result ≡ order_of J.layout part.now }
 {

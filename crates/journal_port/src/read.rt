@@ -57,7 +57,8 @@ fn sorted<'b, D: BlockDisk, J: Naming>(
     Ok(sorted)
 }
 
-// Takes the slots of the addresses, which ascend, and then reads the addresses in the order in which they are asked for.
+// Takes the slots of the addresses, which ascend, and then reads the addresses in the order in
+// which they are asked for.
 fn read_values<'j, 'b, D: BlockDisk, J: Naming, W: Wait>(
     rt: &W,
     alloc: Global,

@@ -44,16 +44,17 @@ impl<'s, 'b, D: BlockDisk, J: Naming> Drop for Port<'s, 'b, D, J> {
 
 /// Answers a request under the session. No slot is held before or after it.
 ///
-/// A commit is answered `Committed` where it stands, with its place, and if it waits it is then marked as stable;
-/// `Unsure` where it stands and is to wait, but no mark is known. A read is answered `Values`, which are what one map
-/// gives, at the end of what the session had seen once it was done. A flush is answered `Flushed` once all that the
-/// session has seen is stable, and a stop is answered `Stopping` then, where the connection may end the service.
+/// A commit is answered `Committed` where it stands, with its place, and if it waits it is then
+/// marked as stable; `Unsure` where it stands and is to wait, but no mark is known. A read is
+/// answered `Values`, which are what one map gives, at the end of what the session had seen once it
+/// was done. A flush is answered `Flushed` once all that the session has seen is stable, and a stop
+/// is answered `Stopping` then, where the connection may end the service.
 ///
-/// `Refused` says that nothing was done: the history lacks the request's transaction. It is `Conflict` where the
-/// map, at the end of what the session had seen once it was done, gives some compared address another value,
-/// `OtherVersion` where another version is spoken, `Forbidden` where the service may not be ended, and else the
-/// journal's refusal. That is never `Busy`, since slots are taken in ascending order, nor `Full`, since a commit
-/// waits for room.
+/// `Refused` says that nothing was done: the history lacks the request's transaction. It is
+/// `Conflict` where the map, at the end of what the session had seen once it was done, gives some
+/// compared address another value, `OtherVersion` where another version is spoken, `Forbidden`
+/// where the service may not be ended, and else the journal's refusal. That is never `Busy`, since
+/// slots are taken in ascending order, nor `Full`, since a commit waits for room.
 pub fn answer<'b, D: BlockDisk, J: Naming, W: Wait>(
     rt: &W,
     alloc: Global,
@@ -79,7 +80,8 @@ pub fn answer<'b, D: BlockDisk, J: Naming, W: Wait>(
     }
 }
 
-// Answers a request, but does not wait until a commit is stable: one that is to wait is answered `Unsure`.
+// Answers a request, but does not wait until a commit is stable: one that is to wait is answered
+// `Unsure`.
 pub(crate) fn answer_no_wait<'b, D: BlockDisk, J: Naming, W: Wait>(
     rt: &W,
     port: &Port<'_, 'b, D, J>,
@@ -100,8 +102,8 @@ pub(crate) fn answer_no_wait<'b, D: BlockDisk, J: Naming, W: Wait>(
     }
 }
 
-// Waits until all that the session has seen is stable, and answers how many commits are known to be, also where the
-// wait is refused.
+// Waits until all that the session has seen is stable, and answers how many commits are known to
+// be, also where the wait is refused.
 pub(crate) fn await_stable<'b, D: BlockDisk, J: Naming, W: Wait>(
     rt: &W,
     journal: &Journal<'b, D, AnyMap, J>,

@@ -15,7 +15,8 @@ use std::alloc::Global;
 use std::io::{Read, Write};
 use std::sync::Wait;
 
-// The most bytes that are read at once. The commits of a piece that are to be stable are waited for once.
+// The most bytes that are read at once. The commits of a piece that are to be stable are waited for
+// once.
 const PIECE_BYTES: usize = 131_072;
 
 /// How a connection ended that was served to its end.
@@ -34,8 +35,8 @@ pub enum End {
 pub struct Served {
     /// How it ended.
     pub end: End,
-    /// Whether the session's fence stands: a yes says that nothing is committed under its number from then on. A no
-    /// says that the fence was refused, which changes nothing else.
+    /// Whether the session's fence stands: a yes says that nothing is committed under its number
+    /// from then on. A no says that the fence was refused, which changes nothing else.
     pub fenced: bool,
 }
 
@@ -48,24 +49,28 @@ pub enum ConnFault {
     WriteFailed,
     /// Memory was refused for what was read, or for an answer.
     NoMemory,
-    /// No record can hold an answer. That no request has such an answer is tested and not proved: one that reads names at
-    /// most 256 objects of at most 4096 bytes, which is half of what a record holds.
+    /// No record can hold an answer. That no request has such an answer is tested and not proved:
+    /// one that reads names at most 256 objects of at most 4096 bytes, which is half of what a
+    /// record holds.
     NoRecord,
 }
 
-/// Answers the requests that the reader gives, in order, under the session, until no more come, the service is to
-/// end, or a record is too long. The answers go to the writer.
+/// Answers the requests that the reader gives, in order, under the session, until no more come, the
+/// service is to end, or a record is too long. The answers go to the writer.
 ///
-/// It reads at most 128 KiB at once, and does all requests that are whole then, in turns of at most 1024, before it
-/// reads on. Of a turn it waits once until the last of those commits is stable that are to be, and then writes the
-/// answers together. It may wait for the peer, and for the journal.
+/// It reads at most 128 KiB at once, and does all requests that are whole then, in turns of at most
+/// 1024, before it reads on. Of a turn it waits once until the last of those commits is stable that
+/// are to be, and then writes the answers together. It may wait for the peer, and for the journal.
 ///
-/// Each request is done after those before it. A record that is no request is refused and changes nothing.
+/// Each request is done after those before it. A record that is no request is refused and changes
+/// nothing.
 ///
-/// At every end it fences the session, also where it gives up: so nothing is committed under its number later.
+/// At every end it fences the session, also where it gives up: so nothing is committed under its
+/// number later.
 ///
-/// Where it gives up, some of the records that it read were answered, from the first on, and their answers were
-/// written up to some byte: a request whose answer could not be written was done as its answer says.
+/// Where it gives up, some of the records that it read were answered, from the first on, and their
+/// answers were written up to some byte: a request whose answer could not be written was done as
+/// its answer says.
 pub fn serve<'b, R: Read, W: Write, D: BlockDisk, J: Naming, H: Wait>(
     rt: &H,
     alloc: Global,

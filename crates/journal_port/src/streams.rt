@@ -9,8 +9,8 @@ use std::io::{ErrorKind, Read, Write};
 #[derive(Clone, Copy, Debug, PartialEq, Eq)]
 pub(crate) struct StreamFailed;
 
-// Reads a piece, and answers how many bytes it has: none only where the input has ended. A read that a signal broke off
-// is made again.
+// Reads a piece, and answers how many bytes it has: none only where the input has ended. A read
+// that a signal broke off is made again.
 pub(crate) fn read_piece<R: Read>(reader: &mut R, buffer: &mut [u8]) -> Result<usize, StreamFailed>
     requires { 0 < length buffer.old }
     ensures within { IfOk result (λ n. n ≤ length buffer.new) }

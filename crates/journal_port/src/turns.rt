@@ -1,4 +1,5 @@
-// Some records at a time: they are done in order, one wait is made for all of them, and their answers are written.
+// Some records at a time: they are done in order, one wait is made for all of them, and their
+// answers are written.
 ghost use Rattle.std.specs.Prelude.{◌≡◌, ◌≤◌, map, IsTrue, IfOk, OnOk, OnErr};
 ghost use Rattle.journal_world.specs.Histories.{floor};
 ghost use Rattle.journal_history.specs.Tokens.{OnlyExtends};

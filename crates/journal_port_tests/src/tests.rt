@@ -216,8 +216,8 @@ const TALK: [(&[u32], &[u32]); 11] = [
     // Hello in version 1, for 600 blocks, and in version 2.
     (&[8, 0, 1], &[0x14, 0, 0, 1, 0, 600]),
     (&[8, 0, 2], &[4, 69]),
-    // A transaction that waits, compares bit 7 of block 514 with 0 and writes 1 there: at place 1, one commit. Again, where
-    // the bit is another.
+    // A transaction that waits, compares bit 7 of block 514 with 0 and writes 1 there: at place 1,
+    // one commit. Again, where the bit is another.
     (&COMMIT, &[0x18, 0, 1, 0, 1, 0, 1]),
     (&COMMIT, &[4, 64]),
     // The bit, a flush and a stat.
@@ -377,8 +377,8 @@ fn seen(alloc: Global, byte: u32) -> Result<Vec<u8>, AllocError> {
     bytes_of(alloc, &[0x1c, 0, 2, 2, 1, byte, 1, byte])
 }
 
-// Of a transaction so many bytes come, and so many bytes of its answer go out: it is whole where all of it came, else
-// absent.
+// Of a transaction so many bytes come, and so many bytes of its answer go out: it is whole where
+// all of it came, else absent.
 fn lose_answer<H: Abort + Threads + Wait + Clock + Sync>(
     rt: &H,
     alloc: Global,

@@ -1,4 +1,5 @@
-// Requests that wait: one wait is made for all that came together, and no answer is written before it has ended.
+// Requests that wait: one wait is made for all that came together, and no answer is written before
+// it has ended.
 ghost use Rattle.std.specs.Prelude.{◌≡◌};
 ghost use Rattle.journal_world.specs.Files.{files};
 ghost use Rattle.journal_disk.specs.Disks.{IsSettled};
@@ -132,7 +133,8 @@ struct Talk<'t> {
     due: &'t [u64],
 }
 
-// How a connection ended, what it was told, how many bytes of that came early, and whether the log stood still too long.
+// How a connection ended, what it was told, how many bytes of that came early, and whether the log
+// stood still too long.
 #[derive(Debug, Drop, PartialEq)]
 struct Heard {
     outcome: Result<Served, ConnFault>,
@@ -317,8 +319,8 @@ fn answers(alloc: Global, places: [u32; 3]) -> Result<Vec<u8>, AllocError> {
     Ok(hears)
 }
 
-// Where the log is due if the first piece has so many whole transactions, and their places: a mark takes the place behind
-// those that are waited for together.
+// Where the log is due if the first piece has so many whole transactions, and their places: a mark
+// takes the place behind those that are waited for together.
 fn marked_after(whole: usize) -> (&'static [u64], [u32; 3]) {
     match whole {
         1 => (&[1, 3], [1, 3, 4]),

@@ -34,8 +34,8 @@ told_of code.Stopping = Stopping
 told_of (code.Unsure place commits) = Unsure place commits
 told_of (code.Refused why) = Refused why
 
--- the first word of an answer: 0 where it was done, 65 where a commit stands and is not known to be stable, and
--- else why nothing was done
+-- the first word of an answer: 0 where it was done, 65 where a commit stands and is not known to be
+-- stable, and else why nothing was done
 pub data Status : Type 0 where
   Done : Status
   NotSure : Status

@@ -49,8 +49,8 @@ ReadsAnswer bytes (Err fault.UnknownOperation) = ⊥
 ReadsAnswer bytes (Err fault.Malformed) = SpellsNone answer bytes
 ReadsAnswer bytes (Err fault.NoMemory) = Unit {0}
 
--- What is taken from the front of a stream, where reading says what a record reads as: a whole record, or
--- nothing, where none is whole or the next is too long
+-- What is taken from the front of a stream, where reading says what a record reads as: a whole
+-- record, or nothing, where none is whole or the next is too long
 abbrev pub Takes : {X : Type 0} → (List ℕ → Result X ReadFault → Type 0) → List ℕ → List ℕ → Next X → Type 0
 Takes reading old new (Record found) = (bytes : List ℕ) × IsShort bytes × (old ≡ framed bytes ++ new) × reading bytes found
 Takes reading old new Partial = (new ≡ old) × IsPartial old

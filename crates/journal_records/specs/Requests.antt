@@ -53,8 +53,8 @@ abbrev pub read_part : Message → Option (List Addr)
 read_part (Read addresses) = Some addresses
 read_part _ = None
 
--- what stands behind the operation's number: of a hello the client's version, of a transaction whether it
--- waits and its parts, of a request to read the addresses
+-- what stands behind the operation's number: of a hello the client's version, of a transaction
+-- whether it waits and its parts, of a request to read the addresses
 abbrev pub request_arm : Operation → Item Message
 request_arm operations.Hello = variant word (λ version. Hello version) hello_part
 request_arm operations.Commit = variant (pair boolean (array PARTS part)) (λ p. Commit p.1 p.0) commit_part

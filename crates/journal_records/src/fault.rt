@@ -11,7 +11,8 @@ pub enum ReadFault {
     /// The first word is the number of no operation.
     #[error("no operation has this number")]
     UnknownOperation,
-    /// The bytes are spelled as nothing: too few, too many, a number that is not listed, or above a limit.
+    /// The bytes are spelled as nothing: too few, too many, a number that is not listed, or above a
+    /// limit.
     #[error("the record is malformed")]
     Malformed,
 }
@@ -44,8 +45,8 @@ pub enum WriteFault {
     /// A growth was refused.
     #[error("no memory")]
     NoMemory,
-    /// No record can hold it: it has too many parts, addresses or values, a value is too long, or all
-    /// together are.
+    /// No record can hold it: it has too many parts, addresses or values, a value is too long, or
+    /// all together are.
     #[error("no record can hold it")]
     TooLong,
 }

@@ -6,8 +6,8 @@ ghost use Rattle.journal_records.specs.Answers.{Told, answer};
 ghost use Rattle.journal_records.specs.Readings.{AsksUnknown, SpellsNone};
 ghost use Rattle.journal_records.specs.Frames.{IsStream, IsShort};
 
-/// Requests are an item: what is read is spelled so, and what is spelled so is read. A record whose number is
-/// no operation's is no request.
+/// Requests are an item: what is read is spelled so, and what is spelled so is read. A record whose
+/// number is no operation's is no request.
 pub fn requests_are_spellings()
     ensures item { IsGrammar request }
     ensures unknown { (bytes : List ℕ) → AsksUnknown bytes → SpellsNone request bytes }
@@ -19,8 +19,8 @@ pub fn answers_are_spellings()
     ensures short { (told : Told) → answer.Has told → IsShort (answer.spelling told) }
 {}
 
-/// The bytes of a stream are the spellings of some records and a rest in one way. So its records are the same
-/// in whatever pieces it comes.
+/// The bytes of a stream are the spellings of some records and a rest in one way. So its records
+/// are the same in whatever pieces it comes.
 pub fn cuttings_do_not_matter()
     ensures single { (bytes rest more : List ℕ) (records others : List (List ℕ)) → IsStream bytes records rest → IsStream bytes others more
         → (records ≡ others) × (rest ≡ more) }

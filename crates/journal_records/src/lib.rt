@@ -1,12 +1,14 @@
-//! The records of the port: what a program in another language asks the journal, and what it is answered.
+//! The records of the port: what a program in another language asks the journal, and what it is
+//! answered.
 //!
-//! A connection is a stream of records both ways. A record is its length and so many bytes, and these are a
-//! request or an answer, spelled as XDR (RFC 4506). `specs/Requests.antt` and `specs/Answers.antt` say once how
-//! each is spelled, and `specs/Frames.antt` how records stand on a stream.
+//! A connection is a stream of records both ways. A record is its length and so many bytes, and
+//! these are a request or an answer, spelled as XDR (RFC 4506). `specs/Requests.antt` and
+//! `specs/Answers.antt` say once how each is spelled, and `specs/Frames.antt` how records stand on
+//! a stream.
 //!
-//! `read_request` and `read_answer` say what a record's bytes are, or why they are nothing, and `write_request`
-//! and `write_answer` write a whole record behind what was written. An `Input` takes a stream in pieces, however
-//! it is cut, and gives its records in order.
+//! `read_request` and `read_answer` say what a record's bytes are, or why they are nothing, and
+//! `write_request` and `write_answer` write a whole record behind what was written. An `Input`
+//! takes a stream in pieces, however it is cut, and gives its records in order.
 #![tactic(auto)]
 
 mod answer;

@@ -3,8 +3,8 @@
 /// The version of the protocol.
 pub const VERSION: u32 = 1;
 
-/// The most bytes of a record, its length not counted: 2 MiB. So a transaction that compares 128 whole blocks
-/// and writes 128 is one record.
+/// The most bytes of a record, its length not counted: 2 MiB. So a transaction that compares 128
+/// whole blocks and writes 128 is one record.
 pub const RECORD_BYTES: usize = 2_097_152;
 
 /// The most parts of a transaction.

@@ -3,7 +3,8 @@ ghost use Rattle.std.specs.Prelude.{◌≡◌};
 
 use journal_xdr::Enumeration;
 
-/// What a request asks for. Its number is the first word of a request, and of an answer that it was done.
+/// What a request asks for. Its number is the first word of a request, and of an answer that it was
+/// done.
 #[derive(Clone, Copy, Debug, PartialEq, Eq)]
 pub enum Operation {
     /// Which version of the protocol is spoken, and how many blocks the disk has.

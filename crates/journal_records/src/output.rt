@@ -17,8 +17,8 @@ use std::alloc::Global;
 // The room that a record takes at first. Most need no more.
 const ROOM: usize = 64;
 
-/// The record of a request, as it stands on a stream. It is refused as too long exactly where no record can
-/// hold it.
+/// The record of a request, as it stands on a stream. It is refused as too long exactly where no
+/// record can hold it.
 pub fn write_request(alloc: Global, request: &Request) -> Result<Vec<u8>, WriteFault>
     ensures record { IfOk result (λ bytes. IsRecordOf request_item (message_of request.now) bytes.items) }
     ensures too_long { IsTooLong result → ¬ (FitsRecord request_item (message_of request.now)) }
@@ -32,8 +32,8 @@ pub fn write_request(alloc: Global, request: &Request) -> Result<Vec<u8>, WriteF
     finish(writer)
 }
 
-/// The record of an answer, as it stands on a stream. It is refused as too long exactly where no record can
-/// hold it.
+/// The record of an answer, as it stands on a stream. It is refused as too long exactly where no
+/// record can hold it.
 pub fn write_answer(alloc: Global, answer: &Answer) -> Result<Vec<u8>, WriteFault>
     ensures record { IfOk result (λ bytes. IsRecordOf answer_item (told_of answer.now) bytes.items) }
     ensures too_long { IsTooLong result → ¬ (FitsRecord answer_item (told_of answer.now)) }

@@ -5,7 +5,8 @@ ghost use Rattle.journal_records.specs.Statuses.{refused_as};
 use journal_world::Refusal;
 use journal_xdr::Enumeration;
 
-/// Why nothing was done. The numbers from 1 to 14 are the journal's own, and those from 64 on the port's.
+/// Why nothing was done. The numbers from 1 to 14 are the journal's own, and those from 64 on the
+/// port's.
 #[derive(Clone, Copy, Debug, PartialEq, Eq)]
 pub enum Refused {
     /// 1: a growth was refused.

@@ -54,7 +54,8 @@ pub struct Part {
 /// What a client asks.
 #[derive(Debug, Drop)]
 pub enum Request {
-    /// To say the version of the protocol and the number of blocks. It names the client's own version.
+    /// To say the version of the protocol and the number of blocks. It names the client's own
+    /// version.
     Hello(u32),
     /// To commit the parts as one transaction.
     Commit {

@@ -25,8 +25,8 @@ reply_short spelling xid (Ok results) short =
     omega (arith, length-append (success xid) (spelling results), length-words (xid ∷ 1 ∷ 0 ∷ 0 ∷ 0 ∷ 0 ∷ []), short results refl)
 reply_short spelling xid (Err refusal) short = omega (arith, length-words (xid ∷ why refusal), why_short refusal)
 
--- The buffer holds the room for the header, and then the reply. It is then short, and with the header in the
--- room it is the record
+-- The buffer holds the room for the header, and then the reply. It is then short, and with the
+-- header in the room it is the record
 pub record Holds (buffer message : List ℕ) : Type 0 where
   pub long : length buffer ≡ 4 + length message
   pub short : length message < 2 ^ 31

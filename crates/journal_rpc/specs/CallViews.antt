@@ -33,8 +33,8 @@ abbrev pub ReadsCall : List ℕ → Option code_call.Call → Type 0
 ReadsCall bytes None = message bytes ≡ None
 ReadsCall bytes (Some call) = message bytes ≡ Some (message_of call)
 
--- What a call asks of a program served in one version: a procedure's number and its arguments, or why it is
--- refused. The first that holds is answered
+-- What a call asks of a program served in one version: a procedure's number and its arguments, or
+-- why it is refused. The first that holds is answered
 abbrev pub routed : ℕ → ℕ → Asked → Result (ℕ × List ℕ) CallRefused
 routed program version OtherVersion = Err RpcMismatch
 routed program version (Procedure asked_program asked_version procedure arguments) =

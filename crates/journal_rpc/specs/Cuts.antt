@@ -37,9 +37,10 @@ cut_text c = spelled c.before ++ fragment true c.last
 abbrev pub IsRecord : Cut → Type 0
 IsRecord c = length (record_of c) ≤ record_limit
 
--- What has come of the record that is begun: front are the bytes of its fragments that are whole, begun those
--- that have come in all, and tail is what stands behind the spellings of the whole ones. It is nothing, less
--- than a header, a header with less than its fragment's bytes, or a header that goes above the limit
+-- What has come of the record that is begun: front are the bytes of its fragments that are whole,
+-- begun those that have come in all, and tail is what stands behind the spellings of the whole
+-- ones. It is nothing, less than a header, a header with less than its fragment's bytes, or a
+-- header that goes above the limit
 abbrev pub IsBegun : Part → List ℕ → List ℕ → List ℕ → Type 0
 IsBegun Start front begun tail = (begun ≡ front) × (tail ≡ [])
 IsBegun (First a) front begun tail = (begun ≡ front) × (tail ≡ a ∷ []) × (a < 256)
@@ -50,8 +51,8 @@ IsBegun (Body last left) front begun tail =
 IsBegun TooLong front begun tail =
     (head : ℕ) × (more : List ℕ) × (begun ≡ front) × (tail ≡ word.spelling head ++ more) × (head < 2 ^ 32) × (record_limit < length front + head % 2 ^ 31)
 
--- The bytes are these records, each in some cutting, and then what has come of the next: some whole fragments
--- of it, and less than another or a header that takes it above the limit
+-- The bytes are these records, each in some cutting, and then what has come of the next: some whole
+-- fragments of it, and less than another or a header that takes it above the limit
 pub record SpellsStream (bytes : List ℕ) (s : Stream) : Type 0 where
   pub cuts : List Cut
   pub before : List (List ℕ)

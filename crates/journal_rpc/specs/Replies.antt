@@ -16,8 +16,8 @@ words numbers = flat_map (λ n. word.spelling n) numbers
 abbrev pub one_fragment : List ℕ → List ℕ
 one_fragment body = fragment true body
 
--- What stands behind the number of a call that is accepted: the message type 1, a reply; 0, accepted; a
--- verifier of flavor 0 with 0 bytes; and what became of the call
+-- What stands behind the number of a call that is accepted: the message type 1, a reply; 0,
+-- accepted; a verifier of flavor 0 with 0 bytes; and what became of the call
 abbrev pub accepted : ℕ → List ℕ
 accepted status = 1 ∷ 0 ∷ 0 ∷ 0 ∷ status ∷ []
 
@@ -28,8 +28,8 @@ accept_number status.ProgramMismatch = 2
 accept_number status.ProcedureUnavailable = 3
 accept_number status.GarbageArguments = 4
 
--- What stands behind the number of a call that is refused. Denied is 1, its cause here 0, and the versions
--- of RPC are from 2 to 2
+-- What stands behind the number of a call that is refused. Denied is 1, its cause here 0, and the
+-- versions of RPC are from 2 to 2
 abbrev pub why : CallRefused → List ℕ
 why RpcMismatch = 1 ∷ 1 ∷ 0 ∷ 2 ∷ 2 ∷ []
 why ProgramUnavailable = accepted 1

@@ -4,8 +4,8 @@ use Rattle.std.specs.Int.{w32, from_be_bytes}
 use Rattle.journal_rpc.specs.declared.part.Part.{Part}
 use Rattle.journal_rpc.specs.declared.part.Part.TheVariants.{Start, First, Second, Third, Body, TooLong}
 
--- What has come of a stream: the records that are complete and not yet taken, the bytes of the record that
--- is begun, and what comes next
+-- What has come of a stream: the records that are complete and not yet taken, the bytes of the
+-- record that is begun, and what comes next
 pub record Stream : Type 0 where
   pub records : List (List ℕ)
   pub begun : List ℕ
@@ -58,8 +58,8 @@ abbrev pub front_taken : {E : Type 0} → Result ℕ E → List ℕ → List ℕ
 front_taken (Ok taken) piece = take taken piece
 front_taken (Err why) piece = piece
 
--- The new stream has all that the old one had, and perhaps more: the record that was begun has grown, or it
--- is complete with what came of it
+-- The new stream has all that the old one had, and perhaps more: the record that was begun has
+-- grown, or it is complete with what came of it
 pub data ExtendsStream (old new : Stream) : Type 0 where
   Grown : (extra : List ℕ) → new.records ≡ old.records → new.begun ≡ old.begun ++ extra → ExtendsStream old new
   Completed : (extra : List ℕ) → (more : List (List ℕ)) → new.records ≡ old.records ++ (old.begun ++ extra) ∷ more → ExtendsStream old new

@@ -68,9 +68,9 @@ struct Target<'a> {
     verifier: Auth<'a>,
 }
 
-/// The call that a record's bytes are (RFC 5531, section 9), lent from them, or `None` where they are none:
-/// the header is cut short, is not a call's, or has a credential or a verifier of more than 400 bytes or
-/// with padding other than zeros.
+/// The call that a record's bytes are (RFC 5531, section 9), lent from them, or `None` where they
+/// are none: the header is cut short, is not a call's, or has a credential or a verifier of more
+/// than 400 bytes or with padding other than zeros.
 pub fn read_call(bytes: &[u8]) -> Option<Call<'_>>
     ensures reading { ReadsCall bytes.now result }
     ensures found { IfSome result (λ call. IsCall bytes.now (message_of call)) }
@@ -80,9 +80,9 @@ pub fn read_call(bytes: &[u8]) -> Option<Call<'_>>
 }
 
 impl<'a> Call<'a> {
-    /// What the call asks of a program that is served in one version, or why it is refused: it is in another
-    /// version of RPC, it asks another program, or another version of this one. The first of these that
-    /// holds is answered.
+    /// What the call asks of a program that is served in one version, or why it is refused: it is
+    /// in another version of RPC, it asks another program, or another version of this one. The
+    /// first of these that holds is answered.
     pub fn request(&self, program: u32, version: u32) -> Result<Request<'a>, CallRefused>
         ensures exact { request_of result ≡ routed program version (asked_of self.now.asked) }
         ensures cases { Routes program version (asked_of self.now.asked) result }

@@ -7,15 +7,16 @@ ghost use Rattle.journal_rpc.specs.Cuts.{Cut, record_of, cut_text, IsRecord, Spe
 ghost use Rattle.journal_rpc.specs.Replies.{one_fragment};
 ghost use Rattle.journal_rpc.specs.declared.part.Part.TheVariants.{Start, TooLong};
 
-/// The bytes of a stream are the spellings of its records, each in some cutting into fragments, and then
-/// less than another, or a header that takes the next above the limit. They spell nothing else.
+/// The bytes of a stream are the spellings of its records, each in some cutting into fragments, and
+/// then less than another, or a header that takes the next above the limit. They spell nothing
+/// else.
 pub fn streams_are_spelled()
     ensures spelled { (bytes : List ℕ) → ((i : ℕ) → slice_index bytes i < 256) → SpellsStream bytes (after fresh bytes) }
     ensures only { (bytes : List ℕ) (s : Stream) → SpellsStream bytes s → s ≡ after fresh bytes }
 {}
 
-/// A record is read in any cutting into fragments, and a stream in any pieces. Once a record was too long,
-/// nothing more comes.
+/// A record is read in any cutting into fragments, and a stream in any pieces. Once a record was
+/// too long, nothing more comes.
 pub fn cuttings_do_not_matter()
     ensures fragments { (records : List (List ℕ)) (cut : Cut) → IsRecord cut
         → after (record { records = records; begun = []; part = Start }) (cut_text cut)

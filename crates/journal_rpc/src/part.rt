@@ -1,6 +1,7 @@
 // What comes next on a stream.
 
-/// What comes next on a stream: a byte of a fragment's header, of which there are four, or of its body.
+/// What comes next on a stream: a byte of a fragment's header, of which there are four, or of its
+/// body.
 #[derive(Clone, Copy, Debug)]
 pub enum Part {
     /// The first byte of a header.

@@ -9,8 +9,8 @@ pub const HEADER_BYTES: usize = 4;
 /// The most bytes of a record that is read, its fragments together.
 pub const RECORD_BYTES: usize = 16384;
 
-/// So many complete records wait at most: no more of a piece is taken then, so that records take little memory however short
-/// they are.
+/// So many complete records wait at most: no more of a piece is taken then, so that records take
+/// little memory however short they are.
 pub const WAITING_RECORDS: usize = 1024;
 
 /// The version of RPC that is spoken.

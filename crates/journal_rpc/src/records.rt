@@ -42,14 +42,14 @@ pub enum FeedRefused {
     /// A growth was refused. Nothing has changed, and the piece may be fed again.
     #[error("no memory")]
     NoMemory,
-    /// A header took a record above `RECORD_BYTES`. The records before it stand, and no further piece
-    /// changes anything: each is refused so.
+    /// A header took a record above `RECORD_BYTES`. The records before it stand, and no further
+    /// piece changes anything: each is refused so.
     #[error("a record is too long")]
     TooLong,
 }
 
-/// The records of a stream that comes in pieces (RFC 5531, section 11). Contracts see what has come of it:
-/// the records that are complete, and what has come of the next.
+/// The records of a stream that comes in pieces (RFC 5531, section 11). Contracts see what has come
+/// of it: the records that are complete, and what has come of the next.
 #[derive(Drop)]
 pub struct Records {
     alloc: Global,
@@ -101,11 +101,11 @@ impl Records {
         }
     }
 
-    /// Takes the next piece of the stream, up to where `WAITING_RECORDS` records wait, and answers how many bytes it took.
-    /// What has come is then what would have come with these in one piece.
+    /// Takes the next piece of the stream, up to where `WAITING_RECORDS` records wait, and answers
+    /// how many bytes it took. What has come is then what would have come with these in one piece.
     ///
-    /// Where growing is refused nothing has changed. Where a header takes a record above `RECORD_BYTES`
-    /// the records before it have come, and it stays so.
+    /// Where growing is refused nothing has changed. Where a header takes a record above
+    /// `RECORD_BYTES` the records before it have come, and it stays so.
     pub fn feed(&mut self, piece: &[u8]) -> Result<usize, FeedRefused>
         ensures ok { IfOk result (λ taken. (taken ≤ length piece.now)
             × (self.new ≡ after self.old (take taken piece.now)) × (self.new.part ≢ TooLong)) }
@@ -119,7 +119,8 @@ impl Records {
         ensures too_long { IsErrOf result FeedRefused.TooLong
             → (self.new ≡ after self.old piece.now) × (self.new.part ≡ TooLong) }
 
-        // Where the bytes so far were the spellings of what had come, they are with those that were taken too.
+        // Where the bytes so far were the spellings of what had come, they are with those that were
+        // taken too.
         ensures spelled { result ≢ Err FeedRefused.NoMemory → (bytes : List ℕ) → SpellsStream bytes self.old
             → SpellsStream (bytes ++ front_taken result piece.now) self.new }
     {
@@ -207,8 +208,8 @@ impl Records {
         } else if left == 0 {
             self.end_fragment(last)?;
         } else {
-            // All of the fragment gets room at once. What may come behind it gets none yet, so that a record of many small
-            // fragments takes no more memory than it has bytes.
+            // All of the fragment gets room at once. What may come behind it gets none yet, so that
+            // a record of many small fragments takes no more memory than it has bytes.
             self.begun.reserve(left)?;
             self.part = Part::Body { last, left };
         }

@@ -53,8 +53,8 @@ impl Results for () {
     }
 }
 
-/// The reply to the call with this number (RFC 5531, section 9): its results, or why it is refused. It is a
-/// record of one fragment, with its header.
+/// The reply to the call with this number (RFC 5531, section 9): its results, or why it is refused.
+/// It is a record of one fragment, with its header.
 ///
 /// The reply is written in one buffer, for which `room` bytes are reserved; a longer one grows it.
 pub fn write_reply<R: Results>(
@@ -114,7 +114,8 @@ fn write_refusal(writer: &mut Writer, refusal: CallRefused) -> Result<(), AllocE
     }
 }
 
-// Writes what stands behind the number of a call that is accepted: a verifier of no bytes, and the status.
+// Writes what stands behind the number of a call that is accepted: a verifier of no bytes, and the
+// status.
 fn write_accepted(writer: &mut Writer, status: AcceptStatus) -> Result<(), AllocError>
     ensures { OnOk result (writer.new ≡ writer.old ++ words (accepted (accept_number status))) }
 {

@@ -45,7 +45,8 @@ chosen-none p b = ap (λ (ws : List Bytes). newest ws (stable_of p b)) (drop_of_
 stable_image : (p : Past) (b : ℕ) → b < p.size → block_at (image_of p []) b ≡ stable_of p b
 stable_image p b lt = get_or-map-range_with_len (chosen p []) 0 p.size b b [] lt (omega arith) ∙ chosen-none p b
 
--- a disk on which nothing was pending, and at most a write was made since, reads as before after such a crash
+-- a disk on which nothing was pending, and at most a write was made since, reads as before after
+-- such a crash
 pub reads_kept : (old mid : Past) (new : MemState) (block : ℕ) (bytes : Bytes) → IsSettled old
     → MayHaveHappened (write block bytes) old mid → new ≡ disk_from mid.size (image_of mid []) → ReadsAsBefore old new.past
 reads_kept old mid new block bytes settled happened anew = record {

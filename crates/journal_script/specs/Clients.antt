@@ -29,7 +29,8 @@ pub record ClientState : Type 0 where
   pub session : SessionState
   pub txn : Option TxnState
 
--- the transaction that a line finds: the open one, or one that begins, after all that the session has then seen
+-- the transaction that a line finds: the open one, or one that begins, after all that the session
+-- has then seen
 abbrev pub FindsTransaction : ClientState → TxnState → SessionState → Type 0
 FindsTransaction old t session = MatchOption old.txn
     (OnlyExtends old.session session × (t ≡ begun session.seen))
@@ -122,7 +123,8 @@ IsRefusal command why = ⊥
 abbrev pub IsRefused : (Refusal CauseState → Type 0) → Answer → Type 0
 IsRefused may_come answer = (why : Refusal CauseState) × may_come why × Refuses why answer
 
--- what a command gives that is done and looks at no transaction, of a journal over a disk of a layout
+-- what a command gives that is done and looks at no transaction, of a journal over a disk of a
+-- layout
 abbrev pub GivesAnswer : Shape → Command → Answer → Type 0
 GivesAnswer layout commands.Wait (answers.Stable n) = Unit {0}
 GivesAnswer layout (commands.Log most) (answers.Logged n) = n ≤ most_of most
@@ -137,8 +139,8 @@ GivesAnswer layout (commands.Poke block at v) answers.Up = block < layout.blocks
 GivesAnswer layout (commands.Poke block at v) answers.BadLine = block < layout.blocks → ⊥
 GivesAnswer layout command answer = ⊥
 
--- What a command is answered, and leaves, of a journal over a disk of a layout. `put` and `get` begin a transaction where none is
--- open, also where they are refused
+-- What a command is answered, and leaves, of a journal over a disk of a layout. `put` and `get`
+-- begin a transaction where none is open, also where they are refused
 abbrev pub Obeys : Shape → ClientState → Command → Answer → ClientState → Type 0
 Obeys layout old (commands.Put a v) answers.Done new = PutsValue layout old a v.now new
 Obeys layout old (commands.Put a v) answer new = KeepsOpen old (λ t. IsRefused (IsOverwriteRefusal layout t a v.now) answer) new

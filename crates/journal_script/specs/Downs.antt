@@ -35,7 +35,8 @@ Pokes old block at bytes (answers.Refused why) new = (block < old.size) × ((why
 Pokes old block at bytes answers.BadLine new = (block < old.size → ⊥) × (new ≡ old)
 Pokes old block at bytes _ new = ⊥
 
--- What a command is answered, and leaves. `open` has no answer here: the loop that mounts disks gives it
+-- What a command is answered, and leaves. `open` has no answer here: the loop that mounts disks
+-- gives it
 abbrev pub ObeysDown : Past → Command → Option Answer → Past → Type 0
 ObeysDown old (commands.Disk block at len) (Some answer) new = ShowsBytes old block at len answer × (new ≡ old)
 ObeysDown old (commands.Poke block at v) (Some answer) new = Pokes old block at v.now answer new

@@ -26,8 +26,8 @@ use Rattle.journal_script.specs.Downs.{AnswersDown}
 use Rattle.journal_command.specs.Commands.{LineSays}
 use Rattle.journal_command.specs.Lines.{first_line, kept, TakesLine}
 
--- What contracts see of a console: the bytes that are left of the input, the line that was read last, and whether some line
--- was bad
+-- What contracts see of a console: the bytes that are left of the input, the line that was read
+-- last, and whether some line was bad
 pub record ConsoleState : Type 0 where
   pub left : Option (List ℕ)
   pub line : List ℕ
@@ -56,7 +56,8 @@ abbrev pub IsOpened : Answer → Type 0
 IsOpened answers.Opened = Unit {0}
 IsOpened answer = (old : DiskState) × (new : DiskState) × IsRefused (IsOpenRefusal (λ _. Unit {0}) old new) answer
 
--- The line is answered so: by a journal; by a crash that opens no disk; by a disk that is down; or by what comes of an opening
+-- The line is answered so: by a journal; by a crash that opens no disk; by a disk that is down; or
+-- by what comes of an opening
 abbrev pub IsAnswerTo : List ℕ → Answer → Type 0
 IsAnswerTo line answer =
     RepliesUp line (Continue answer)

@@ -36,7 +36,8 @@ pub struct Crash {
     pub opens: bool,
 }
 
-/// The client of an open journal: its session, and the transaction that is open. It must be ended, by `end`.
+/// The client of an open journal: its session, and the transaction that is open. It must be ended,
+/// by `end`.
 pub struct Client<'j, 'b, J: Naming> {
     alloc: Global,
     blocks: u64,

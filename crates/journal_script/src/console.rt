@@ -9,11 +9,11 @@ use std::alloc::Global;
 use std::io::{Read, Write};
 use std::marker::Model;
 
-/// The input of a script, with all the memory that its lines share. What is printed goes to the output that
-/// each call is lent.
+/// The input of a script, with all the memory that its lines share. What is printed goes to the
+/// output that each call is lent.
 ///
-/// Contracts see what is left of the input, where it is known, the line that was read last, and whether some
-/// line was bad.
+/// Contracts see what is left of the input, where it is known, the line that was read last, and
+/// whether some line was bad.
 #[derive(Drop)]
 pub struct Console<I: Read> {
     pub lines: Lines<I>,
@@ -47,8 +47,8 @@ impl<I: Read + Drop> Console<I> {
         })
     }
 
-    /// Reads the next line. `false` at the end of the input. Where the line is not at hand, what was printed is
-    /// written out first, since the writer of the input may wait for that answer.
+    /// Reads the next line. `false` at the end of the input. Where the line is not at hand, what
+    /// was printed is written out first, since the writer of the input may wait for that answer.
     pub fn advance<O: Write>(&mut self, output: &mut O) -> Result<bool, ScriptFault>
         ensures { IfOk result (TakesLineOrEnd (streams self.old (O.contents output.old)) (streams self.new (O.contents output.new))) }
     {

@@ -140,8 +140,8 @@ fn next_after(crash: Option<Crash>, disk: MemDisk) -> Next
     }
 }
 
-// Answers the line that asked for the opening, where one did, and then lines in a session that is given back. `None` at
-// the end of the input.
+// Answers the line that asked for the opening, where one did, and then lines in a session that is
+// given back. `None` at the end of the input.
 fn answer_lines<'b, J: Naming, W: Wait, I: Read + Drop, O: Write>(
     rt: &W,
     alloc: Global,

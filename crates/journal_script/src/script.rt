@@ -28,7 +28,8 @@ pub enum Next {
     End,
 }
 
-/// Answers the lines of the input, over a new disk of so many blocks, and tells whether some line was bad.
+/// Answers the lines of the input, over a new disk of so many blocks, and tells whether some line
+/// was bad.
 ///
 /// What was answered is written out as soon as no further line is at hand.
 pub fn run<W: Wait, I: Read, O: Write>(
@@ -40,8 +41,8 @@ pub fn run<W: Wait, I: Read, O: Write>(
 ) -> Result<bool, ScriptFault>
     requires { IsSize blocks }
 
-    // The output gained the answers of all lines of the input, in order, of which some is a bad line exactly where it says
-    // so. Where it is given up, nothing is said of what was printed.
+    // The output gained the answers of all lines of the input, in order, of which some is a bad
+    // line exactly where it says so. Where it is given up, nothing is said of what was printed.
     ensures { Runs (I.remaining input.old) (O.contents output.old) (O.contents output.new) result }
 {
     let mut console = Console::new(alloc, input)?;

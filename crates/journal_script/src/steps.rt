@@ -50,8 +50,8 @@ fn step<'b, J: Naming, W: Wait>(
     }
 }
 
-// The logger's next step where not all commits are marked, or the installer's where that one waits for a
-// place in the log.
+// The logger's next step where not all commits are marked, or the installer's where that one waits
+// for a place in the log.
 fn wait_step<'b, J: Naming, W: Wait>(
     rt: &W,
     journal: &Journal<'b, MemDisk, AnyMap, J>,

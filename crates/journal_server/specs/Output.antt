@@ -11,7 +11,8 @@ use Rattle.journal_nfs3.specs.Served.{marked}
 use Rattle.journal_nfs3.specs.Answers.{AnswersAs}
 use Rattle.journal_server.specs.Protocols.{Answering}
 
--- The text is the reply to the call at some moment that the clock may tell. What of it is to be stable is marked in the history. The session has then seen what the call came to, or more
+-- The text is the reply to the call at some moment that the clock may tell. What of it is to be
+-- stable is marked in the history. The session has then seen what the call came to, or more
 pub record IsReplyBy (replies : Answering) (tells : Time → Type 0) (history : List Entry) (call : Message) (old new : SessionState) (text : List ℕ) : Type 0 where
   pub moment : Time
   pub told : tells moment
@@ -31,7 +32,8 @@ IsReply version tells verifier history call old new text = IsReplyBy (nine versi
 abbrev pub records_of : List ℕ → List (List ℕ)
 records_of input = (after fresh input).records
 
--- A call has a reply at the front of the text, which leads from one state to another, and the rest of the text goes on from there
+-- A call has a reply at the front of the text, which leads from one state to another, and the rest
+-- of the text goes on from there
 abbrev pub IsRepliedThen : {S : Type 0} → (Message → S → S → List ℕ → Type 0) → Message → S → List ℕ → (S → List ℕ → Type 0) → Type 0
 IsRepliedThen {S} answers call old text goes_on = (mid : S) × (reply : List ℕ) × (more : List ℕ) × answers call old mid reply × goes_on mid more × (text ≡ reply ++ more)
 

@@ -74,6 +74,7 @@ IsFresh is_seat pass = is_seat pass × (view pass ≡ pass_state 1 [] [])
 abbrev pub IsUncut : {T : Type 0} → (Pass (Job T) PassState → Type 0) → Pass (Job T) PassState → Type 0
 IsUncut is_seat pass = is_seat pass × (view pass ≡ pass_state 65 [] [])
 
--- What a worker gives back: it has put nothing, and there is a note of each connection that it took, unless memory was refused
+-- What a worker gives back: it has put nothing, and there is a note of each connection that it
+-- took, unless memory was refused
 abbrev pub IsWork : {T N : Type 0} → (Pass (Job T) PassState → Type 0) → (N → ℕ) → Work T N → Type 0
 IsWork is_seat about w = is_seat w.pass × ((view w.pass).parts ≡ 1) × ((view w.pass).put ≡ []) × (w.is_whole ≡ true → (view w.pass).taken ≡ numbers_by about w.notes.items)

@@ -41,7 +41,8 @@ pub record Doing : Type 0 where
 abbrev pub doing : SessionState → List BatchEntry → Doing
 doing session behind = record { session = session; behind = behind }
 
--- The text is the reply to the call as it is held, and what is known of it is the first that is left
+-- The text is the reply to the call as it is held, and what is known of it is the first that is
+-- left
 pub record IsHeld (replies : Answering) (tells : Time → Type 0) (call : Message) (old new : Doing) (text : List ℕ) : Type 0 where
   pub soon : PendingReply CommitPlace
   pub done : IsNoWaitReply replies tells call old.session new.session soon
@@ -73,7 +74,8 @@ abbrev pub AreWaitedFor : Option CommitPlace → List BatchEntry → Type 0
 AreWaitedFor None hs = hs ≡ []
 AreWaitedFor (Some receipt) hs = (hs ≢ []) × AreCovered receipt.count hs
 
--- The bytes are those of the replies. Those in front are owed nothing, and the receipt that is waited for covers the others
+-- The bytes are those of the replies. Those in front are owed nothing, and the receipt that is
+-- waited for covers the others
 pub record IsInOrder (h : ReplyBatch CommitPlace) : Type 0 where
   pub front : List BatchEntry
   pub others : List BatchEntry
@@ -85,7 +87,8 @@ pub record IsInOrder (h : ReplyBatch CommitPlace) : Type 0 where
 
 -- ---- what is told
 
--- A reply is told as it is held where nothing is owed for it, or where a mark of the history covers it; and else by a text that takes its place
+-- A reply is told as it is held where nothing is owed for it, or where a mark of the history covers
+-- it; and else by a text that takes its place
 abbrev pub SettlesOne : Answering → List Entry → Option BatchWait → List ℕ → List ℕ → Type 0
 SettlesOne replies history None reply text = text ≡ reply
 SettlesOne replies history (Some wait) reply text = ((wait.commits ≤ floor history) × (text ≡ reply)) ⊎ StandsInFor replies wait.xid wait.procedure text

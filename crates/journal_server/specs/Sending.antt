@@ -112,7 +112,8 @@ Takes Overlong old new piece = (new ≡ after old piece) × (new.part ≡ TooLon
 abbrev pub StreamGoesOn : {S : Type 0} → (Message → S → S → List ℕ → Type 0) → Stream → Stream → S → S → Option (List ℕ) → Option (List ℕ) → ℕ → ℕ → Type 0
 StreamGoesOn answers fed new before now held holds count counted = Sent answers fed new before now held holds count counted × (fed.part ≢ TooLong)
 
--- a piece has come, and its calls were answered up to a bad record: a header that goes above the limit, or a record that is no call
+-- a piece has come, and its calls were answered up to a bad record: a header that goes above the
+-- limit, or a record that is no call
 abbrev pub EndsBad : {S : Type 0} → (Message → S → S → List ℕ → Type 0) → Stream → Stream → S → S → Option (List ℕ) → Option (List ℕ) → ℕ → ℕ → Type 0
 EndsBad answers fed new before now held holds count counted =
     ((fed.part ≡ TooLong) × Sent answers fed new before now held holds count counted) ⊎ SentUpToBad answers fed before now held holds count counted

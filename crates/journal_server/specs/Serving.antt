@@ -9,7 +9,8 @@ use Rattle.journal_server.specs.Output.{RepliesUpToBad, AllReplies, records_of, 
 use Rattle.journal_server.specs.Connections.{IsEnd, IsBeginning}
 use Rattle.journal_server.specs.Sending.{GrowsBy}
 
--- what was read, what was written, and what stands in the one about the other, at a connection's end
+-- what was read, what was written, and what stands in the one about the other, at a connection's
+-- end
 pub record Finished {S : Type 0} (answers : Message → S → S → List ℕ → Type 0) (from left held holds : Option (List ℕ)) (old new : S) (answered : ℕ) (end : End) : Type 0 where
   pub input : List ℕ
   pub text : List ℕ
@@ -27,7 +28,8 @@ pub record Failed {S : Type 0} (answers : Message → S → S → List ℕ → T
   pub wrote : Appends held holds text
   pub begun : IsBeginning answers (records_of input) old new text
 
--- A connection so far: its complete records are calls and were answered, and what has come behind them is not more than a begun record
+-- A connection so far: its complete records are calls and were answered, and what has come behind
+-- them is not more than a begun record
 pub record SoFar {S : Type 0} (answers : Message → S → S → List ℕ → Type 0) (from left held holds : Option (List ℕ)) (waiting : Stream) (start now : S) (count : ℕ) : Type 0 where
   pub input : List ℕ
   pub text : List ℕ

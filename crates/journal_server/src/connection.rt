@@ -22,8 +22,8 @@ use std::alloc::Global;
 use std::io::{Read, Write};
 use std::sync::Wait;
 
-// The most bytes that are read at once. The calls of a piece that are to be stable are waited for once: so a piece holds
-// thirty-one WRITEs of a whole block.
+// The most bytes that are read at once. The calls of a piece that are to be stable are waited for
+// once: so a piece holds thirty-one WRITEs of a whole block.
 const PIECE_BYTES: usize = 131_072;
 
 /// How a connection ended that was served to its end.
@@ -33,7 +33,8 @@ pub enum End {
     EndOfInput,
     /// The input ended within a record, which has no reply.
     Truncated,
-    /// A record was no call, or was longer than `journal_rpc::RECORD_BYTES`. What came behind it has no reply.
+    /// A record was no call, or was longer than `journal_rpc::RECORD_BYTES`. What came behind it
+    /// has no reply.
     BadRecord,
 }
 
@@ -44,8 +45,9 @@ pub struct Served {
     pub answered: u64,
     /// How the connection ended.
     pub end: End,
-    /// Whether the session's fence stands: a yes says that the session has seen it, so that no commit is added under its number
-    /// from then on. A no says that the fence was refused, which changes nothing else.
+    /// Whether the session's fence stands: a yes says that the session has seen it, so that no
+    /// commit is added under its number from then on. A no says that the fence was refused, which
+    /// changes nothing else.
     pub fenced: bool,
 }
 
@@ -70,15 +72,16 @@ pub enum ConnFault {
 /// the first bad record, each at the clock's moment behind the gate, which it passes as `number`
 /// with the count of the calls before it. The replies go to the writer.
 ///
-/// It reads at most 128 KiB at once, and answers all calls that are complete then, in turns of at most 64 KiB or 1024
-/// replies, before it reads on. Of a turn it does all calls, and waits once until the last of those is stable that are to be:
-/// the replies in front of the first of them go out before, and the others after. It may wait for the peer, and for the
-/// journal.
+/// It reads at most 128 KiB at once, and answers all calls that are complete then, in turns of at
+/// most 64 KiB or 1024 replies, before it reads on. Of a turn it does all calls, and waits once
+/// until the last of those is stable that are to be: the replies in front of the first of them go
+/// out before, and the others after. It may wait for the peer, and for the journal.
 ///
-/// At every end it fences the session, also where it gives up: so nothing is committed under its number later.
+/// At every end it fences the session, also where it gives up: so nothing is committed under its
+/// number later.
 ///
-/// Where it gives up, some of the records that it read were answered, from the first on, and their replies were
-/// written up to some byte: a call whose reply could not be written was done.
+/// Where it gives up, some of the records that it read were answered, from the first on, and their
+/// replies were written up to some byte: a call whose reply could not be written was done.
 pub fn serve<
     'b,
     R: Read,
@@ -101,10 +104,11 @@ pub fn serve<
     gate: &G,
     number: u64,
 ) -> Result<Served, ConnFault>
-    // What was written is the replies to the records of what was read, in order, up to the first that is no call. Each
-    // is its call's reply at a moment of the clock, between the history that the session had seen after the reply before it
-    // and the one that it saw then. A change that has to be stable is marked in the history that the session had seen after
-    // the last reply. It has only seen more since, the fence.
+    // What was written is the replies to the records of what was read, in order, up to the first
+    // that is no call. Each is its call's reply at a moment of the clock, between the history that
+    // the session had seen after the reply before it and the one that it saw then. A change that
+    // has to be stable is marked in the history that the session had seen after the last reply. It
+    // has only seen more since, the fence.
     ensures replies { IfOk result (λ served. Exchanges (R.remaining reader.old) (R.remaining reader.new) (W.contents writer.old) (W.contents writer.new)
         (λ input text. IsBefore session.new (λ last. RepliesUpToBad (IsReply V.VERSION (C.tells clock.now) verifier.0 last.seen) (records_of input) session.old last text))) }
 
@@ -119,8 +123,9 @@ pub fn serve<
     // The fence stands where it says so.
     ensures fenced { IfOk result (λ served. IsTrue served.fenced → is_fenced session.new.number session.new.seen ≡ true) }
 
-    // Where it gave up, what was written is a beginning of the replies to a front of the records of what was read, and
-    // the session has seen what these come to, with the marks of what was written, and then at most more.
+    // Where it gave up, what was written is a beginning of the replies to a front of the records of
+    // what was read, and the session has seen what these come to, with the marks of what was
+    // written, and then at most more.
     ensures given_up { OnErr result (Exchanges (R.remaining reader.old) (R.remaining reader.new) (W.contents writer.old) (W.contents writer.new)
         (λ input text. IsBefore session.new (λ last. IsBeginning (IsReply V.VERSION (C.tells clock.now) verifier.0 last.seen) (records_of input) session.old last text))) }
 {
@@ -155,10 +160,11 @@ pub fn serve_protocol<
     gate: &G,
     number: u64,
 ) -> Result<Served, ConnFault>
-    // What was written is the replies to the records of what was read, in order, up to the first that is no call. Each
-    // is its call's reply at a moment of the clock, between the history that the session had seen after the reply before it
-    // and the one that it saw then. A change that has to be stable is marked in the history that the session had seen after
-    // the last reply. It has only seen more since, the fence.
+    // What was written is the replies to the records of what was read, in order, up to the first
+    // that is no call. Each is its call's reply at a moment of the clock, between the history that
+    // the session had seen after the reply before it and the one that it saw then. A change that
+    // has to be stable is marked in the history that the session had seen after the last reply. It
+    // has only seen more since, the fence.
     ensures replies { IfOk result (λ served. Exchanges (R.remaining reader.old) (R.remaining reader.new) (W.contents writer.old) (W.contents writer.new)
         (λ input text. IsBefore session.new (λ last. RepliesUpToBad (IsReplyBy (P.answers protocol.now) (C.tells clock.now) last.seen) (records_of input) session.old last text))) }
 
@@ -173,8 +179,9 @@ pub fn serve_protocol<
     // The fence stands where it says so.
     ensures fenced { IfOk result (λ served. IsTrue served.fenced → is_fenced session.new.number session.new.seen ≡ true) }
 
-    // Where it gave up, what was written is a beginning of the replies to a front of the records of what was read, and
-    // the session has seen what these come to, with the marks of what was written, and then at most more.
+    // Where it gave up, what was written is a beginning of the replies to a front of the records of
+    // what was read, and the session has seen what these come to, with the marks of what was
+    // written, and then at most more.
     ensures given_up { OnErr result (Exchanges (R.remaining reader.old) (R.remaining reader.new) (W.contents writer.old) (W.contents writer.new)
         (λ input text. IsBefore session.new (λ last. IsBeginning (IsReplyBy (P.answers protocol.now) (C.tells clock.now) last.seen) (records_of input) session.old last text))) }
 {

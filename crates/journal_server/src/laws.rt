@@ -13,14 +13,17 @@ ghost use Rattle.journal_server.specs.Output.{IsReply, RepliesUpToBad, AllReplie
 
 use crate::service::Clock;
 
-/// What the session had seen before the replies of a connection it has seen after them, with each mark. So where an
-/// operation that waits until it is stable was answered OK, a mark covers its commit, at its place, and all commits
-/// before it, whenever `serve` returns: also where it gave up behind that reply, since a front of the records that
-/// were all replied is a connection's output too.
+/// What the session had seen before the replies of a connection it has seen after them, with each
+/// mark. So where an operation that waits until it is stable was answered OK, a mark covers its
+/// commit, at its place, and all commits before it, whenever `serve` returns: also where it gave up
+/// behind that reply, since a front of the records that were all replied is a connection's output
+/// too.
 ///
-/// A session that has only seen more since, as `serve` leaves it behind the last reply, has that commit and that mark.
+/// A session that has only seen more since, as `serve` leaves it behind the last reply, has that
+/// commit and that mark.
 ///
-/// COMMIT, SETATTR, CREATE, REMOVE, and WRITE with DATA_SYNC or FILE_SYNC wait so (RFC 1813, sections 3.3.7 and 3.3.21).
+/// COMMIT, SETATTR, CREATE, REMOVE, and WRITE with DATA_SYNC or FILE_SYNC wait so (RFC 1813,
+/// sections 3.3.7 and 3.3.21).
 pub fn what_was_stable_stays_stable<C: Clock>(clock: &C)
     ensures grows { (version : FormatVersion) (verifier : List ℕ) (records : List (List ℕ)) (old new : SessionState) (text : List ℕ)
         (history : List Entry) → RepliesUpToBad (IsReply version (C.tells clock.now) verifier history) records old new text

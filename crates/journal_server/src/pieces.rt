@@ -28,11 +28,11 @@ pub(crate) enum Taken {
     Overlong,
 }
 
-// Answers the calls of a piece, and sends the replies. `false` says that the connection ends with it: a record is no call, or
-// too long.
+// Answers the calls of a piece, and sends the replies. `false` says that the connection ends with
+// it: a record is no call, or too long.
 //
-// A piece of records that are short has far more of them than one of calls, and each takes memory. So they are taken and
-// answered some at a time.
+// A piece of records that are short has far more of them than one of calls, and each takes memory.
+// So they are taken and answered some at a time.
 pub(crate) fn answer_piece<
     'b,
     D: BlockDisk,

@@ -20,8 +20,8 @@ use std::alloc::{AllocError, Global};
 use std::io::Write;
 use std::sync::Wait;
 
-// So many bytes of replies are sent before more calls are answered, so that the memory for them stays small however much
-// the calls ask for.
+// So many bytes of replies are sent before more calls are answered, so that the memory for them
+// stays small however much the calls ask for.
 const BYTES_AT_ONCE: usize = 65536;
 
 // So many replies are, so that the room for what is known of each is reserved once.
@@ -77,7 +77,8 @@ impl<'b, J: Naming, R: MapRule> ReplyBatch<Receipt<'b, J, R>> {
         self.latest = None;
     }
 
-    // Makes room for what is known of one more reply. It takes no memory where the turn is not full.
+    // Makes room for what is known of one more reply. It takes no memory where the turn is not
+    // full.
     pub fn make_room(&mut self) -> Result<(), AllocError>
         ensures room { OnOk result (vec_len self.new.replies < vec_capacity self.new.replies) }
         ensures bytes { self.new.bytes.items ≡ self.old.bytes.items }
@@ -128,7 +129,8 @@ impl<'b, J: Naming, R: MapRule> ReplyBatch<Receipt<'b, J, R>> {
     }
 }
 
-// The later of the two receipts that are waited for. Each commit is counted after those before it, so it is the second one.
+// The later of the two receipts that are waited for. Each commit is counted after those before it,
+// so it is the second one.
 fn later<'b, J: Naming, R: MapRule>(
     latest: Option<Receipt<'b, J, R>>,
     receipt: Receipt<'b, J, R>,
@@ -142,8 +144,9 @@ fn later<'b, J: Naming, R: MapRule>(
     }
 }
 
-// Sends the replies that are held. Those in front of the first that waits go out first; then it waits once, until the last
-// commit that is waited for is stable. Where that is refused, each reply whose mark does not stand is sent as refused.
+// Sends the replies that are held. Those in front of the first that waits go out first; then it
+// waits once, until the last commit that is waited for is stable. Where that is refused, each reply
+// whose mark does not stand is sent as refused.
 pub(crate) fn send_batch<
     'b,
     D: BlockDisk,
@@ -219,8 +222,8 @@ fn send<W: Write>(writer: &mut W, bytes: &[u8]) -> Result<(), ConnFault>
     }
 }
 
-// What is sent where the wait was refused: each reply as it is held where its mark stands or it has no wait, and
-// else its refusal.
+// What is sent where the wait was refused: each reply as it is held where its mark stands or it has
+// no wait, and else its refusal.
 fn settled<'b, D: BlockDisk, J: Naming, V: Version, P: Protocol<V>, C: Clock, G: Gate, E>(
     service: &Service<'_, 'b, D, J, V, P, C, G>,
     session: &mut Session<'b, J, SoundFiles<V>>,

@@ -29,8 +29,8 @@ pub(crate) enum Turn {
     Stopped,
 }
 
-// Answers the records that wait up to their commits, in order, holds the replies, and counts them, until there are enough
-// to be sent.
+// Answers the records that wait up to their commits, in order, holds the replies, and counts them,
+// until there are enough to be sent.
 pub(crate) fn answer_waiting<
     'b,
     D: BlockDisk,
@@ -71,8 +71,9 @@ pub(crate) fn answer_waiting<
     Ok(Turn::Emptied)
 }
 
-// Answers the records that wait, and sends the replies: those of a turn after one wait. `holding` is room for them. `false`
-// says that one of the records is no call: the ones behind it are not answered.
+// Answers the records that wait, and sends the replies: those of a turn after one wait. `holding`
+// is room for them. `false` says that one of the records is no call: the ones behind it are not
+// answered.
 pub(crate) fn answer_and_send<
     'b,
     D: BlockDisk,

@@ -10,12 +10,13 @@ pub trait Connection {
     /// A worker has taken it. Called once, before all else.
     fn begin(&self) {}
 
-    /// Takes bytes from the peer, and answers how many: none only where the peer sends no more, or where there is no
-    /// room. It may wait for the peer, and fail where that takes too long.
+    /// Takes bytes from the peer, and answers how many: none only where the peer sends no more, or
+    /// where there is no room. It may wait for the peer, and fail where that takes too long.
     fn receive(&self, into: &mut [u8]) -> io::Result<usize>
         ensures bound { ReadsAtMost result into.new };
 
-    /// Gives bytes to the peer, and answers how many it took. It may wait for the peer, and fail where that takes too long.
+    /// Gives bytes to the peer, and answers how many it took. It may wait for the peer, and fail
+    /// where that takes too long.
     fn send(&self, from: &[u8]) -> io::Result<usize>
         ensures bound { WritesAtMost result from.now };
 

@@ -10,8 +10,8 @@ use std::sync::atomic::{AtomicU64, Ordering};
 use std::time::{Clock, Duration};
 use std::{io, thread};
 
-// A call that waits for the peer is made again after so many seconds, and looks in between whether another connection
-// waits for a worker.
+// A call that waits for the peer is made again after so many seconds, and looks in between whether
+// another connection waits for a worker.
 const TURN_SECS: u64 = 1;
 
 const MILLIS: u64 = 1000;
@@ -22,8 +22,8 @@ const SECS_ALONE: u64 = 300;
 
 const SECS_WHILE_OTHERS_WAIT: u64 = 5;
 
-// How many milliseconds a peer that still sends is waited for once its connection is closed, for each piece, and how many
-// pieces of what it sends are taken.
+// How many milliseconds a peer that still sends is waited for once its connection is closed, for
+// each piece, and how many pieces of what it sends are taken.
 const LINGER_MILLIS: u64 = 250;
 
 const LAST_PIECES: usize = 8;
@@ -40,8 +40,8 @@ const LAST_PAUSE_MILLIS: u64 = 1000;
 // ENETDOWN, ECONNABORTED and ENOBUFS.
 const PASSING: [i32; 8] = [4, 12, 23, 24, 71, 100, 103, 105];
 
-/// The connections that wait for a worker. A port and its connections share it, so that who holds a worker without need
-/// makes room.
+/// The connections that wait for a worker. A port and its connections share it, so that who holds a
+/// worker without need makes room.
 #[derive(Drop)]
 pub struct WaitingConnections {
     waiting: AtomicU64,
@@ -94,7 +94,8 @@ impl<'l, R: Clock> Drop for Peer<'l, R> {
 impl<'l, R: Clock> Peer<'l, R> {
     // A connection that was just taken, and waits for a worker.
     fn new(rt: &'l R, stream: TcpStream, waiting: &'l WaitingConnections) -> Peer<'l, R> {
-        // It is slower with Nagle's delay, and else the same. The system takes each limit of time but 0.
+        // It is slower with Nagle's delay, and else the same. The system takes each limit of time
+        // but 0.
         let _ = stream.set_nodelay(true);
         let turn = Duration::from_secs(TURN_SECS);
         let _ = stream.set_read_timeout(Some(turn));
@@ -181,8 +182,8 @@ impl<R: Clock> Connection for Peer<'_, R> {
         Err(ErrorKind::TimedOut.into())
     }
 
-    // A socket that is closed with input unread is reset, and replies on their way are lost with it. So the peer is told
-    // that no more comes, and what it still sends is taken for a while.
+    // A socket that is closed with input unread is reset, and replies on their way are lost with
+    // it. So the peer is told that no more comes, and what it still sends is taken for a while.
     fn close(self) {
         let mut stream = &self.stream;
         let linger = Duration::from_millis(LINGER_MILLIS);

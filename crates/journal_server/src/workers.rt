@@ -92,7 +92,8 @@ impl Note for Tick {
     }
 }
 
-// What serves the connections that workers take, under their numbers. `None` says that one could not be begun.
+// What serves the connections that workers take, under their numbers. `None` says that one could
+// not be begun.
 trait Serve<S> {
     fn serve<H: Wait>(&self, rt: &H, number: u64, connection: S) -> Option<Outcome>;
 }
@@ -215,7 +216,8 @@ impl<
     }
 }
 
-// What a worker gives back: its pass, its notes, and whether there is one of each connection that it took.
+// What a worker gives back: its pass, its notes, and whether there is one of each connection that
+// it took.
 #[derive(Drop)]
 struct Work<S: Drop, N: Drop> {
     pass: Pass<Job<S>, PassState>,
@@ -223,8 +225,8 @@ struct Work<S: Drop, N: Drop> {
     is_whole: bool,
 }
 
-// Serves connections until it takes a stop. Where memory for a note is refused it goes on serving, so that nobody waits
-// for room in the queue for ever.
+// Serves connections until it takes a stop. Where memory for a note is refused it goes on serving,
+// so that nobody waits for room in the queue for ever.
 #[tactic(auto, using(crate::proofs::Steps::noted))]
 fn work_on<S: Drop, K: Serve<S>, N: Note + Drop, H: Wait>(
     rt: &H,
@@ -272,8 +274,8 @@ impl<'l, S: Drop, N: Note + Drop> Promise<Work<S, N>> for Works<'l, S> {
     ghost kept_by = { λ p work. IsWork (IsSeatAt (receives_on p.0.now)) N.about work };
 }
 
-// Puts the connections of the source into the queue, each under its number. Answers how many there were, or `None` where
-// one could not be put.
+// Puts the connections of the source into the queue, each under its number. Answers how many there
+// were, or `None` where one could not be put.
 fn hand_out<I: Source, H: Wait>(
     rt: &H,
     source: &mut I,
@@ -356,8 +358,8 @@ fn absorb<S: Drop>(
     queue.absorb::<Cut>(pass, other);
 }
 
-// Takes in a worker's work: what its pass has done, and its notes. It is refused where memory was refused to the
-// worker, or is now.
+// Takes in a worker's work: what its pass has done, and its notes. It is refused where memory was
+// refused to the worker, or is now.
 fn take_in<S: Drop, N: Note + Drop>(
     queue: &QueueSender<S>,
     pass: &mut Pass<Job<S>, PassState>,
@@ -395,14 +397,15 @@ fn is_drained<S: Drop, H: Wait>(
     queue.try_recv_as::<Drains, H>(rt, pass).is_err()
 }
 
-/// Serves all connections of the source, by four workers in threads of their own, and returns when each has ended, with
-/// the source. They are numbered from 0 as they come, and at most 16 wait for a worker. Each is served by `serve`, with its
-/// number and with a session of its own, and closed then. One that waits for its peer holds its own worker alone.
+/// Serves all connections of the source, by four workers in threads of their own, and returns when
+/// each has ended, with the source. They are numbered from 0 as they come, and at most 16 wait for
+/// a worker. Each is served by `serve`, with its number and with a session of its own, and closed
+/// then. One that waits for its peer holds its own worker alone.
 ///
 /// The outcomes are those of all connections that the source gave, each once, in no order.
 ///
-/// Answers J1 `NoMemory` where memory or a thread was refused, and J11 `Worn` where a session was. All other connections
-/// are served nevertheless.
+/// Answers J1 `NoMemory` where memory or a thread was refused, and J11 `Worn` where a session was.
+/// All other connections are served nevertheless.
 pub fn run_workers<
     's,
     'b,
@@ -443,8 +446,8 @@ where
     )
 }
 
-/// Serves all connections of the source as `run_workers` does, and forgets how each ended: what it keeps of a connection
-/// takes no memory, however many there are.
+/// Serves all connections of the source as `run_workers` does, and forgets how each ended: what it
+/// keeps of a connection takes no memory, however many there are.
 ///
 /// Answers how many there were, each served once, or what `run_workers` is refused by.
 pub fn serve_all<
@@ -712,8 +715,8 @@ fn spawn_workers<
     Ok(workers)
 }
 
-// The notes of all workers, where so many connections were put. It is refused where one could not be, where a worker was
-// refused, or where memory is now.
+// The notes of all workers, where so many connections were put. It is refused where one could not
+// be, where a worker was refused, or where memory is now.
 fn join_workers<'l, S: Drop, N: Note + Drop, H: Threads + Wait>(
     rt: &H,
     alloc: Global,

@@ -21,13 +21,14 @@ use std::sync::Wait;
 // The root directory's number and generation.
 const ROOT: u32 = 1;
 
-/// Mounts the disk in the file, and prints that it is sound, its version and how many files it has. The files are not
-/// changed, and nothing is written to the disk.
+/// Mounts the disk in the file, and prints that it is sound, its version and how many files it has.
+/// The files are not changed, and nothing is written to the disk.
 ///
 /// Where the file may only be read, and the system locks or syncs no such file, that is told as a
 /// fault, and the disk is checked all the same.
 ///
-/// Refused as a mount is: J7 `BadLog` where its log is not well formed, J8 `BadSuper` where its files are sound in no version.
+/// Refused as a mount is: J7 `BadLog` where its log is not well formed, J8 `BadSuper` where its
+/// files are sound in no version.
 pub fn check<R: Files<File = File> + Wait, O: Write, E: Write>(
     rt: &R,
     alloc: Global,

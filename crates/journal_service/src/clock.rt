@@ -53,7 +53,8 @@ fn read<R: Clock>(rt: &R) -> Option<Moment> {
     Moment::new((since.as_secs() % SECONDS) as u32, since.subsec_nanos())
 }
 
-/// The verifier of a mount at this moment: its seconds and its nanoseconds, each with the most significant byte first.
+/// The verifier of a mount at this moment: its seconds and its nanoseconds, each with the most
+/// significant byte first.
 pub fn verifier_of(moment: Moment) -> Verifier
     ensures { result.0 ≡ to_be_bytes w32 moment.secs ++ to_be_bytes w32 moment.nanos }
 {

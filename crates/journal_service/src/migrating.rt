@@ -18,11 +18,12 @@ use std::io::Write;
 use std::marker::Brand;
 use std::sync::Wait;
 
-/// Makes the disk in the file one of version 2, with the same files, and prints its version then. To a disk of version 2
-/// nothing is done.
+/// Makes the disk in the file one of version 2, with the same files, and prints its version then.
+/// To a disk of version 2 nothing is done.
 ///
-/// Refused as `check` is, and by J11 `Worn` where the positions of its log are used up. Whatever the refusal, and whenever
-/// the system stops, the file has the same files, in version 1 or in version 2.
+/// Refused as `check` is, and by J11 `Worn` where the positions of its log are used up. Whatever
+/// the refusal, and whenever the system stops, the file has the same files, in version 1 or in
+/// version 2.
 pub fn migrate<R: Files<File = File> + Wait, O: Write>(
     rt: &R,
     alloc: Global,

@@ -39,7 +39,8 @@ pub(crate) fn slot_cell(alloc: Global) -> Result<SlotCell, ServiceFault> {
     }
 }
 
-/// Mounts the disk under the rule of a version. Refused as a mount is, but for J8, which hands the disk back.
+/// Mounts the disk under the rule of a version. Refused as a mount is, but for J8, which hands the
+/// disk back.
 pub(crate) fn mount<'b, J: Naming, V: Version>(
     alloc: Global,
     book: &'b Book<SoundFiles<V>>,

@@ -13,11 +13,12 @@ use std::sync::atomic::{AtomicBool, Ordering};
 
 // What stands for several words.
 //
-// A call begins with its number, 1; it is in version 2 of RPC, of version 3 of program 100003, and has neither a credential
-// nor a verifier. A reply begins with the same number; DONE is SUCCESS, GARBAGE is GARBAGE_ARGS, UNAVAILABLE is PROC_UNAVAIL.
+// A call begins with its number, 1; it is in version 2 of RPC, of version 3 of program 100003, and
+// has neither a credential nor a verifier. A reply begins with the same number; DONE is SUCCESS,
+// GARBAGE is GARBAGE_ARGS, UNAVAILABLE is PROC_UNAVAIL.
 //
-// A handle is twelve bytes. FILE is file 2 in its first life, AGAIN in its second, and LOST in one that it has not had;
-// OTHER is file 3 in its first life, and STRANGE names no inode.
+// A handle is twelve bytes. FILE is file 2 in its first life, AGAIN in its second, and LOST in one
+// that it has not had; OTHER is file 3 in its first life, and STRANGE names no inode.
 //
 // DOT, DOTS and IS_2 are the entries of a listing for the root itself, for what is above it, and
 // for file 2. MNT is of version 3 of program 100005.
@@ -209,9 +210,9 @@ fn is_answered<'b, D: BlockDisk, J: Naming, V: Version, W: Wait>(
     Ok(is_record_of(&reply, &wanted))
 }
 
-// Makes the calls of a table one after another, in a session of its own, while nobody else commits. A line is a call,
-// ` = ` and its reply, both without the headers of their records. A line `at 6 7` says that it is that moment from then
-// on; it is (0, 0) before.
+// Makes the calls of a table one after another, in a session of its own, while nobody else commits.
+// A line is a call, ` = ` and its reply, both without the headers of their records. A line `at 6 7`
+// says that it is that moment from then on; it is (0, 0) before.
 pub(crate) fn ask<'b, D: BlockDisk, J: Naming, V: Version, W: Wait>(
     rt: &W,
     alloc: Global,
@@ -303,8 +304,8 @@ pub(crate) fn moment_of(line: &str) -> Option<(u32, u32)> {
     Some((number_of(secs)?, number_of(nanos)?))
 }
 
-// Makes the calls of a table with their arguments cut short, in each way, and with a byte behind them. None is answered but
-// by GARBAGE_ARGS.
+// Makes the calls of a table with their arguments cut short, in each way, and with a byte behind
+// them. None is answered but by GARBAGE_ARGS.
 pub(crate) fn ask_cut<'b, D: BlockDisk, J: Naming, V: Version, W: Wait>(
     rt: &W,
     alloc: Global,
@@ -350,7 +351,8 @@ fn longer(alloc: Global, call: &str) -> Result<Vec<u8>, Wrong> {
     Ok(record)
 }
 
-// Whether the arguments of a call, behind which a byte stands, are refused with it, and wherever they are cut.
+// Whether the arguments of a call, behind which a byte stands, are refused with it, and wherever
+// they are cut.
 fn is_garbage_cut<'b, D: BlockDisk, J: Naming, V: Version, W: Wait>(
     rt: &W,
     alloc: Global,

@@ -1,5 +1,5 @@
-// The file store, asked by calls: each case of each operation, a disk without files, how often a mount reads it, threads
-// side by side, and slots that are taken.
+// The file store, asked by calls: each case of each operation, a disk without files, how often a
+// mount reads it, threads side by side, and slots that are taken.
 mod cases;
 mod mounts;
 mod storms;

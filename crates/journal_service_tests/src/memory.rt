@@ -1,5 +1,6 @@
 // What memory that is refused leaves. The gate refuses none, so that these go as ever there:
-// `tools/refuse-memory tests journal_service_tests memory_is_refused` refuses each of their requests.
+// `tools/refuse-memory tests journal_service_tests memory_is_refused` refuses each of their
+// requests.
 use crate::asserts::wants;
 use crate::server::{Narrow, calls_of, serve_one};
 use crate::stores::{Client, Files, Told, Wrong, commits, on_new_disk, session_of};

@@ -70,8 +70,8 @@ pub(crate) fn commits<D: BlockDisk, J: Naming, V: Version, W: Wait>(
     files.journal().stat(rt).commits
 }
 
-// Mounts a disk, tells the story, and closes the store. The disk that comes back is what a crash leaves then, where no pending
-// write survives.
+// Mounts a disk, tells the story, and closes the store. The disk that comes back is what a crash
+// leaves then, where no pending write survives.
 fn over<
     'b,
     J: Naming + Send + Sync,
@@ -198,7 +198,8 @@ pub(crate) fn in_turn<H: Threads + Wait + Net<Listener = TcpListener, Stream = T
     }
 }
 
-// An errand with who keeps the log beside it. What waits until it is stable would else wait for good.
+// An errand with who keeps the log beside it. What waits until it is stable would else wait for
+// good.
 pub(crate) fn beside<'b, J: Naming + Send + Sync, H: Threads + Wait + Sync>(
     rt: &H,
     alloc: Global,

@@ -18,8 +18,8 @@ table_shape blocks free_list = record {
   slots = SLOTS;
 }
 
--- a block of the free list has 32768 bits, one for each row of 512 blocks, and the disk has room for
--- all these rows
+-- a block of the free list has 32768 bits, one for each row of 512 blocks, and the disk has room
+-- for all these rows
 abbrev pub HasRoom : ℕ → ℕ → Type 0
 HasRoom blocks free_list = (1 ≤ free_list) × (514 + 513 * free_list ≤ blocks) × (blocks ≤ MAX_LAYOUT_BLOCKS)
 

@@ -5,7 +5,8 @@ use journal_world::Refusal;
 use std::alloc::{AllocError, AllocFailed};
 use std::fmt;
 
-/// Why the table is not used. A server tells by the journal's refusal what to do; this program ends.
+/// Why the table is not used. A server tells by the journal's refusal what to do; this program
+/// ends.
 #[derive(Clone, Copy, Debug, PartialEq, Eq)]
 pub enum Fault {
     /// Memory was refused, or the journal refused.

@@ -10,10 +10,11 @@ const BLOCKS: u64 = 1 << 30;
 // How many it has where the file system takes no file of that size: 256 GiB.
 const FEWER_BLOCKS: u64 = 1 << 26;
 
-/// Makes a new file of zeros at the path, which is a disk whose objects are all zeros. `false` says that the file system does
-/// not take a file of 4 TiB, and that it has 256 GiB.
+/// Makes a new file of zeros at the path, which is a disk whose objects are all zeros. `false` says
+/// that the file system does not take a file of 4 TiB, and that it has 256 GiB.
 ///
-/// Refused where anything is at the path, and as the system refuses the file. A file that was begun is removed then.
+/// Refused where anything is at the path, and as the system refuses the file. A file that was begun
+/// is removed then.
 pub fn make<R: Files<File = File>>(rt: &R, path: &str) -> io::Result<bool> {
     let file = OpenOptions::new()
         .write(true)

@@ -28,8 +28,8 @@ pub enum Work {
     Read,
 }
 
-/// Opens the disk as a table, does the work, and stops. What nobody waited for is then lost where it was not logged, as by a
-/// crash.
+/// Opens the disk as a table, does the work, and stops. What nobody waited for is then lost where
+/// it was not logged, as by a crash.
 pub fn with_table<R: Threads + Wait + Clock + Sync>(
     rt: &R,
     alloc: Global,
@@ -37,8 +37,8 @@ pub fn with_table<R: Threads + Wait + Clock + Sync>(
     table: Table,
     work: Work,
 ) -> Result<Vec<Stored>, Fault> {
-    // The book has the history of one journal, and the cell its slots. The brand names both and the layout, so that no
-    // receipt, slot or address of another journal is taken for one of its.
+    // The book has the history of one journal, and the cell its slots. The brand names both and the
+    // layout, so that no receipt, slot or address of another journal is taken for one of its.
     let Ok(book) = Book::<AnyMap>::open::<()>() else {
         return Err(Fault::Refused);
     };
@@ -78,7 +78,8 @@ fn with_book<J: Naming + Send + Sync, R: Threads + Wait + Clock + Sync>(
     done
 }
 
-// Works beside the logger and the installer, which make commits stable. They end once the journal is stopped.
+// Works beside the logger and the installer, which make commits stable. They end once the journal
+// is stopped.
 fn beside_daemon<J: Naming + Send + Sync, R: Threads + Wait + Clock + Sync>(
     rt: &R,
     alloc: Global,

@@ -1,12 +1,15 @@
 //! A program over the journal: a table of records in a file, with a list of its free places.
 //!
-//! It is what an author of a database starts from. The disk has a layout of the program's own (`table`) and 4 TiB, of which
-//! the file takes what was written (`file`). Each row is a record of 64 bytes (`row`). A transaction sets a bit of the free
-//! list and writes a record, both or neither (`rows`). The disk does not tell its layout, so block 513 says of which table it
-//! is (`head`). Two threads insert, change and delete rows (`work`) beside the logger and the installer (`journal`).
+//! It is what an author of a database starts from. The disk has a layout of the program's own
+//! (`table`) and 4 TiB, of which the file takes what was written (`file`). Each row is a record of
+//! 64 bytes (`row`). A transaction sets a bit of the free list and writes a record, both or neither
+//! (`rows`). The disk does not tell its layout, so block 513 says of which table it is (`head`).
+//! Two threads insert, change and delete rows (`work`) beside the logger and the installer
+//! (`journal`).
 //!
-//! The program makes the disk at a path, writes, and stops as a crash does. Then it opens the disk again, and looks whether
-//! the rows are there for which it had waited. At its end it removes the file.
+//! The program makes the disk at a path, writes, and stops as a crash does. Then it opens the disk
+//! again, and looks whether the rows are there for which it had waited. At its end it removes the
+//! file.
 #![tactic(auto)]
 
 mod fault;

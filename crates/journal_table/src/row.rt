@@ -10,8 +10,9 @@ pub struct Row {
 }
 
 impl Row {
-    /// The record of the row. Its first eight bytes are the key and the next eight the version, little-endian. All others
-    /// depend on both, so that a record of which a part is of another row is found.
+    /// The record of the row. Its first eight bytes are the key and the next eight the version,
+    /// little-endian. All others depend on both, so that a record of which a part is of another row
+    /// is found.
     pub fn to_record(self) -> [u8; ROW_BYTES] {
         let mut record = [self.filler(); ROW_BYTES];
         record[..8].copy_from_slice(&self.key.to_le_bytes());

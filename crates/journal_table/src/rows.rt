@@ -130,8 +130,9 @@ impl<'j, 'b, D: BlockDisk, J: Naming> OpenTable<'j, 'b, D, J> {
         }
     }
 
-    // Gives a place a row, or none, where it has what is wanted: all of it in one transaction. `false` says that it had
-    // something else, and then nothing was done. It waits for no device, so a crash may lose it until `Journal::flush`.
+    // Gives a place a row, or none, where it has what is wanted: all of it in one transaction.
+    // `false` says that it had something else, and then nothing was done. It waits for no device,
+    // so a crash may lose it until `Journal::flush`.
     fn exchange<W: Wait>(
         &self,
         rt: &W,
@@ -189,8 +190,8 @@ fn write<'j, 'b, D: BlockDisk, J: Naming, W: Wait>(
     Ok(())
 }
 
-// Reads both objects of a place. It takes the lower slot first: a transaction that takes its slots in ascending order waits
-// for those that others hold, and is never refused by J5.
+// Reads both objects of a place. It takes the lower slot first: a transaction that takes its slots
+// in ascending order waits for those that others hold, and is never refused by J5.
 fn find<'j, 'b, D: BlockDisk, J: Naming, W: Wait>(
     rt: &W,
     journal: &Journal<'b, D, AnyMap, J>,

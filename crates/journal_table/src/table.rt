@@ -38,9 +38,11 @@ const NONE: Region = Region {
     kind: Kind::Block,
 };
 
-/// A table: how a disk is divided into the head, the free list and the rows. It takes no more memory for a large disk.
+/// A table: how a disk is divided into the head, the free list and the rows. It takes no more
+/// memory for a large disk.
 ///
-/// A place has a bit of the free list, which is 1 where the place has a row, and a record of 64 bytes for the row.
+/// A place has a bit of the free list, which is 1 where the place has a row, and a record of 64
+/// bytes for the row.
 #[derive(Clone, Copy, Debug)]
 pub struct Table {
     /// The layout by which the journal opens the disk.
@@ -105,7 +107,8 @@ impl Table {
     }
 }
 
-// The head, so many blocks of the free list, and then rows to the end of the disk. A region ends where the next one begins.
+// The head, so many blocks of the free list, and then rows to the end of the disk. A region ends
+// where the next one begins.
 fn regions(free_list: u64) -> [Region; REGIONS]
     requires { 514 + free_list < 2 ^ 64 }
     ensures { result ≡ (table_shape 0 free_list).regions }

@@ -21,8 +21,8 @@ const LOOKED_AT: u64 = 1024;
 // The first key of each thread.
 const KEYS: (u64, u64) = (0, 1000);
 
-/// Writes in two threads. The rows that no crash loses any more: each thread has waited for its own, and has then inserted
-/// more.
+/// Writes in two threads. The rows that no crash loses any more: each thread has waited for its
+/// own, and has then inserted more.
 pub fn write<D: BlockDisk + Send, J: Naming + Send + Sync, R: Threads + Wait + Sync>(
     rt: &R,
     open: &OpenTable<'_, '_, D, J>,
@@ -75,7 +75,8 @@ fn write_some<'b, D: BlockDisk, J: Naming, W: Wait>(
     Ok(rows)
 }
 
-// Of four rows in a row the second is changed and the fourth deleted. The row as it is then, if it is left.
+// Of four rows in a row the second is changed and the fourth deleted. The row as it is then, if it
+// is left.
 fn change_or_delete<'b, D: BlockDisk, J: Naming, W: Wait>(
     rt: &W,
     open: &OpenTable<'_, 'b, D, J>,

@@ -1,4 +1,5 @@
--- The values of a map are of their kinds, where its pairs are objects; and those of a legal history's maps are.
+-- The values of a map are of their kinds, where its pairs are objects; and those of a legal
+-- history's maps are.
 use Rattle.std.proofs.Common.{◌≡◌, ℕ, zero, suc, Bool, true, false, cond, ◌==◌, nat_lt, IsTrue, List, [], ◌∷◌, length, replicate, Option, Some, None, refl, sym, subst}
 use Rattle.std.specs.Prelude.{unwrap_or}
 use Rattle.std.specs.List.{list_all}

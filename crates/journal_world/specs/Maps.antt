@@ -55,7 +55,8 @@ is_object layout p = is_valid layout p.0 && is_value_at (kind_of layout p.0.bloc
 abbrev pub are_objects : Shape → List Pair → Bool
 are_objects layout ps = list_all (is_object layout) ps
 
--- What a transaction read and what it writes, with its session and the number of that session's earlier ones
+-- What a transaction read and what it writes, with its session and the number of that session's
+-- earlier ones
 pub record Transaction : Type 0 where
   pub session : ℕ
   pub number : ℕ

@@ -33,8 +33,8 @@ pub const REGIONS: usize = 8;
 /// Where a region begins that is not in use.
 pub const UNUSED: u64 = u64::MAX;
 
-/// A region of a disk: the blocks from `first` on, up to the next region or the end of the disk. All
-/// their objects are of one kind.
+/// A region of a disk: the blocks from `first` on, up to the next region or the end of the disk.
+/// All their objects are of one kind.
 #[derive(Clone, Copy, Debug, PartialEq, Eq)]
 pub struct Region {
     /// The first block, or `UNUSED`.

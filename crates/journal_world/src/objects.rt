@@ -52,8 +52,8 @@ impl Objects {
         self.values.iter()
     }
 
-    /// Gives the address this value, in place of the one that it had. After an `Err`, which comes only
-    /// where it had none, all is as before.
+    /// Gives the address this value, in place of the one that it had. After an `Err`, which comes
+    /// only where it had none, all is as before.
     pub fn insert(&mut self, addr: Addr, value: Value) -> Result<(), AllocError>
         ensures ok { OnOk result (SamePairs self.new ((addr, value) ∷ self.old)) }
         ensures err { OnErr result (self.new ≡ self.old) }

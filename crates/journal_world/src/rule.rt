@@ -9,16 +9,17 @@ use crate::{Addr, BLOCK_BITS, Kind, Layout, Refusal, Value};
 
 /// Reads the objects of one map.
 ///
-/// Where the reader is trusted, as over a disk that is honest and settled, a read gives the map's value.
-/// Where it is not, a read gives some value of the address's kind. The reader knows whether the device failed
-/// under it, and answers J6 nowhere else.
+/// Where the reader is trusted, as over a disk that is honest and settled, a read gives the map's
+/// value. Where it is not, a read gives some value of the address's kind. The reader knows whether
+/// the device failed under it, and answers J6 nowhere else.
 pub trait ObjectReader {
     /// What the refusals of a read hold.
     type Cause;
 
     ghost map: { Self → Map };
 
-    // The map's pairs are objects. So each value is of its address's kind, also one that is not read.
+    // The map's pairs are objects. So each value is of its address's kind, also one that is not
+    // read.
     ghost objects: { (reader : Self) → IsTrue (are_objects (map reader).layout (map reader).pairs) };
 
     ghost trusted: { Self → Bool };
@@ -42,9 +43,9 @@ pub trait ObjectReader {
         ensures same_map { map self.new ≡ map self.old }
         ensures same_trust { trusted self.new ≡ trusted self.old };
 
-    /// The bits of 64 addresses in a row as one number, that of `addr` in the lowest place: each bit
-    /// is the value that `read` gives its address. It is asked for a block whose objects are bits, at
-    /// a multiple of 64. The map stays.
+    /// The bits of 64 addresses in a row as one number, that of `addr` in the lowest place: each
+    /// bit is the value that `read` gives its address. It is asked for a block whose objects are
+    /// bits, at a multiple of 64. The map stays.
     ///
     /// Refused for want of memory (J1), and where the device has failed then (J6). It stays failed.
     fn read_bits(&mut self, addr: Addr) -> Result<u64, Refusal<Self::Cause>>
@@ -58,8 +59,8 @@ pub trait ObjectReader {
         ensures same_trust { trusted self.new ≡ trusted self.old };
 }
 
-/// A rule of a mount: a statement over maps that holds of the map that is opened, and that each commit
-/// has to keep. It tells no two maps apart that give the same values.
+/// A rule of a mount: a statement over maps that holds of the map that is opened, and that each
+/// commit has to keep. It tells no two maps apart that give the same values.
 pub trait MapRule {
     ghost statement: { Map → Type 0 };
 

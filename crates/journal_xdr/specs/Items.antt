@@ -2,8 +2,8 @@
 use Rattle.std.specs.Option.{option_map_or}
 use Rattle.std.specs.Prelude.{◌≡◌, ℕ, Bool, IsTrue, IsSomeAnd, if◌then◌else◌, List, [], ◌++◌, Option, Some, None}
 
--- The values of a type: which they are, how each is spelled, and what the front of some bytes reads as:
--- a value with the bytes behind it, or nothing
+-- The values of a type: which they are, how each is spelled, and what the front of some bytes reads
+-- as: a value with the bytes behind it, or nothing
 pub record Item (T : Type 0) : Type 1 where
   pub Has : T → Type 0
   pub spelling : T → List ℕ
@@ -22,8 +22,8 @@ pair a b = record {
   reading = λ bytes. a.reading bytes >>= λ x. b.reading x.1 >>= λ y. Some ((x.0, y.0), y.1);
 }
 
--- Values that stand for those of another item: each is spelled as what it stands for. meaning says what
--- that is, where it is anything
+-- Values that stand for those of another item: each is spelled as what it stands for. meaning says
+-- what that is, where it is anything
 abbrev pub coded : {A B : Type 0} → Item A → (A → Option B) → (B → A) → Item B
 coded a meaning code = record {
   Has = λ v. a.Has (code v) × (meaning (code v) ≡ Some v);

@@ -1,4 +1,5 @@
--- Lists of items (RFC 4506): arrays of variable length (4.13), and linked lists, each element behind a boolean (4.19).
+-- Lists of items (RFC 4506): arrays of variable length (4.13), and linked lists, each element
+-- behind a boolean (4.19).
 use Rattle.std.specs.Prelude.{◌≡◌, ℕ, zero, suc, nat_le, Bool, true, false, List, [], ◌∷◌, ◌++◌, length, Option, Some, None}
 use Rattle.std.specs.List.{flat_map, AllByRecursion}
 use Rattle.journal_xdr.specs.Items.{Item, ◌>>=◌, such_that, tagged}

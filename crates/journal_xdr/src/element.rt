@@ -10,8 +10,8 @@ pub trait Element {
     // How a value is spelled.
     ghost spelling: { Self → List ℕ };
 
-    /// Writes the value. Where a growth is refused, some bytes of it may have been written, and nothing before
-    /// them has changed.
+    /// Writes the value. Where a growth is refused, some bytes of it may have been written, and
+    /// nothing before them has changed.
     fn write(&self, writer: &mut Writer) -> Result<(), AllocError>
         ensures ok { OnOk result (writer.new ≡ writer.old ++ spelling self.now) }
         ensures err { OnErr result ((front : List ℕ) × (writer.new ≡ writer.old ++ front)) };

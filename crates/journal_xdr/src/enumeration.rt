@@ -1,10 +1,12 @@
 // Types whose values are listed numbers.
 ghost use Rattle.std.specs.Prelude.{◌≡◌, ℕ, Option, Some};
 
-/// An enumeration (RFC 4506, section 4.3): a type each of whose values stands for a number of its own.
+/// An enumeration (RFC 4506, section 4.3): a type each of whose values stands for a number of its
+/// own.
 ///
-/// Other numbers stand for nothing, and are refused where such a value is read. An `impl` gives `meaning`
-/// as a table of the numbers, by `listed` of `specs/Basic.antt`, and `listed_back` proves its second law.
+/// Other numbers stand for nothing, and are refused where such a value is read. An `impl` gives
+/// `meaning` as a table of the numbers, by `listed` of `specs/Basic.antt`, and `listed_back` proves
+/// its second law.
 pub trait Enumeration: Copy {
     // The value that a number stands for, where it is listed.
     ghost meaning: { ℕ → Option Self };

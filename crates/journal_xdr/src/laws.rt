@@ -10,7 +10,8 @@ pub trait HasItem {
     ghost item: { Item Self };
 }
 
-/// A union (RFC 4506, section 4.15): a type whose values have a tag, which says how the rest is spelled.
+/// A union (RFC 4506, section 4.15): a type whose values have a tag, which says how the rest is
+/// spelled.
 pub trait HasArms<Tag: HasItem> {
     // How values with this tag are spelled, behind it.
     ghost arm: { Tag → Item Self };

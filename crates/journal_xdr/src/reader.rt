@@ -12,8 +12,8 @@ use std::marker::Model;
 
 /// Reads items one behind another, and lends what it reads. Contracts see the bytes that are left.
 ///
-/// Each call answers the value whose spelling is at the front, and leaves what is behind it. It answers
-/// `None` exactly where no value's spelling is at the front; what is left then is not said.
+/// Each call answers the value whose spelling is at the front, and leaves what is behind it. It
+/// answers `None` exactly where no value's spelling is at the front; what is left then is not said.
 #[derive(Drop)]
 pub struct Reader<'a> {
     rest: &'a [u8],
@@ -76,7 +76,8 @@ impl<'a> Reader<'a> {
         self.enumeration()
     }
 
-    /// Reads a value of an enumeration (RFC 4506, section 4.3). Numbers that are not listed are refused.
+    /// Reads a value of an enumeration (RFC 4506, section 4.3). Numbers that are not listed are
+    /// refused.
     pub fn enumeration<E: Enumeration>(&mut self) -> Option<E>
         ensures reading { ReadsItem (enumeration E.meaning E.code) (λ value. value) self.old self.new result }
         ensures grammar { FindsItem (enumeration E.meaning E.code) (λ value. value) self.old self.new result }
@@ -95,8 +96,8 @@ impl<'a> Reader<'a> {
         if are_zeros(zeros) { Some(bytes) } else { None }
     }
 
-    /// Reads variable-length opaque data (RFC 4506, section 4.10). More than `limit` bytes are refused, and
-    /// padding other than zeros.
+    /// Reads variable-length opaque data (RFC 4506, section 4.10). More than `limit` bytes are
+    /// refused, and padding other than zeros.
     #[tactic(auto, unfolding(crate::specs::Basic::opaque))]
     pub fn opaque(&mut self, limit: u32) -> Option<&'a [u8]>
         ensures reading { ReadsItem (opaque limit) (λ bytes. bytes.now) self.old self.new result }

@@ -13,8 +13,9 @@ use std::marker::Model;
 
 /// Writes items one behind another. Contracts see the bytes written so far.
 ///
-/// Room is reserved once, where the writer is made: within it no call takes memory. A call that would
-/// need more grows the buffer, and where that is refused it leaves the bytes written so far as they were.
+/// Room is reserved once, where the writer is made: within it no call takes memory. A call that
+/// would need more grows the buffer, and where that is refused it leaves the bytes written so far
+/// as they were.
 #[derive(Drop)]
 pub struct Writer {
     bytes: Vec<u8>,
@@ -143,7 +144,8 @@ impl Writer {
         self.opaque(bytes)
     }
 
-    /// Writes an array of variable length (RFC 4506, section 4.13): how many values there are, and then they.
+    /// Writes an array of variable length (RFC 4506, section 4.13): how many values there are, and
+    /// then they.
     pub fn array<E: Element>(&mut self, values: &[E]) -> Result<(), AllocError>
         requires { length values.now < 2 ^ 32 }
         ensures ok { OnOk result (self.new ≡ self.old ++ array_text E.spelling values.now) }
@@ -158,7 +160,8 @@ impl Writer {
         added
     }
 
-    /// Writes a linked list (RFC 4506, section 4.19): true before each value, and false behind the last.
+    /// Writes a linked list (RFC 4506, section 4.19): true before each value, and false behind the
+    /// last.
     pub fn list<E: Element>(&mut self, values: &[E]) -> Result<(), AllocError>
         ensures ok { OnOk result (self.new ≡ self.old ++ list_text E.spelling values.now) }
         ensures err { OnErr result (self.new ≡ self.old) }

@@ -114,7 +114,8 @@ impl From<AllocError> for Fault<'_> {
     }
 }
 
-/// Of the program's words and its output's buffer: either memory was refused, or the words are no text.
+/// Of the program's words and its output's buffer: either memory was refused, or the words are no
+/// text.
 impl From<io::Error> for Fault<'_> {
     fn from(error: io::Error) -> Self {
         if error.kind() == ErrorKind::OutOfMemory {

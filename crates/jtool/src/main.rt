@@ -1,7 +1,8 @@
-//! The journal at the command line: `jtool script N` makes an empty disk of N blocks in memory, and answers the commands that
-//! it reads on standard input, a line for a line. `jtool format FILE N` makes a disk of version 2 without files in a file, and
-//! `jtool serve FILE PORT K` serves the files of a disk of either version to K connections. `jtool check FILE` tells whether
-//! it is sound, and of which version, and `jtool migrate FILE` makes it one of version 2.
+//! The journal at the command line: `jtool script N` makes an empty disk of N blocks in memory, and
+//! answers the commands that it reads on standard input, a line for a line. `jtool format FILE N`
+//! makes a disk of version 2 without files in a file, and `jtool serve FILE PORT K` serves the
+//! files of a disk of either version to K connections. `jtool check FILE` tells whether it is
+//! sound, and of which version, and `jtool migrate FILE` makes it one of version 2.
 #![tactic(auto)]
 
 ghost use Rattle.std.specs.Prelude.{◌≡◌, ◌≢◌, ◌≤◌, ◌==◌, ℕ, map, string_bytes, IfErr, IsErrAnd};
@@ -31,11 +32,13 @@ use std::sync::Wait;
 use std::thread::Threads;
 use std::time::Clock;
 
-/// The program: its words, its three streams, and the status that it answers. That is 1 where memory was refused before
-/// the first line, where input or output failed, where a file or a port is not to be had, or where the service was refused;
-/// else 2 where the words or a line were bad; else 0.
+/// The program: its words, its three streams, and the status that it answers. That is 1 where
+/// memory was refused before the first line, where input or output failed, where a file or a port
+/// is not to be had, or where the service was refused; else 2 where the words or a line were bad;
+/// else 0.
 ///
-/// What a script answers is written out as soon as no further line is at hand, and so is each line of the service.
+/// What a script answers is written out as soon as no further line is at hand, and so is each line
+/// of the service.
 pub fn run<
     R: Files<File = File>
         + Net<Listener = TcpListener, Stream = TcpStream>
@@ -51,8 +54,8 @@ pub fn run<
     ensures words { ((ask : Ask) → AsksFor (map string_bytes words.now) ask → ⊥) → result ≡ 2 }
     ensures status { result ≤ 2 }
 
-    // Words that ask for a script: at status 0 or 2 the output gained the answers of all lines of the input, of which
-    // some is a bad line exactly at 2.
+    // Words that ask for a script: at status 0 or 2 the output gained the answers of all lines of
+    // the input, of which some is a bad line exactly at 2.
     ensures script { (n : ℕ) → AsksScript (map string_bytes words.now) n → IsSize n → result ≢ 1
         → IsTranscript (I.remaining input.old) (O.contents output.old) (O.contents output.new) (result == 2) }
 {

@@ -70,7 +70,8 @@ fn run_words<
     }
 }
 
-/// Wants the two to be equal. An assertion is dear to prove wherever it stands, so almost all are made here.
+/// Wants the two to be equal. An assertion is dear to prove wherever it stands, so almost all are
+/// made here.
 fn wants<T: PartialEq + Debug>(rt: &impl Abort, found: &T, wanted: &T) {
     assert_eq!(rt; found, wanted);
 }

@@ -26,8 +26,8 @@ pub struct LogBlocksSynced(());
 pub struct EndPut(());
 
 impl<D: BlockDisk> Circ<D> {
-    /// Puts an update into the log block of the next position: `from` becomes the content of block `address`
-    /// with the group.
+    /// Puts an update into the log block of the next position: `from` becomes the content of block
+    /// `address` with the group.
     ///
     /// Answers J6, and nothing else, where the device failed in this call or before.
     pub fn put_slot(
@@ -93,8 +93,9 @@ impl<D: BlockDisk> Circ<D> {
         Ok(state)
     }
 
-    // The same where the log is sealed. The tag is none that an image may take for that of a group: neither the one that
-    // the log block has, nor the one that block 0 on the disk wants of it. Block 0 in memory still has the latter.
+    // The same where the log is sealed. The tag is none that an image may take for that of a group:
+    // neither the one that the log block has, nor the one that block 0 on the disk wants of it.
+    // Block 0 in memory still has the latter.
     fn put_tagged(
         &mut self,
         state: LogBlocksPut,
@@ -152,10 +153,11 @@ impl<D: BlockDisk> Circ<D> {
         Ok(LogBlocksSynced(()))
     }
 
-    /// Puts the end of the log behind the group. From here on an image may stand for the blocks with it.
+    /// Puts the end of the log behind the group. From here on an image may stand for the blocks
+    /// with it.
     ///
-    /// Answers J6, and nothing else, where the device failed in this call or before. After a device call that
-    /// failed an image may stand for the blocks with the group or without it.
+    /// Answers J6, and nothing else, where the device failed in this call or before. After a device
+    /// call that failed an image may stand for the blocks with the group or without it.
     pub fn put_end(&mut self, _state: LogBlocksSynced) -> Result<EndPut, Refusal<()>>
         requires plain { self.old.sealed ≡ false }
         requires synced { self.old.extent.stable ≡ self.old.next }
@@ -182,11 +184,12 @@ impl<D: BlockDisk> Circ<D> {
         Ok(EndPut(()))
     }
 
-    /// Puts block 0 of a sealed log with the group as its last. From here on an image may stand for the blocks with
-    /// it. No barrier is needed before, because an image that lacks one of its log blocks ends where the log ended.
+    /// Puts block 0 of a sealed log with the group as its last. From here on an image may stand for
+    /// the blocks with it. No barrier is needed before, because an image that lacks one of its log
+    /// blocks ends where the log ended.
     ///
-    /// Answers J6, and nothing else, where the device failed in this call or before. After a device call that
-    /// failed an image may stand for the blocks with the group or without it.
+    /// Answers J6, and nothing else, where the device failed in this call or before. After a device
+    /// call that failed an image may stand for the blocks with the group or without it.
     pub fn put_group(&mut self, _state: LogBlocksPut) -> Result<EndPut, Refusal<()>>
         requires sealed { self.old.sealed ≡ true }
         requires some { self.old.extent.end < self.old.next }

@@ -33,7 +33,8 @@ pub struct Opened<D: BlockDisk> {
     pub installer: HomesPut,
 }
 
-// What blocks 0 and 1 of a disk say, with the tags of a sealed log, and the blocks that later steps write from.
+// What blocks 0 and 1 of a disk say, with the tags of a sealed log, and the blocks that later steps
+// write from.
 #[derive(Drop)]
 struct Headers {
     header: Block,
@@ -45,13 +46,14 @@ struct Headers {
 }
 
 impl<D: BlockDisk> Circ<D> {
-    /// Opens the log of a disk that has at least 532 blocks and on which nothing is pending. It reads blocks 1
-    /// and 0, and of a sealed log the 511 log blocks for their tags. It writes nothing and makes no barrier.
+    /// Opens the log of a disk that has at least 532 blocks and on which nothing is pending. It
+    /// reads blocks 1 and 0, and of a sealed log the 511 log blocks for their tags. It writes
+    /// nothing and makes no barrier.
     ///
-    /// Answers J1 `NoMemory` where memory for its four blocks is refused, J6 `DeviceFailed` where the device
-    /// fails in this call, and J7 `BadLog` where the disk's log is not well formed, and no other refusal. A
-    /// sealed log on a disk of more than 2^40 blocks is not well formed. A refusal hands the disk back, with
-    /// nothing written.
+    /// Answers J1 `NoMemory` where memory for its four blocks is refused, J6 `DeviceFailed` where
+    /// the device fails in this call, and J7 `BadLog` where the disk's log is not well formed, and
+    /// no other refusal. A sealed log on a disk of more than 2^40 blocks is not well formed. A
+    /// refusal hands the disk back, with nothing written.
     pub fn open(alloc: Global, disk: D) -> Result<Opened<D>, Refused<D, ()>>
         requires in_range { MIN_BLOCKS ≤ (D.state disk).past.size }
         requires settled { IsTrue (D.state disk).honest → IsSettled (D.state disk).past }
@@ -156,7 +158,8 @@ fn read_headers<D: BlockDisk>(
     })
 }
 
-// Where the log of block 0 ends. Of a sealed log it reads the tags, which say whether the last group is there.
+// Where the log of block 0 ends. Of a sealed log it reads the tags, which say whether the last
+// group is there.
 fn read_end<D: BlockDisk>(
     device: &mut FailStop<D>,
     header: &Block,

@@ -14,11 +14,12 @@ use journal_disk::BlockDisk;
 use journal_world::{Refusal, Refused};
 
 impl<D: BlockDisk> Circ<D> {
-    /// Makes the log, which is empty, a sealed one, by one write and a barrier, and gives the disk up. It does
-    /// so whatever form the log has. At each moment each image stands for the home blocks.
+    /// Makes the log, which is empty, a sealed one, by one write and a barrier, and gives the disk
+    /// up. It does so whatever form the log has. At each moment each image stands for the home
+    /// blocks.
     ///
-    /// Answers J6 `DeviceFailed`, and nothing else, where the device failed in this call or before. The refusal
-    /// hands the disk back, and its log then has either form.
+    /// Answers J6 `DeviceFailed`, and nothing else, where the device failed in this call or before.
+    /// The refusal hands the disk back, and its log then has either form.
     pub fn seal(self) -> Result<D, Refused<D, ()>>
         requires empty { self.extent.start ≡ self.next }
         requires narrow { self.disk.past.size ≤ MAX_SEALED_BLOCKS }
@@ -49,11 +50,12 @@ impl<D: BlockDisk> Circ<D> {
         }
     }
 
-    /// Makes the log, which is empty, a plain one, by one write and a barrier, and gives the disk up. It does
-    /// so whatever form the log has. At each moment each image stands for the home blocks.
+    /// Makes the log, which is empty, a plain one, by one write and a barrier, and gives the disk
+    /// up. It does so whatever form the log has. At each moment each image stands for the home
+    /// blocks.
     ///
-    /// Answers J6 `DeviceFailed`, and nothing else, where the device failed in this call or before. The refusal
-    /// hands the disk back, and its log then has either form.
+    /// Answers J6 `DeviceFailed`, and nothing else, where the device failed in this call or before.
+    /// The refusal hands the disk back, and its log then has either form.
     pub fn unseal(self) -> Result<D, Refused<D, ()>>
         requires empty { self.extent.start ≡ self.next }
         ensures refusal { IfErr result (λ refused. IsFault self.faulted self.disk (D.state refused.disk) refused.refusal) }

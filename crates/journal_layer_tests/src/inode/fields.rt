@@ -6,7 +6,8 @@ use journal_inode::{
 use journal_world::Addr;
 use std::test::*;
 
-// Inodes, and bytes 0 to 31 of each: kind, generation, size, block, seconds and nanoseconds, the lowest byte first.
+// Inodes, and bytes 0 to 31 of each: kind, generation, size, block, seconds and nanoseconds, the
+// lowest byte first.
 const FILE: FileNode = FileNode {
     generation: 0x4433_2211,
     size: 2048,

@@ -12,7 +12,8 @@ use journal_world::{Addr, Kind, Layout, MapRule, Moment, ObjectReader, Refusal, 
 use std::alloc::Global;
 use std::test::*;
 
-// Reads the objects of a disk in memory. Of the disk nothing is proved here, so the reader is not trusted.
+// Reads the objects of a disk in memory. Of the disk nothing is proved here, so the reader is not
+// trusted.
 #[derive(Drop)]
 struct Objects {
     alloc: Global,
@@ -111,9 +112,10 @@ fn formatted(alloc: Global, version: FormatVersion) -> Result<Objects, Fail> {
     })
 }
 
-// Overwrites an object: an inode, under its number; a file's, with its generation, size and block; file 2, with its size and
-// the numbers of its first and its last further block; the bit of the data block that has this place among them; ten bytes
-// at the front of a data block, of which the last is 1.
+// Overwrites an object: an inode, under its number; a file's, with its generation, size and block;
+// file 2, with its size and the numbers of its first and its last further block; the bit of the
+// data block that has this place among them; ten bytes at the front of a data block, of which the
+// last is 1.
 #[derive(Clone, Copy)]
 enum Put {
     Inode(u32, Node),
@@ -166,7 +168,8 @@ fn overwrite(objects: &mut Objects, what: Put) -> Result<(), Fail> {
     }
 }
 
-// Whether the rule of a version admits a disk without files of this version, once these objects are overwritten.
+// Whether the rule of a version admits a disk without files of this version, once these objects are
+// overwritten.
 fn admits_of<V: Version>(
     alloc: Global,
     version: FormatVersion,
@@ -201,7 +204,8 @@ fn a_formatted_disk_is_admitted(rt: HostRuntime) -> Result<(), Fail> {
     Ok(())
 }
 
-// Whether the rule admits a disk that was formatted as one of files, where its objects are read by other regions.
+// Whether the rule admits a disk that was formatted as one of files, where its objects are read by
+// other regions.
 fn admits_by(alloc: Global, in_use: &[(u64, Kind)]) -> Result<bool, Fail> {
     let mut objects = formatted(alloc, FormatVersion::One)?;
     objects.layout = Layout::with_regions(600, regions(in_use)).ok_or("regions that rise")?;
@@ -326,7 +330,8 @@ const LONG: &[Put] = &[Put::Long(4097, 540, 0), Put::Bit(0), Put::Bit(9)];
 static LONG_FILES: [(&[Put], bool); 9] = [
     (&[Put::Long(4097, 540, 0), Put::Bit(0), Put::Bit(9)], true),
     (&[Put::Long(8192, 540, 0), Put::Bit(0), Put::Bit(9)], true),
-    // It has a block too few, or too many, or one that it does not need, or one twice, or one that is no data block.
+    // It has a block too few, or too many, or one that it does not need, or one twice, or one that
+    // is no data block.
     (&[Put::Long(4097, 0, 0), Put::Bit(0)], false),
     (&[Put::Long(4096, 540, 0), Put::Bit(0), Put::Bit(9)], false),
     (&[Put::Long(8193, 540, 0), Put::Bit(0), Put::Bit(9)], false),
@@ -414,7 +419,8 @@ fn inodes_out_of_place_are_not_admitted(rt: HostRuntime) -> Result<(), Fail> {
     Ok(())
 }
 
-// Whether a format is refused by the failing of a device call, and how many blocks the disk has that comes back.
+// Whether a format is refused by the failing of a device call, and how many blocks the disk has
+// that comes back.
 fn outcome(answer: Result<MemDisk, Refused<MemDisk, ()>>) -> (bool, u64) {
     match answer {
         Ok(_) => (false, 0),

@@ -1,4 +1,5 @@
-// Three commits, and what a crash leaves of them after each call of the logger and of the installer.
+// Three commits, and what a crash leaves of them after each call of the logger and of the
+// installer.
 use super::Call::{self, End, Failures, Home, Installer, IsLogging, Logger, Start};
 use super::{Pair, Row, answer, close, has, open, walk};
 use crate::asserts::wants;
@@ -64,8 +65,8 @@ fn commits_left(rt: &impl Abort, alloc: Global, disk: &MemDisk, choice: &[u32]) 
     commits
 }
 
-// Makes a call. Its answer, the commits on the pair after it, and those that a crash then leaves where no pending write
-// reaches the disk, and where all do, each as a digit.
+// Makes a call. Its answer, the commits on the pair after it, and those that a crash then leaves
+// where no pending write reaches the disk, and where all do, each as a digit.
 fn turn(rt: &impl Abort, alloc: Global, pair: &mut Pair, call: Call) -> Run<u64> {
     let answered = answer(rt, alloc, pair, call)?;
     let now = commits_on(rt, alloc, pair)?;
@@ -78,8 +79,8 @@ fn turn(rt: &impl Abort, alloc: Global, pair: &mut Pair, call: Call) -> Run<u64>
     Ok(digits)
 }
 
-// A group of 3 blocks is logged in 7 turns: a cut, 3 log blocks, a barrier, block 0 and a barrier. The installer
-// has 5 blocks to write in the end.
+// A group of 3 blocks is logged in 7 turns: a cut, 3 log blocks, a barrier, block 0 and a barrier.
+// The installer has 5 blocks to write in the end.
 static TURNS: [Row; 18] = [
     (1, FIRST, 3_100),
     (5, Logger, 1_100),
@@ -102,7 +103,8 @@ static TURNS: [Row; 18] = [
     (8, Installer, 1_333),
 ];
 
-// The same of a sealed log: a group is logged in 6 turns, a cut, 3 log blocks, block 0 and a barrier.
+// The same of a sealed log: a group is logged in 6 turns, a cut, 3 log blocks, block 0 and a
+// barrier.
 static SEALED_TURNS: [Row; 18] = [
     (1, FIRST, 3_100),
     (4, Logger, 1_100),
@@ -156,8 +158,8 @@ static ENDED: [Row; 15] = [
     (1, Home(8), 532),
 ];
 
-// The first turn that comes to something else, and the first row that is answered otherwise in the end. Block 0 says
-// at first that the log is plain or sealed.
+// The first turn that comes to something else, and the first row that is answered otherwise in the
+// end. Block 0 says at first that the log is plain or sealed.
 fn crash(rt: &impl Abort, alloc: Global, header: u64, turns: &[Row]) -> Run<(Wrong, Wrong)> {
     let mut pair = open(rt, alloc, disk_with_log(rt, alloc, 0, header)?)?;
     let turn = wrong_turn(rt, alloc, &mut pair, turns);

@@ -41,7 +41,8 @@ enum Call {
     Group(&'static [u64]),
     // 1 where the last group has the object so.
     GroupHas(Fill),
-    // Drops the updates of the cuts up to a position. How many commits there were at the last of these cuts.
+    // Drops the updates of the cuts up to a position. How many commits there were at the last of
+    // these cuts.
     Trim(u64),
     // Of how many blocks memory has updates, and how many of these are cut.
     Held,
@@ -63,7 +64,8 @@ type Row = (u32, Call, u64);
 // That blocks have to be fetched first.
 const MISSING: u64 = 1 << 40;
 
-// Objects in memory, the layout that they are read by, what was fetched for them, and the last group that was cut.
+// Objects in memory, the layout that they are read by, what was fetched for them, and the last
+// group that was cut.
 #[derive(Drop)]
 struct Memory {
     layout: Layout,
@@ -258,7 +260,8 @@ fn walk(alloc: Global, memory: &mut Memory, rows: &[Row]) -> Wrong {
     None
 }
 
-// The first row that is answered otherwise over a disk of this layout, whose log ends at a position.
+// The first row that is answered otherwise over a disk of this layout, whose log ends at a
+// position.
 fn run_once(alloc: Global, layout: Layout, end: u64, rows: &[Row]) -> Wrong
     requires { end < 2 ^ 62 }
 {
@@ -287,8 +290,9 @@ fn wrong_row(rt: &impl Abort, alloc: Global, end: u64, rows: &[Row]) -> Wrong
     wrong_by(alloc, layout, end, rows)
 }
 
-// What memory does not have is read from what was fetched, and the last of two blocks counts. What is overwritten whole
-// need not be fetched, and of what is not, the other objects of its block are as they were.
+// What memory does not have is read from what was fetched, and the last of two blocks counts. What
+// is overwritten whole need not be fetched, and of what is not, the other objects of its block are
+// as they were.
 static FETCHED: [Row; 27] = [
     (1, Has((514, 3, 0)), MISSING),
     (1, Has((531, 0, 0)), MISSING),
@@ -342,8 +346,8 @@ fn what_memory_lacks_is_fetched(rt: HostRuntime) {
     wants(&rt, &wrong_row(&rt, rt.alloc(), 7, &FETCHED), &None);
 }
 
-// A cut hands the tail out, and no later write changes its group. The updates stay until their cut is trimmed, and then
-// they have to be fetched again; a cut that ends past the position stays.
+// A cut hands the tail out, and no later write changes its group. The updates stay until their cut
+// is trimmed, and then they have to be fetched again; a cut that ends past the position stays.
 static CUTS: [Row; 37] = [
     (1, Start, 7),
     (1, Fetch(514, 0xff), 0),
@@ -425,7 +429,8 @@ fn what_is_refused_changes_nothing(rt: HostRuntime) {
     wants(&rt, &wrong_row(&rt, rt.alloc(), 7, &REFUSED), &None);
 }
 
-// The last position that there is is given, and no further one; a block that stands in the tail takes none.
+// The last position that there is is given, and no further one; a block that stands in the tail
+// takes none.
 static WORN_OUT: [Row; 5] = [
     (1, Call::Fill(&[(531, 0, 1)]), 1),
     (1, Call::Fill(&[(531, 0, 2), (532, 0, 2)]), WORN),
@@ -440,8 +445,8 @@ fn positions_end(rt: HostRuntime) {
     wants(&rt, &wrong_row(&rt, rt.alloc(), end, &WORN_OUT), &None);
 }
 
-// Of words, small and large records and bits, what was beside an object in its block stays. An address that is another
-// kind's is none, and neither is one behind the disk.
+// Of words, small and large records and bits, what was beside an object in its block stays. An
+// address that is another kind's is none, and neither is one behind the disk.
 static BY_REGIONS: [Row; 33] = [
     (
         1,

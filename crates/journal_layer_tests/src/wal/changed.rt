@@ -1,4 +1,5 @@
-// A log with updates that is given another form: each device call of that fails once, and crashes keep what they may.
+// A log with updates that is given another form: each device call of that fails once, and crashes
+// keep what they may.
 ghost use Rattle.std.specs.Prelude.{IfOk};
 ghost use Rattle.journal_disk.specs.Disks.{IsSettled};
 
@@ -18,8 +19,9 @@ const START: u64 = 510;
 // More steps than a group takes.
 const STEPS: u64 = 8;
 
-// How many device calls a change of the form makes, but for the 511 log blocks that an opening of a sealed log reads: 2 of the
-// headers, a read and a write for each of three positions, a barrier, block 1, a barrier, block 0, a barrier.
+// How many device calls a change of the form makes, but for the 511 log blocks that an opening of a
+// sealed log reads: 2 of the headers, a read and a write for each of three positions, a barrier,
+// block 1, a barrier, block 0, a barrier.
 const CALLS: usize = 13;
 
 // How many writes of each block a crash keeps.
@@ -102,7 +104,8 @@ fn digits_of(rt: &impl Abort, alloc: Global, change: Change) -> Run<u64> {
     )
 }
 
-// Whether these digits are right: the blocks stay, and where no call fails the form is the other one.
+// Whether these digits are right: the blocks stay, and where no call fails the form is the other
+// one.
 fn is_right(change: Change, digits: u64) -> bool {
     match digits {
         32 => change.fails > 0 || change.was_sealed,
@@ -111,7 +114,8 @@ fn is_right(change: Change, digits: u64) -> bool {
     }
 }
 
-// Makes the change, and once more where it leaves something else. What it then leaves, where that is wrong.
+// Makes the change, and once more where it leaves something else. What it then leaves, where that
+// is wrong.
 fn wrong_digits(rt: &impl Abort, alloc: Global, change: Change) -> Option<u64> {
     if is_right(change, told(digits_of(rt, alloc, change))) {
         return None;

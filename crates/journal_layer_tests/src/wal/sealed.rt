@@ -1,7 +1,9 @@
-// Groups of a sealed log, what crashes leave of them, and groups that are put over those that a crash tore.
+// Groups of a sealed log, what crashes leave of them, and groups that are put over those that a
+// crash tore.
 //
-// A group stands if and only if block 0 and each of its log blocks reached the disk. A crash keeps of each block with a
-// pending write either that write or what was there before, so a choice is a bit for each block.
+// A group stands if and only if block 0 and each of its log blocks reached the disk. A crash keeps
+// of each block with a pending write either that write or what was there before, so a choice is a
+// bit for each block.
 ghost use Rattle.std.specs.Prelude.{IfOk};
 ghost use Rattle.journal_disk.specs.Disks.{IsSettled};
 
@@ -14,7 +16,8 @@ use std::process::Abort;
 
 mod largest;
 
-// A position at which the log begins, so that its first group of two has the log's last block and its first one.
+// A position at which the log begins, so that its first group of two has the log's last block and
+// its first one.
 const AT_THE_END: u64 = 510;
 
 // A choice for three blocks.
@@ -34,7 +37,8 @@ fn sealed(rt: &impl Abort, alloc: Global, start: u64) -> Run<MemDisk>
     disk_with_log(rt, alloc, start, SEALED + start)
 }
 
-// Appends updates of blocks from the first on and takes them as a group, whose log blocks and block 0 are put.
+// Appends updates of blocks from the first on and takes them as a group, whose log blocks and block
+// 0 are put.
 fn put_group(
     rt: &impl Abort,
     alloc: Global,
@@ -70,7 +74,8 @@ fn torn(
     Ok(wal.into_disk().crash(&bits(choice)))
 }
 
-// How many positions the log of a disk has, and then the number at the front of each of some blocks, each as a digit.
+// How many positions the log of a disk has, and then the number at the front of each of some
+// blocks, each as a digit.
 fn digits(rt: &impl Abort, alloc: Global, disk: MemDisk, start: u64, blocks: &[u64]) -> Run<u64>
     requires { IsSettled disk.past }
 {
@@ -119,8 +124,8 @@ fn three_pairs_wanted(choice: usize) -> u64 {
     first + second + third
 }
 
-// A group of two blocks one of whose device calls fails, the first, second, third or fourth of them: two log blocks,
-// block 0 and the barrier. Then comes a crash.
+// A group of two blocks one of whose device calls fails, the first, second, third or fourth of
+// them: two log blocks, block 0 and the barrier. Then comes a crash.
 fn failed(rt: &impl Abort, alloc: Global, choice: usize) -> Run<u64> {
     let wal = open(rt, alloc, sealed(rt, alloc, AT_THE_END)?)?;
     let mut pair = paired(rt, alloc, wal)?;
@@ -140,7 +145,8 @@ fn failed(rt: &impl Abort, alloc: Global, choice: usize) -> Run<u64> {
     )
 }
 
-// The group stands where all writes were made and kept. The write that fails on a disk in memory is pending.
+// The group stands where all writes were made and kept. The write that fails on a disk in memory is
+// pending.
 fn failed_wanted(choice: usize) -> u64 {
     if choice / 8 % 4 >= 2 && choice % 8 == 7 {
         2121
@@ -194,8 +200,8 @@ fn wrong_choice(
     None
 }
 
-// With two tags the choice 1 + 4 * 2 would fail: block 0 of the first group is kept and then the log block of the second,
-// which block 0 would take for that of the first.
+// With two tags the choice 1 + 4 * 2 would fail: block 0 of the first group is kept and then the
+// log block of the second, which block 0 would take for that of the first.
 #[test]
 fn three_groups_are_torn_one_after_the_other(rt: HostRuntime) {
     wants(&rt, &wrong_choice(&rt, rt.alloc(), Trial::Three, 64), &None);

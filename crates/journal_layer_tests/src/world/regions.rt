@@ -13,8 +13,8 @@ const LARGEST: Kind = Kind::Record(RecordSize::Bytes2048);
 
 const INODES: Kind = Kind::Record(RecordSize::Bytes128);
 
-/// Words from block 513 on, records of 64 bytes from 600, bits in 700, records of 2048 bytes from 701, and whole blocks
-/// from 1000.
+/// Words from block 513 on, records of 64 bytes from 600, bits in 700, records of 2048 bytes from
+/// 701, and whole blocks from 1000.
 pub(crate) const FIVE: InUse = &[
     (513, WORDS),
     (600, Kind::Record(RecordSize::Bytes64)),
@@ -34,8 +34,8 @@ pub(crate) const FILES: InUse = &[
 /// Whole blocks alone.
 pub(crate) const WHOLE: InUse = &[(513, Kind::Block)];
 
-/// The regions of files, and behind them words from block 800 on, records of 64 bytes from 810, bits from 820 and records
-/// of 2048 bytes from 830.
+/// The regions of files, and behind them words from block 800 on, records of 64 bytes from 810,
+/// bits from 820 and records of 2048 bytes from 830.
 pub(crate) const BEYOND: InUse = &[
     (513, Kind::Block),
     (514, Kind::Bit),
@@ -228,7 +228,8 @@ fn objects_are_of_the_kind_of_their_region(rt: HostRuntime) -> Result<(), Fail> 
 // The regions of files, and others, each with whether it is the layout of files.
 static OF_FILES: [(InUse, bool); 6] = [
     (FILES, true),
-    // The last region begins earlier, is not there, or is one of two; inodes have other sizes; there is no superblock.
+    // The last region begins earlier, is not there, or is one of two; inodes have other sizes;
+    // there is no superblock.
     (
         &[
             (513, Kind::Block),

@@ -3,9 +3,10 @@ use crate::asserts::tells;
 use crate::stories::{Errand, Story};
 use std::test::*;
 
-// In turn: bytes are placed with zeros before them, and read to the file's end; what was cut off does not come back, and
-// what sizes and times are refused; what is refused of handles and names; what CREATE is refused, and what it sets of a
-// file that is there; what is refused on the root, and where count and bytes differ. No bytes change nothing.
+// In turn: bytes are placed with zeros before them, and read to the file's end; what was cut off
+// does not come back, and what sizes and times are refused; what is refused of handles and names;
+// what CREATE is refused, and what it sets of a file that is there; what is refused on the root,
+// and where count and bytes differ. No bytes change nothing.
 const CASES: &str = "
 at 5 0
 CREATE ROOT f002 1 NOTHING = DONE 0 1 FILE 1 LOOKS 0 0 USED AT_5 1 ROOT_WAS 1 ROOT_LOOKS

@@ -46,8 +46,8 @@ fn mount_watched(alloc: Global, disk: MemDisk, watch: &Watch) -> Told
     }
 }
 
-// A disk without files: the two headers of the log, the superblock, the sixteen blocks of inodes and the bitmap are read
-// once.
+// A disk without files: the two headers of the log, the superblock, the sixteen blocks of inodes
+// and the bitmap are read once.
 #[test]
 fn a_mount_reads_each_block_once(rt: HostRuntime) {
     let watch = Watch::new(514, 0);

@@ -140,8 +140,8 @@ fn first_wrong(told: &[Told]) -> Told {
     Ok(())
 }
 
-// Makes files, each under the name of the next number, until that is refused: how many there were, and the status. A file
-// that is there is refused by another one.
+// Makes files, each under the name of the next number, until that is refused: how many there were,
+// and the status. A file that is there is refused by another one.
 fn fill<'b, J: Naming, W: Wait>(
     rt: &W,
     alloc: Global,

@@ -76,8 +76,8 @@ at 5 0
 CREATE ROOT f002 1 NOTHING = DONE 0 1 FILE 1 LOOKS 0 0 USED AT_5 1 ROOT_WAS 1 ROOT_LOOKS
 ";
 
-// Takes the address and gives it up again, in turns: each attempt finds it taken, and whoever then waits for it has
-// it before it is taken once more.
+// Takes the address and gives it up again, in turns: each attempt finds it taken, and whoever then
+// waits for it has it before it is taken once more.
 fn take_turns<'w, 'b, J: Naming, W: Wait>(
     rt: &W,
     alloc: Global,
@@ -111,7 +111,8 @@ fn takes_turn<'w, 'b, J: Naming, W: Wait>(
     is_taken
 }
 
-// Takes the address, and holds it until the next attempt was given up, which until then holds the slot of `before`.
+// Takes the address, and holds it until the next attempt was given up, which until then holds the
+// slot of `before`.
 fn takes<'j, 'w, 'b, J: Naming, W: Wait>(
     rt: &W,
     txn: &mut Txn<'j, 'b, WatchedDisk<'w>, SoundFiles, J>,
@@ -145,7 +146,8 @@ fn overwrites<'j, 'w, 'b, J: Naming, W: Wait>(
     txn.overwrite(rt, addr, bytes).is_ok()
 }
 
-// Makes the calls beside the other thread, which keeps the log once it has taken the address in turns.
+// Makes the calls beside the other thread, which keeps the log once it has taken the address in
+// turns.
 fn compete<'w, 'b, J: Naming + Send + Sync, H: Threads + Wait + Sync>(
     rt: &H,
     alloc: Global,
@@ -177,8 +179,9 @@ fn take_turns_and_keep<'w, 'b, J: Naming, W: Wait>(
     took
 }
 
-// Brings home all that was logged, so that what is read comes from the disk, and then makes the calls. The other thread's
-// session is made before, since the core is busy while a read waits for its turn.
+// Brings home all that was logged, so that what is read comes from the disk, and then makes the
+// calls. The other thread's session is made before, since the core is busy while a read waits for
+// its turn.
 fn contend<'w, 'b, J: Naming + Send + Sync, H: Threads + Wait + Sync>(
     rt: &H,
     alloc: Global,
@@ -214,7 +217,8 @@ fn over<'w, 'b, J: Naming + Send + Sync, H: Threads + Wait + Sync>(
     requires layout { J.layout ≡ files disk.disk.past.size }
     requires settled { IsSettled disk.disk.past }
 {
-    // Each attempt reads two blocks, so that with one copy none of its reads finds its block in memory.
+    // Each attempt reads two blocks, so that with one copy none of its reads finds its block in
+    // memory.
     let mounted: Result<Watched<'w, 'b, J>, _> = FileStore::mount_with_cache(
         alloc, book, cell, disk, 1,
     );
@@ -242,8 +246,8 @@ fn on_disk<H: Threads + Wait + Sync>(
     }
 }
 
-// What comes of the calls on a disk of so many blocks, and how often the block of the inodes and the one that is taken
-// are read.
+// What comes of the calls on a disk of so many blocks, and how often the block of the inodes and
+// the one that is taken are read.
 fn run<H: Threads + Wait + Net<Listener = TcpListener, Stream = TcpStream> + Sync>(
     rt: &H,
     alloc: Global,
@@ -266,7 +270,8 @@ fn run<H: Threads + Wait + Net<Listener = TcpListener, Stream = TcpStream> + Syn
     (told, inode_reads, watch.taken_reads.load(Ordering::SeqCst))
 }
 
-// The slot is taken for eight attempts: before each retry the call waits for it, and the ninth attempt is answered.
+// The slot is taken for eight attempts: before each retry the call waits for it, and the ninth
+// attempt is answered.
 #[test]
 fn a_ninth_attempt_is_answered(rt: HostRuntime) {
     let contest = Contest {

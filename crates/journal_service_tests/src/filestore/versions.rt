@@ -39,7 +39,8 @@ enum Call {
     Read(u32, u64, u32),
 }
 
-// What is answered: a size, a count of bytes with their sum and whether they reach the end, or a case.
+// What is answered: a size, a count of bytes with their sum and whether they reach the end, or a
+// case.
 #[derive(Clone, Copy, PartialEq, Eq)]
 enum Reply {
     Size(u64),
@@ -307,7 +308,8 @@ fn on_new_disk<W: Wait>(rt: &W, alloc: Global, blocks: u64, story: &[(Call, Repl
     }
 }
 
-// What lies in two blocks, on both sides of byte 40960, is read as it was written, and all before it as zeros.
+// What lies in two blocks, on both sides of byte 40960, is read as it was written, and all before
+// it as zeros.
 static TWELVE: [(Call, Reply); 16] = [
     (Call::Create(b"f002"), Reply::Size(0)),
     (Call::Write(2, 40000, 2000, 3), Reply::Size(42000)),
@@ -333,7 +335,8 @@ fn a_file_has_twelve_blocks(rt: HostRuntime) {
     wants(&rt, &told, &Ok(()));
 }
 
-// Five data blocks. Where more are needed than are free, nothing changes; what is cut off may be written anew, and is zero.
+// Five data blocks. Where more are needed than are free, nothing changes; what is cut off may be
+// written anew, and is zero.
 static OUT_AND_BACK: [(Call, Reply); 14] = [
     (Call::Create(b"f002"), Reply::Size(0)),
     (Call::Write(2, 0, 16384, 1), Reply::Size(16384)),

@@ -3,10 +3,11 @@ use crate::asserts::tells;
 use crate::stories::{Errand, Story};
 use std::test::*;
 
-// A call of each procedure, and of each form that its arguments may have: a name that is filled up by a zero; no attribute to
-// set, so that the time becomes the moment, each one, both times given by the client and a guard, and the server's time; data
-// that is to be stable, which is answered as stable with all attributes, with and without padding; a file that is made in each
-// of the three ways.
+// A call of each procedure, and of each form that its arguments may have: a name that is filled up
+// by a zero; no attribute to set, so that the time becomes the moment, each one, both times given
+// by the client and a guard, and the server's time; data that is to be stable, which is answered as
+// stable with all attributes, with and without padding; a file that is made in each of the three
+// ways.
 const CALLS: &str = "
 at 5 0
 NULL = DONE
@@ -36,8 +37,9 @@ fn arguments_cut_short_or_with_more_behind(rt: HostRuntime) {
     tells(&rt, rt.alloc(), 532, &Story::Cut(CALLS));
 }
 
-// Padding that is no zero, of a name and of data; a boolean that is 2; numbers that are not listed, of how a time is set, how
-// stable data is and how a file is made; a handle of 65 bytes; a name that is said to have a byte more than it has.
+// Padding that is no zero, of a name and of data; a boolean that is 2; numbers that are not listed,
+// of how a time is set, how stable data is and how a file is made; a handle of 65 bytes; a name
+// that is said to have a byte more than it has.
 const NO_ARGUMENTS: &str = "
 LOOKUP ROOT 3 0x66303201 = GARBAGE
 WRITE FILE 0 0 1 0 1 0xff000001 = GARBAGE
@@ -55,7 +57,8 @@ fn arguments_that_no_value_is_spelled_as(rt: HostRuntime) {
     tells(&rt, rt.alloc(), 532, &Story::Table(NO_ARGUMENTS));
 }
 
-// An inode without a file is stale; what names no inode, begins with another mark or has another length is no handle.
+// An inode without a file is stale; what names no inode, begins with another mark or has another
+// length is no handle.
 const HANDLES: &str = "
 GETATTR ROOT = DONE 0 ROOT_LOOKS
 GETATTR 12 0x4a4e4c31 511 0xffffffff = DONE 70

@@ -3,8 +3,9 @@ use crate::asserts::tells;
 use crate::stories::Story;
 use std::test::*;
 
-// NULL; another procedure, version, version of RPC and program; a name whose padding is no zero, and a byte behind no
-// arguments; nothing behind another version of RPC; any flavor, and bodies of a credential and a verifier.
+// NULL; another procedure, version, version of RPC and program; a name whose padding is no zero,
+// and a byte behind no arguments; nothing behind another version of RPC; any flavor, and bodies of
+// a credential and a verifier.
 const HEADERS: &str = "
 NULL = DONE
 8 0 2 0x186a3 3 16 0 0 0 0 = 8 1 0 0 0 3

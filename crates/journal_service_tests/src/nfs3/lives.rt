@@ -3,8 +3,8 @@ use crate::asserts::tells;
 use crate::stories::{Errand, Story};
 use std::test::*;
 
-// A file is made, and there is no room for another one. Its last byte is written, and no byte more; behind it nothing is
-// read. It is removed, and its handle names nothing any more.
+// A file is made, and there is no room for another one. Its last byte is written, and no byte more;
+// behind it nothing is read. It is removed, and its handle names nothing any more.
 const LIFE: &str = "
 at 5 0
 CREATE ROOT f002 0 NOTHING = DONE 0 1 FILE 1 LOOKS 0 0 USED AT_5 1 ROOT_WAS 1 ROOT_LOOKS

@@ -23,7 +23,8 @@ const HELD: &str = "
 LOOKUP ROOT f003 = DONE 2 0
 ";
 
-// The device fails as an inode is read that was not read before, and nothing is answered from then on: IO.
+// The device fails as an inode is read that was not read before, and nothing is answered from then
+// on: IO.
 const FAILED: &str = "
 GETATTR 12 0x4a4e4c31 511 1 = DONE 5
 LOOKUP ROOT f002 = DONE 5 0
@@ -86,7 +87,8 @@ pub(crate) fn fail_behind<'b, J: Naming, W: Wait>(
     ask(rt, alloc, files, table)
 }
 
-// Makes the calls while a transaction holds the slot of the first bit, which is below those of the inodes.
+// Makes the calls while a transaction holds the slot of the first bit, which is below those of the
+// inodes.
 fn call_held<'b, J: Naming, W: Wait>(
     rt: &W,
     alloc: Global,

@@ -1,10 +1,11 @@
-// Each status that a single caller can be answered, once for each procedure, on a disk with room for one file.
+// Each status that a single caller can be answered, once for each procedure, on a disk with room
+// for one file.
 use crate::asserts::tells;
 use crate::stories::{Errand, Story};
 use std::test::*;
 
-// In turn: without a file and with it; with a handle of another generation, and one of no inode; with a time that is none.
-// What is made again unchecked is set, and is gone once it is removed.
+// In turn: without a file and with it; with a handle of another generation, and one of no inode;
+// with a time that is none. What is made again unchecked is set, and is gone once it is removed.
 const STATUSES: &str = "
 at 6 7
 LOOKUP ROOT f002 = DONE 2 0

@@ -89,8 +89,9 @@ fn on_new_disk<H: Threads + Wait + Sync>(rt: &H, alloc: Global, blocks: u64, tab
     }
 }
 
-// Five blocks. A file is made as long as four at once; there is room for a second one, and none for its second block, until
-// the first is cut. Then that is used, and read to its end. Two blocks are left, and no third for a new file.
+// Five blocks. A file is made as long as four at once; there is room for a second one, and none for
+// its second block, until the first is cut. Then that is used, and read to its end. Two blocks are
+// left, and no third for a new file.
 const SPACE: &str = "
 at 5 0
 CREATE ROOT f002 0 NOTHING = DONE 0 1 FILE 1 LOOKS 0 0 USED AT_5 1 ROOT_WAS 1 ROOT_LOOKS

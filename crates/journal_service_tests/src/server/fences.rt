@@ -27,8 +27,8 @@ pub(crate) enum Before {
     Stop,
 }
 
-// Serves a connection that is to create a file. It is refused, since its session is fenced, or the journal was stopped; then
-// nothing is fenced at its end either.
+// Serves a connection that is to create a file. It is refused, since its session is fenced, or the
+// journal was stopped; then nothing is fenced at its end either.
 pub(crate) fn create_behind<'b, J: Naming, W: Wait>(
     rt: &W,
     alloc: Global,

@@ -19,8 +19,8 @@ at 5 0
 CREATE ROOT f002 0 NOTHING = DONE 0 1 FILE 1 LOOKS 0 0 USED AT_5 1 ROOT_WAS 1 ROOT_LOOKS
 ";
 
-// WRITE of the byte 0xff to the front of file 2, call N, as a record of one fragment: UNSTABLE, FILE_SYNC, DATA_SYNC and
-// UNSTABLE.
+// WRITE of the byte 0xff to the front of file 2, call N, as a record of one fragment: UNSTABLE,
+// FILE_SYNC, DATA_SYNC and UNSTABLE.
 const WRITES: [&str; 4] = [
     "0x80000050 N 0 2 0x186a3 3 7 0 0 0 0 FILE 0 0 1 0 1 0xff000000",
     "0x80000050 N 0 2 0x186a3 3 7 0 0 0 0 FILE 0 0 1 2 1 0xff000000",
@@ -28,7 +28,8 @@ const WRITES: [&str; 4] = [
     "0x80000050 N 0 2 0x186a3 3 7 0 0 0 0 FILE 0 0 1 0 1 0xff000000",
 ];
 
-// Their replies: the clock tells the seconds from 6 on, and each call finds the moment of the one before it.
+// Their replies: the clock tells the seconds from 6 on, and each call finds the moment of the one
+// before it.
 const WROTE: [&str; 4] = [
     "0x800000a0 N 1 0 0 0 0 0 1 0 0 5 0 5 0 1 LOOKS 0 1 USED 6 0 6 0 6 0 1 0 VERIFIER",
     "0x800000a0 N 1 0 0 0 0 0 1 0 1 6 0 6 0 1 LOOKS 0 1 USED 7 0 7 0 7 0 1 2 VERIFIER",

@@ -76,7 +76,8 @@ fn call_once<H: Net<Listener = TcpListener, Stream = TcpStream>>(
 // What peers are told: the first of them, and the last.
 type Replies = (Vec<u8>, Vec<u8>);
 
-// Connects twice, and waits for the second reply before the gate is opened for the first. The first call comes byte by byte.
+// Connects twice, and waits for the second reply before the gate is opened for the first. The first
+// call comes byte by byte.
 fn call_twice<H: Net<Listener = TcpListener, Stream = TcpStream>>(
     rt: &H,
     alloc: Global,
@@ -92,8 +93,8 @@ fn call_twice<H: Net<Listener = TcpListener, Stream = TcpStream>>(
     Ok((hear(&first, alloc), later))
 }
 
-// Peers that send nothing, that leave within a record, and that send what is no call behind one and go on sending: the reply
-// to the call reaches the last.
+// Peers that send nothing, that leave within a record, and that send what is no call behind one and
+// go on sending: the reply to the call reaches the last.
 fn leave_early<H: Net<Listener = TcpListener, Stream = TcpStream>>(
     rt: &H,
     alloc: Global,
@@ -248,8 +249,8 @@ pub(crate) enum Manner {
     CallAtOnce,
 }
 
-// Peers that come to a port, what two of them send, how their connections end where that is known, and how many replies the
-// first and the last of them get.
+// Peers that come to a port, what two of them send, how their connections end where that is known,
+// and how many replies the first and the last of them get.
 #[derive(Clone, Copy)]
 pub(crate) struct Visit {
     manner: Manner,
@@ -417,7 +418,8 @@ impl Visit {
     }
 }
 
-// The first of two connections is held until the second, whose call comes in fragments of 20, 0 and 20 bytes, is answered.
+// The first of two connections is held until the second, whose call comes in fragments of 20, 0 and
+// 20 bytes, is answered.
 #[test]
 fn two_sockets_are_served_at_once(rt: HostRuntime) {
     let visit = Visit {

@@ -3,8 +3,8 @@ use std::alloc::Global;
 use std::io;
 use std::io::{ErrorKind, Read, Write};
 
-// A reader of these bytes, so many at a time. Every other read is broken off by a signal, and at their end it fails, or
-// not.
+// A reader of these bytes, so many at a time. Every other read is broken off by a signal, and at
+// their end it fails, or not.
 #[derive(Drop)]
 pub(crate) struct Dripping<'a> {
     rest: &'a [u8],

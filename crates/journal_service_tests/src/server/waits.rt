@@ -28,7 +28,8 @@ use std::sync::atomic::{AtomicBool, Ordering};
 use std::test::*;
 use std::thread::{Threads, join, yield_now};
 
-// WRITE with FILE_SYNC, call N, of the byte 0xff to the front of file 2, as a record of one fragment.
+// WRITE with FILE_SYNC, call N, of the byte 0xff to the front of file 2, as a record of one
+// fragment.
 const WRITE: &str = "0x80000050 N 0 2 0x186a3 3 7 0 0 0 0 FILE 0 0 1 2 1 0xff000000";
 
 // Its reply: the file had no bytes, or one since the moment (5, 0).
@@ -139,8 +140,8 @@ fn wait_until_open(signals: &Signals) {
 
 type Gated<'s, 'b, J> = FileStore<'b, GatedDisk<'s>, J>;
 
-// A gate that, before the call with this number, has all that was committed made stable, and lets the device fail from
-// then on.
+// A gate that, before the call with this number, has all that was committed made stable, and lets
+// the device fail from then on.
 struct FailingGate<'f, 's, 'b, J: Naming> {
     files: &'f Gated<'s, 'b, J>,
     signals: &'s Signals,
@@ -568,7 +569,8 @@ fn pieces_have_the_same_replies(rt: HostRuntime) {
     }
 }
 
-// The device fails behind the first two of four calls: their mark stands, and the others are answered IO.
+// The device fails behind the first two of four calls: their mark stands, and the others are
+// answered IO.
 #[test]
 fn what_is_not_stable_is_refused(rt: HostRuntime) {
     let piece = Piece {

@@ -154,10 +154,10 @@ fn is_end(outcome: Outcome, line: Line<'_>) -> bool {
     name == line.end && answered.unwrap_or(replies) == replies
 }
 
-// Serves connections one after another. A line has numbers: how many bytes are read at once, whether reading fails at the
-// end, how many bytes are written at once, and how many at all; so many calls of NULL are read, and then the words after the
-// colon, of which so many bytes are cut off. Behind ` = ` stands how the connection ends, with so many replies, and so many
-// writes.
+// Serves connections one after another. A line has numbers: how many bytes are read at once,
+// whether reading fails at the end, how many bytes are written at once, and how many at all; so
+// many calls of NULL are read, and then the words after the colon, of which so many bytes are cut
+// off. Behind ` = ` stands how the connection ends, with so many replies, and so many writes.
 pub(crate) fn serve_all<'b, J: Naming, W: Wait>(
     rt: &W,
     alloc: Global,
@@ -187,7 +187,8 @@ fn a_call_is_answered_however_it_is_cut(rt: HostRuntime) {
     tells(&rt, rt.alloc(), 532, &Story::Connections(CUTTINGS));
 }
 
-// What stands behind a call decides how the connection ends. The call is answered each time, and nothing else.
+// What stands behind a call decides how the connection ends. The call is answered each time, and
+// nothing else.
 const ENDS: &str = "
 9999 0 9999 9999 1 0 : = EndOfInput 1 1
 9999 0 9999 9999 1 1 : 0 = Truncated 1 1
@@ -201,8 +202,8 @@ fn each_end_comes_where_it_should(rt: HostRuntime) {
     tells(&rt, rt.alloc(), 532, &Story::Connections(ENDS));
 }
 
-// A header above the limit alone, a credential above its limit, a reply, no input at all, and streams that fail: a reader
-// behind a call, and a writer that takes 5 bytes of the reply, 5 and 2.
+// A header above the limit alone, a credential above its limit, a reply, no input at all, and
+// streams that fail: a reader behind a call, and a writer that takes 5 bytes of the reply, 5 and 2.
 const GIVEN_UP: &str = "
 9999 0 9999 9999 0 0 : 0x80004001 = BadRecord 0 0
 9999 0 9999 9999 0 0 : 0x80000020 0x11 0 2 0x186a3 3 0 0 0x191 = BadRecord 0 0
@@ -212,8 +213,8 @@ const GIVEN_UP: &str = "
 9999 0 5 12 1 0 : = WriteFailed 1 4
 ";
 
-// The same at each read of two calls, eleven bytes at a time, and at each write of their replies, seven bytes at a time: what was
-// written is the front of the replies.
+// The same at each read of two calls, eleven bytes at a time, and at each write of their replies,
+// seven bytes at a time: what was written is the front of the replies.
 const GIVEN_UP_AT_EACH: &str = "
 11 1 9999 9999 2 88 : = ReadFailed 0 0
 11 1 9999 9999 2 77 : = ReadFailed 0 0
@@ -241,8 +242,8 @@ fn a_connection_is_given_up(rt: HostRuntime) {
     tells(&rt, rt.alloc(), 532, &Story::Connections(GIVEN_UP_AT_EACH));
 }
 
-// A hundred calls that come together are answered in order, by one write; eleven hundred by two, since no more than 1024
-// replies are held at once, and no more calls wait.
+// A hundred calls that come together are answered in order, by one write; eleven hundred by two,
+// since no more than 1024 replies are held at once, and no more calls wait.
 const TOGETHER: &str = "
 9999 0 9999 9999 100 0 : = EndOfInput 100 1
 99999 0 99999 99999 1100 0 : = EndOfInput 1100 2
@@ -253,8 +254,8 @@ fn replies_that_are_ready_go_out_together(rt: HostRuntime) {
     tells(&rt, rt.alloc(), 532, &Story::Connections(TOGETHER));
 }
 
-// A call behind 5500 empty fragments comes in 22044 pieces of one byte, and the replies to a hundred calls go out byte by byte:
-// no count of pieces is a ground to give up.
+// A call behind 5500 empty fragments comes in 22044 pieces of one byte, and the replies to a
+// hundred calls go out byte by byte: no count of pieces is a ground to give up.
 const SPELLED: &str = "
 1 0 9999 9999 0 0 : 0*5500 0x80000028 0 0 2 0x186a3 3 0 0 0 0 0 = EndOfInput 1 1
 9999 0 1 9999 100 0 : = EndOfInput 100 2800

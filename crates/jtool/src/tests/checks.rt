@@ -61,7 +61,8 @@ const LAST_FILE: &[Change] = &[
     (FIRST_DATA + 4096, b"b"),
 ];
 
-/// Each leaves files that are not sound in either version of a disk of 600 blocks with a file of one byte.
+/// Each leaves files that are not sound in either version of a disk of 600 blocks with a file of
+/// one byte.
 const UNSOUND: &[Change] = &[
     // The first byte of the name, the version, and the number of blocks.
     (SUPERBLOCK, b"H"),
@@ -128,7 +129,8 @@ fn write_all(file: &File, changes: &[Change]) -> io::Result<()> {
     Ok(())
 }
 
-/// Wants of a check of a new disk of 600 blocks with a file of one byte, these changes and one more, that it is refused.
+/// Wants of a check of a new disk of 600 blocks with a file of one byte, these changes and one
+/// more, that it is refused.
 fn is_unsound<
     H: Abort
         + Files<File = File>
@@ -172,7 +174,8 @@ pub(super) fn none_is_sound<
     Ok(())
 }
 
-/// Wants that a check tells of a sound disk with one file, of either version, and changes nothing in the file.
+/// Wants that a check tells of a sound disk with one file, of either version, and changes nothing
+/// in the file.
 pub(super) fn is_left<
     H: Abort
         + AllocGlobal
@@ -203,8 +206,8 @@ fn are_same(before: &[u8], after: &[u8]) -> bool {
     before == after
 }
 
-/// A disk, with a file of one byte, then of two blocks, and then in version 1; each that is not sound; and one whose log is
-/// none.
+/// A disk, with a file of one byte, then of two blocks, and then in version 1; each that is not
+/// sound; and one whose log is none.
 static CHECKED: [Step; 20] = [
     Step::Format("600"),
     Step::Check("sound version 2 files 0\n", "", 0),
@@ -233,8 +236,8 @@ fn a_check_tells_what_a_mount_answers(rt: HostRuntime) -> Result<(), Fail> {
     at_path(&rt, rt.alloc(), "palkhuveg-checked-disk", &CHECKED)
 }
 
-/// What is no disk of either version is refused. A disk of version 1 with a file is migrated twice, and has the same file in
-/// version 2.
+/// What is no disk of either version is refused. A disk of version 1 with a file is migrated twice,
+/// and has the same file in version 2.
 static MIGRATED: [Step; 10] = [
     Step::Format("600"),
     Step::Make(&[(SUPERBLOCK + 8, &[3])]),

@@ -12,8 +12,8 @@ use std::test::Fail;
 use std::thread::Threads;
 use std::time::Clock;
 
-/// Lines, each with its answer where no device call fails. Once one failed, no line has its answer any more,
-/// but for a `put`.
+/// Lines, each with its answer where no device call fails. Once one failed, no line has its answer
+/// any more, but for a `put`.
 const LINES: &[(&str, &[u8])] = &[
     ("put 515 0 01*128", b"ok"),
     ("put 531 0 aa*4096", b"ok"),
@@ -60,7 +60,8 @@ const FAULT: &[u8] = b"refused J6 DeviceFailed";
 /// What a `put` may answer then, and a `commit`.
 const WITHOUT_DEVICE: &[&[u8]] = &[b"ok", b"no transaction"];
 
-/// How many faults there are after an answer, of a line that has the other answer where no device call fails.
+/// How many faults there are after an answer, of a line that has the other answer where no device
+/// call fails.
 fn count_fault(answer: &[u8], whole: &[u8], faults: u64) -> Option<u64> {
     if answer == FAULT {
         return Some(faults.saturating_add(1));
@@ -108,8 +109,8 @@ fn each_failing_call_is_told_from_then_on(rt: HostRuntime) -> Result<(), Fail> {
         }
         failing = failing.saturating_add(1);
     }
-    // A read for the get, and one for the first commit; the logger's 5 and 4, the installer's 5; a read for
-    // the last get, whose block was never fetched, so that it has no copy in memory.
+    // A read for the get, and one for the first commit; the logger's 5 and 4, the installer's 5; a
+    // read for the last get, whose block was never fetched, so that it has no copy in memory.
     wants(&rt, &failing, &17);
     Ok(())
 }
@@ -233,7 +234,8 @@ fn leaves_fronts<
 
 #[test]
 fn a_crash_at_each_call_leaves_a_front(rt: HostRuntime) -> Result<(), Fail> {
-    // A read for the first commit, the logger's 5 and 5, the installer's 6; the last call is not made.
+    // A read for the first commit, the logger's 5 and 5, the installer's 6; the last call is not
+    // made.
     for call in 1..=18 {
         leaves_fronts(&rt, rt.alloc(), call)?;
     }

@@ -12,7 +12,8 @@ use std::test::Fail;
 use std::thread::Threads;
 use std::time::Clock;
 
-/// What the device call that fails, counted from 1, leaves pending, and what a crash that loses all of that or nothing leaves.
+/// What the device call that fails, counted from 1, leaves pending, and what a crash that loses all
+/// of that or nothing leaves.
 struct Fault {
     call: u32,
     pending: &'static str,
@@ -26,7 +27,8 @@ const LOGGED: &str = "= 01*128\ncommits 0 floor 0 start 0 end 1\n";
 
 const INSTALLED: &str = "= 01*128\ncommits 0 floor 0 start 1 end 1\n";
 
-/// The four calls that log a group, and the four that install it: a block, a barrier, a header, a barrier.
+/// The four calls that log a group, and the four that install it: a block, a barrier, a header, a
+/// barrier.
 const FAULTS: &[Fault] = &[
     Fault {
         call: 1,

@@ -124,7 +124,8 @@ const ROWS: &[(&str, &str, u8)] = &[
         refused J6 DeviceFailed\nopened\n= 00*128\n",
         0,
     ),
-    // A fault is told before what is known. The log's first step is a cut, and no device call; its second writes a log block.
+    // A fault is told before what is known. The log's first step is a cut, and no device call; its
+    // second writes a log block.
     (
         "put 515 0 01*128\nput 515 1024 02*128\ncommit\nput 515 0 03*128\nget 515 1024\n\
         fail 1\nlog\nget 515 0\nget 515 1024\nget 514 0\nget 600 0\nput 515 0 04*128\nabort\n",
@@ -156,7 +157,8 @@ const ROWS: &[(&str, &str, u8)] = &[
         "bad line\nbad line\nok\nbad line\nbad line\n",
         2,
     ),
-    // What was committed is read from memory. The device call that is to fail is the read of block 516.
+    // What was committed is read from memory. The device call that is to fail is the read of block
+    // 516.
     (
         "put 515 0 01*128\ncommit\nfail 1\nget 515 0\nget 515 2048\nget 516 0\n",
         "ok\ncommitted 1\nok\n= 01*128\n= 00*128\nrefused J6 DeviceFailed\n",

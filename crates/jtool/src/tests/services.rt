@@ -110,7 +110,8 @@ const WRITE: &[u32] = &[
     0x6100_0000,
 ];
 
-/// READ of it (RFC 1813, section 3.3.6), and how the reply ends: one byte was read, it is the file's last, and this one.
+/// READ of it (RFC 1813, section 3.3.6), and how the reply ends: one byte was read, it is the
+/// file's last, and this one.
 const READ: &[u32] = &[
     0x8000_0044,
     5,
@@ -134,7 +135,8 @@ const READ: &[u32] = &[
 
 const READ_BYTE: &[u32] = &[1, 1, 1, 0x6100_0000];
 
-/// Its header, the status, that there are attributes, these, and what was read, of which all are words.
+/// Its header, the status, that there are attributes, these, and what was read, of which all are
+/// words.
 const READ_REPLY_BYTES: usize = 4 * (7 + 1 + 1 + 21 + 4);
 
 /// Where the seconds of the file's last change stand in it: behind seventeen words of the
@@ -281,8 +283,8 @@ fn is_heard_elsewhere<R: Net<Listener = TcpListener, Stream = TcpStream>>(
     }
 }
 
-/// Sends nothing to one connection, part of a record to the next, and calls whose replies it does not hear to a third, which
-/// resets that one. Exchanges the bytes on the fourth.
+/// Sends nothing to one connection, part of a record to the next, and calls whose replies it does
+/// not hear to a third, which resets that one. Exchanges the bytes on the fourth.
 fn leave_early<R: Net<Listener = TcpListener, Stream = TcpStream> + Clock>(
     rt: &R,
     alloc: Global,
@@ -399,7 +401,8 @@ fn words_to_serve(alloc: Global, path: &str, connections: &str) -> Result<Vec<St
     words_of(alloc, &["serve", path, "0", connections])
 }
 
-/// Serves these peers, of which the last sends these bytes. Wants that all are served, and answers what came back.
+/// Serves these peers, of which the last sends these bytes. Wants that all are served, and answers
+/// what came back.
 fn calls<
     H: Abort
         + Files<File = File>
@@ -424,8 +427,8 @@ pub(super) struct Exchange {
     is_whole: bool,
 }
 
-/// Serves these peers, of which the last sends this call. Wants a reply that begins so, and has no more bytes exactly where
-/// that is the whole.
+/// Serves these peers, of which the last sends this call. Wants a reply that begins so, and has no
+/// more bytes exactly where that is the whole.
 pub(super) fn is_answered<
     H: Abort
         + Files<File = File>
@@ -549,7 +552,8 @@ fn a_disk_of_version_1_is_served(rt: HostRuntime) -> Result<(), Fail> {
     at_path(&rt, rt.alloc(), "palkhuveg-older-disk", &SERVED_OLDER)
 }
 
-/// The verifier at the end of what is heard, where the reply to a WRITE comes last. Wants that it is not zero.
+/// The verifier at the end of what is heard, where the reply to a WRITE comes last. Wants that it
+/// is not zero.
 fn verifier_in(rt: &impl Abort, heard: &[u8]) -> Result<u64, Fail> {
     let (_, last) = heard.split_last_chunk::<8>().ok_or("a verifier")?;
     let verifier = u64::from_be_bytes(*last);
@@ -565,7 +569,8 @@ fn joined(alloc: Global, first: &[u32], second: &[u32]) -> Result<Vec<u8>, Alloc
     Ok(bytes)
 }
 
-/// Makes a file and writes it, by calls that come together, and ends the service at once. The verifier that it told.
+/// Makes a file and writes it, by calls that come together, and ends the service at once. The
+/// verifier that it told.
 fn serves_write<
     H: Abort
         + Files<File = File>
@@ -649,8 +654,8 @@ fn what_was_written_is_there_after_a_clean_end(rt: HostRuntime) -> Result<(), Fa
     at_path(&rt, rt.alloc(), "palkhuveg-written-disk", &WRITTEN)
 }
 
-/// Wants the bits of a disk of 532 blocks from byte 514 * 4096 of its file on: one of a block that is free, and then those of
-/// no block.
+/// Wants the bits of a disk of 532 blocks from byte 514 * 4096 of its file on: one of a block that
+/// is free, and then those of no block.
 pub(super) fn has_bits<R: Abort + Files<File = File> + AllocGlobal>(
     rt: &R,
     path: &str,
@@ -823,7 +828,8 @@ fn are_refused<
     begins(rt, alloc, &["format", path, "533"], faults, 1)
 }
 
-/// A disk and a file on it, which is there after it was refused to others, so that there is no room for a second one.
+/// A disk and a file on it, which is there after it was refused to others, so that there is no room
+/// for a second one.
 static IN_USE: [Step; 4] = [
     Step::MakeDisk,
     Step::Answer(CREATES),
@@ -860,7 +866,8 @@ static LENGTHS: [Step; 12] = [
     Step::End("refused J8 BadSuper\n", 1),
 ];
 
-/// Wants that of a service of the file to no connection. It prints lines exactly where it ends well.
+/// Wants that of a service of the file to no connection. It prints lines exactly where it ends
+/// well.
 pub(super) fn ends<
     H: Abort
         + Files<File = File>

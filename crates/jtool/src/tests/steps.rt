@@ -154,7 +154,8 @@ pub(super) fn formats<
     begins(rt, alloc, &["format", path, blocks], "", 0)
 }
 
-/// Wants of this word and the file that it prints this line, tells those faults, and ends with that status.
+/// Wants of this word and the file that it prints this line, tells those faults, and ends with that
+/// status.
 fn tells<
     H: Abort
         + Files<File = File>
