@@ -2,6 +2,7 @@
 
 use crate::disks::{inspect_disk, open};
 use crate::fault::Fault;
+use journal_mount3::Exported;
 use journal_program::Settled;
 use journal_service::Endpoint;
 use std::alloc::Global;
@@ -13,7 +14,7 @@ use std::thread::Threads;
 use std::time::Clock;
 
 /// Serves the files of the disk in the file, of either version, so that clients mount them, until
-/// the program is ended. Prints the port before the first connection is accepted. Where the address
+/// the program is ended: NFS and MOUNT in their versions 3 (RFC 1813). Prints the port before the first connection is accepted. Where the address
 /// is not one that this machine alone reaches, the first line of `faults` says what that means.
 ///
 /// Refused where another program uses the disk, where it is no disk of the file service, where its
@@ -50,7 +51,7 @@ pub fn export<
         );
     }
     let disk = Settled::unwritten(inspected.disk);
-    match journal_service::export(rt, alloc, disk, endpoint, output, faults) {
+    match journal_service::export::<Exported, R, O, E>(rt, alloc, disk, endpoint, output, faults) {
         Ok(()) => Ok(()),
         Err(why) => Err(Fault::unserved(path, why)),
     }

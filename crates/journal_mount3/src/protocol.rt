@@ -4,10 +4,10 @@ use journal_disk::BlockDisk;
 use journal_filestore::FileStore;
 use journal_history::{Naming, Receipt, Session};
 use journal_inode::{SoundFiles, Version};
-use journal_nfs3::{PendingReply, Procedure};
+use journal_nfs3::{PendingReply, Procedure, Verifier};
 use journal_rpc::Call;
-use journal_server::Protocol;
-use journal_world::{Moment, Refusal};
+use journal_server::{PoolSize, Programs, Protocol};
+use journal_world::{Layout, Moment, Refusal};
 use std::alloc::{AllocError, Global};
 use std::sync::Wait;
 
@@ -41,6 +41,21 @@ impl<V: Version> Protocol<V> for Exported {
         match journal_nfs3::refused_reply::<E, ()>(alloc, xid, procedure, why) {
             Ok(reply) => Ok(reply),
             Err(_) => Err(AllocError),
+        }
+    }
+}
+
+// A client has a connection as long as it has the files mounted, so there are more workers than
+// where NFS alone is served.
+impl Programs for Exported {
+    fn on(layout: Layout, verifier: Verifier) -> Exported {
+        Exported { verifier, layout }
+    }
+
+    fn pool(&self) -> PoolSize {
+        PoolSize {
+            workers: 16,
+            waiting: 16,
         }
     }
 }

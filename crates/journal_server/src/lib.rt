@@ -4,6 +4,7 @@
 //! and says which wait comes before the reply may be sent. `NineProcedures` is the protocol of the
 //! file service, and `serve`, `run_workers` and `serve_all` answer by it. `serve_protocol`,
 //! `run_protocol` and `serve_all_by` answer by any, with as many workers as are asked for.
+//! `Programs` is a protocol that a service makes for its disk, and says how many workers it has.
 //!
 //! `serve` answers the calls of one connection, over any reader and any writer. It reads pieces
 //! into one buffer, does the calls that are complete, in order, waits once until the last of those
@@ -26,6 +27,7 @@ mod connection;
 mod files;
 mod laws;
 mod pieces;
+mod programs;
 mod protocol;
 mod queue;
 mod reply_batch;
@@ -39,6 +41,7 @@ mod workers;
 pub use connection::{ConnFault, End, Served, serve, serve_protocol};
 pub use files::NineProcedures;
 pub use laws::what_was_stable_stays_stable;
+pub use programs::Programs;
 pub use protocol::Protocol;
 pub use service::Clock;
 pub use source::{Connection, Source};

@@ -1,14 +1,17 @@
 //! The file service: disks in files, and the files of such a disk over TCP.
 //!
-//! `format` makes a disk of version 2 without files in a file, and `check` tells whether a disk is sound, and of which
-//! version. `migrate` makes one of version 1 one of version 2. `serve` mounts a disk of either version, runs the logger and the installer beside the workers, and answers the
-//! connections that come to a port of this machine. It ends by a flush, a stop, a close and a barrier, so that all commits
-//! are stable in the file then.
+//! `format` makes a disk of version 2 without files in a file, and `check` tells whether a disk is
+//! sound, and of which version. `migrate` makes one of version 1 one of version 2. `serve` mounts a
+//! disk of either version, runs the logger and the installer beside the workers, and answers the
+//! connections that come to a port of this machine. It ends by a flush, a stop, a close and a
+//! barrier, so that all commits are stable in the file then. `export` does the same by other
+//! programs than the nine procedures, for example by NFS and MOUNT, and at any address.
 //!
 //! A disk is mounted under the rule of version 2, and where that refuses it by J8 `BadSuper` under
 //! the rule of version 1: each with a book of its own, since a book is of one rule.
 //!
-//! Of what a file holds no contract says anything, since no proof can say that a file keeps what was written to it.
+//! Of what a file holds no contract says anything, since no proof can say that a file keeps what
+//! was written to it.
 #![tactic(auto)]
 
 mod checking;
@@ -18,7 +21,6 @@ mod file;
 mod migrating;
 mod mounting;
 mod printing;
-mod programs;
 mod serving;
 
 pub use checking::check;

@@ -6,7 +6,6 @@ use crate::clock::{WallClock, verifier_of};
 use crate::fault::ServiceFault;
 use crate::mounting::{Tried, mount, slot_cell};
 use crate::printing::{give_up, print_line};
-use crate::programs::Programs;
 use crate::{clock, file};
 use journal_daemon::OpenGate;
 use journal_disk::{BlockDisk, FileDisk};
@@ -14,9 +13,10 @@ use journal_filestore::FileStore;
 use journal_history::{Book, Naming};
 use journal_inode::{SoundFiles, Version, VersionOne, VersionTwo};
 use journal_lockmap::SlotCell;
-use journal_mount3::Exported;
 use journal_program::{Daemon, Settled};
-use journal_server::{Listening, NineProcedures, Protocol, WaitingConnections, serve_all_by};
+use journal_server::{
+    Listening, NineProcedures, Programs, Protocol, WaitingConnections, serve_all_by,
+};
 use journal_world::{Layout, Refusal, Refused};
 use std::alloc::Global;
 use std::fs::{File, Files};
@@ -39,7 +39,7 @@ pub struct Service<'w> {
     pub connections: u64,
 }
 
-/// Where a file service that clients mount is reached.
+/// Where a file service is reached that serves until it is ended.
 #[derive(Clone, Copy)]
 pub struct Endpoint {
     /// The address of this machine to which connections come. Whoever reaches it reads and writes
@@ -57,10 +57,11 @@ struct Plan {
     connections: u64,
 }
 
-/// Serves the files of the disk, of either version, so that clients mount them, until the program
-/// is ended: NFS and MOUNT in their versions 3. It prints the port before the first connection is
-/// taken. Else it does as `serve`, and is refused as that is.
+/// Serves the files of the disk, of either version, by the programs `P`, until the program is
+/// ended. It prints the port before the first connection is taken. Else it does as `serve`, and is
+/// refused as that is.
 pub fn export<
+    P: Programs + Protocol<VersionTwo> + Protocol<VersionOne> + Sync + Drop,
     R: Files<File = File>
         + Net<Listener = TcpListener, Stream = TcpStream>
         + Clock
@@ -83,7 +84,7 @@ pub fn export<
         port,
         connections: u64::MAX,
     };
-    carry_out::<Exported, R, O, E>(rt, alloc, disk, plan, output, faults)
+    carry_out::<P, R, O, E>(rt, alloc, disk, plan, output, faults)
 }
 
 /// Serves the files of the disk in the file, of either version, and prints the port before the
