@@ -19,7 +19,7 @@ use Rattle.journal_wal.specs.declared.step.InstallStep.{InstallStep}
 use Rattle.journal_parts.specs.declared.step.LogStep.{LogStep}
 use Rattle.journal_parts.specs.declared.step.LogStep.TheVariants.{Marked}
 use Rattle.journal_memory.specs.Causes.{CauseState}
-use Rattle.journal_parts.specs.Cores.{core_of}
+use Rattle.journal_parts.specs.CoreParts.{core_of}
 use Rattle.journal_memory.specs.Transactions.{TransactionState, ReadResultState, begun, AreUnmoved, Remembers, Overwrites}
 use Rattle.journal_memory.specs.Ledgers.{IsBehind}
 use Rattle.journal_memory.specs.Fences.{AddsFence}

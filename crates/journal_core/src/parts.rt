@@ -1,6 +1,6 @@
 // The core's two parts, apart: for a lock of each.
 ghost use Rattle.std.specs.Prelude.{◌≡◌};
-ghost use Rattle.journal_parts.specs.Cores.{IsPair, core_of};
+ghost use Rattle.journal_parts.specs.CoreParts.{IsPair, core_of};
 ghost use Rattle.journal_parts.specs.Holds.{IsBetween};
 
 use crate::state::Core;

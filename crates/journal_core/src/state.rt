@@ -29,7 +29,8 @@ pub struct Core<'b, D: BlockDisk, R: MapRule, J: Naming> {
 }
 
 impl<'b, D: BlockDisk, R: MapRule, J: Naming> Model for Core<'b, D, R, J> {
-    ghost use Rattle.journal_parts.specs.Cores.{CoreState, IsCore, core_of};
+    ghost use Rattle.journal_parts.specs.Cores.{CoreState};
+    ghost use Rattle.journal_parts.specs.CoreParts.{IsCore, core_of};
 
     ghost Value = { CoreState };
 

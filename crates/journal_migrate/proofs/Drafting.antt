@@ -24,7 +24,8 @@ use Rattle.journal_memory.specs.declared.refusal_number.RefusalNumber.TheVariant
 use Rattle.journal_memory.specs.Causes.{CauseState, IsExplained}
 use Rattle.journal_memory.specs.Ledgers.{IsUnknown, IsStale, IsBehind, IsNumberRefusal}
 use Rattle.journal_memory.specs.Outsets.{IsWorn, IsFull}
-use Rattle.journal_parts.specs.Cores.{CoreState, IsRunning, OnlyReads, disk_of, is_faulted, next_of, outset, tail_length}
+use Rattle.journal_parts.specs.Cores.{CoreState, IsRunning, OnlyReads, disk_of, is_faulted, next_of, tail_length}
+use Rattle.journal_parts.specs.CoreParts.{outset}
 use Rattle.journal_memory.specs.SlotCounts.{AgreeWith, IsUnder, AreUnder}
 use Rattle.journal_memory.specs.Transactions.{TransactionState}
 use Rattle.journal_memory.proofs.Remembering.{of_both}
@@ -269,7 +270,8 @@ module _ (first old new : CoreState) (session : SessionState) (t : TransactionSt
   large : 128 < written_blocks t.writes → ⊥
   large many = omega (arith, many, written-one t.writes _ drafts.writes)
 
-  -- a commit is refused for want of memory, by the device, by a longer history, and where the log is at its end
+  -- a commit is refused for want of memory, by the device, by a longer history, and where the log
+  -- is at its end
   pub commit_refused : (why : Refusal CauseState) → IsCommitRefusal old session t new why → IsUpgradeRefusal (next_of first.objects) (disk_of first) (disk_of new) why
   commit_refused NoMemory is = tt
   commit_refused BadAddress is = is

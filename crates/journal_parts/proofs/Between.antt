@@ -28,7 +28,7 @@ use Rattle.journal_memory.specs.Fetches.{FetchedState}
 use Rattle.journal_memory.specs.Volatiles.{VolatileState, IsVolatile}
 use Rattle.journal_memory.specs.VolatileCommits.{with_room as with_more}
 use Rattle.journal_parts.specs.Pairs.{Tied, IsMarkDue, MarksBoth, MarksAll, DoesWhatIsDue, IsMarkingRefusal, IsCutRefusal, IsRestRefusal, IsDueRefusal}
-use Rattle.journal_parts.specs.Cores.{IsPair}
+use Rattle.journal_parts.specs.CoreParts.{IsPair}
 use Rattle.journal_parts.specs.Holds.{IsBetween, AnswersFetch, AnswersGroupCall, AnswersHomeCall, AnswersMarkOrCut, Trims, NotesFault}
 use Rattle.journal_memory.specs.VolatileHolds.{CommitsInMemory, KeepsCopies, FencesSession}
 use Rattle.journal_parts.proofs.CallsOfLogs.{stays_install, stays_read, stays_fault}

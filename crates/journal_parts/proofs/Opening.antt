@@ -29,7 +29,7 @@ use Rattle.journal_memory.specs.Ledgers.{LedgerState}
 use Rattle.journal_parts.specs.Durables.{DurableState, IsDurable, begun_durable}
 use Rattle.journal_memory.specs.Volatiles.{VolatileState, IsVolatile}
 use Rattle.journal_parts.specs.Pairs.{Tied}
-use Rattle.journal_parts.specs.Cores.{IsPair}
+use Rattle.journal_parts.specs.CoreParts.{IsPair}
 use Rattle.journal_parts.specs.Openings.{HoldsMap, Begins, HasSize, IsBeginRefusal, IsLayoutRefusal, OnlyReadsDisk}
 use Rattle.journal_objlog.specs.ObjectLogs.{is_faulted as is_log_faulted, disk_of as log_disk}
 use Rattle.journal_circ.specs.Ring.{IsOpenRefusal as IsLogRefusal}

@@ -1,7 +1,5 @@
--- What contracts see of the core, the pair of its durable and its volatile part, and what a crash
--- may leave of it.
+-- What contracts see of the core, and what a crash may leave of it.
 use Rattle.std.specs.Prelude.{ℕ, ◌≡◌, ◌≤◌, ◌+◌, Bool, false, IsTrue, List, length}
-use Rattle.journal_world.specs.Addresses.{Shape}
 use Rattle.journal_world.specs.Maps.{Map, SameMap}
 use Rattle.journal_world.specs.Histories.{Entry, count, floor, at}
 use Rattle.journal_block.specs.declared.update.Update.{Update}
@@ -9,14 +7,10 @@ use Rattle.journal_block.specs.Block.{Bytes}
 use Rattle.journal_disk.specs.Disks.{DiskState, Keeps}
 use Rattle.journal_disk.specs.Images.{EveryImage}
 use Rattle.journal_disk.specs.Moments.{LeavesOnly}
-use Rattle.journal_memlog.specs.Logs.{next_position, tail_of}
+use Rattle.journal_memlog.specs.Logs.{next_position}
 use Rattle.journal_wal.specs.Wal.{WalState}
 use Rattle.journal_objlog.specs.Maps.{OpensAs}
 use Rattle.journal_objlog.specs.ObjectLogs.{is_faulted as is_log_faulted, disk_of as log_disk, start_of as log_start, end_of as log_end, OnlyReads as OnlyReadsLog}
-use Rattle.journal_memory.specs.Outsets.{Outset}
-use Rattle.journal_parts.specs.Durables.{DurableState, IsDurable}
-use Rattle.journal_memory.specs.Volatiles.{VolatileState, IsVolatile}
-use Rattle.journal_parts.specs.Pairs.{Tied}
 
 -- The map of objects, as it is kept: the log on the disk, and after it the blocks that commits
 -- wrote since the last cut
@@ -39,17 +33,6 @@ pub record CoreState : Type 0 where
   pub next : ℕ
   -- it was stopped, so that reads, commits, steps and waits are refused from then on
   pub closed : Bool
-
--- the core of these two parts
-abbrev pub core_of : VolatileState → DurableState → CoreState
-core_of v d = record {
-  objects = record { wal = d.objects; tail = tail_of v.tail.log };
-  history = v.ledger.history;
-  cut = v.ledger.cut;
-  logged = d.logged;
-  next = v.ledger.next;
-  closed = v.ledger.closed;
-}
 
 -- how many blocks the tail has
 abbrev pub tail_length : ObjectsState → ℕ
@@ -84,10 +67,6 @@ is_faulted c = is_log_faulted c.objects.wal
 abbrev pub IsRunning : CoreState → Type 0
 IsRunning c = (c.closed ≡ false) × (is_faulted c ≡ false)
 
--- what its reads and commits are judged by
-abbrev pub outset : CoreState → Outset
-outset c = record { closed = c.closed; faulted = is_faulted c; history = c.history; tail = c.objects.tail; next = next_of c.objects }
-
 -- the disk that the core lies on
 abbrev pub disk_of : CoreState → DiskState
 disk_of c = log_disk c.objects.wal
@@ -107,16 +86,3 @@ pub record Crashes (old new : CoreState) : Type 0 where
   pub keeps : Keeps (disk_of old) (disk_of new)
   pub moments : IsTrue (disk_of old).honest → LeavesOnly (disk_of old).past (disk_of new).past (Leaves old.history)
   pub images : IsTrue (disk_of new).honest → EveryImage (disk_of new).past (Leaves new.history)
-
--- What the pair keeps, on a disk of a layout: what each part keeps by itself, what ties the two,
--- and that both know of a fault
-pub record IsPair (layout : Shape) (v : VolatileState) (d : DurableState) : Type 0 where
-  pub volatile : IsVolatile layout v
-  pub durable : IsDurable layout d
-  pub tied : Tied v d
-  pub fault : v.faulted ≡ is_log_faulted d.objects
-
--- What the core keeps: while no device call has failed, also memory for a block that a read fetches
-pub record IsCore (layout : Shape) (v : VolatileState) (d : DurableState) (spare : List Update) : Type 0 where
-  pub pair : IsPair layout v d
-  pub room : is_log_faulted d.objects ≡ false → length spare ≡ 1

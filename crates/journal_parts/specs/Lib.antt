@@ -1,6 +1,7 @@
 pub mod Durables
 pub mod Pairs
 pub mod Cores
+pub mod CoreParts
 pub mod Openings
 pub mod OpenLaws
 pub mod Holds

@@ -8,7 +8,7 @@ ghost use Rattle.journal_objlog.specs.Maps.{OpensAs};
 ghost use Rattle.journal_objlog.specs.ObjectLogs.{map_now, disk_of, end_of};
 ghost use Rattle.journal_disk.specs.Disks.{IsSettled};
 ghost use Rattle.journal_disk.specs.Images.{EveryImage};
-ghost use Rattle.journal_parts.specs.Cores.{IsPair, core_of};
+ghost use Rattle.journal_parts.specs.CoreParts.{IsPair, core_of};
 ghost use Rattle.journal_parts.specs.Holds.{IsBetween};
 ghost use Rattle.journal_parts.specs.Openings.{HasWellFormedLog, HasBoundsOf, Begins, IsBeginRefusal, IsLayoutRefusal, OnlyReadsDisk};
 

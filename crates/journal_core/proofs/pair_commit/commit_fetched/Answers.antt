@@ -6,7 +6,7 @@ use Rattle.journal_tail.specs.ObjectTails.{known_updates, missing_blocks}
 use Rattle.journal_memory.specs.Rules.{KeepsMapRule}
 use Rattle.journal_memory.specs.Volatiles.{VolatileState, usable}
 use Rattle.journal_memory.specs.VolatileCommits.{IsCommitted as IsCommittedIn}
-use Rattle.journal_parts.specs.Cores.{IsPair}
+use Rattle.journal_parts.specs.CoreParts.{IsPair}
 use Rattle.journal_memory.proofs.Committing.{OnErr-any}
 use Rattle.journal_core.proofs.Joining.{crashes_pair}
 use Rattle.journal_core.proofs.Admitting.{pair_committed, pair_roomed}

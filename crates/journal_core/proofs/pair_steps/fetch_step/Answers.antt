@@ -5,7 +5,7 @@ use Rattle.journal_block.specs.declared.update.Update.{Update}
 use Rattle.journal_memory.specs.Causes.{CauseState}
 use Rattle.journal_memory.specs.Volatiles.{VolatileState}
 use Rattle.journal_parts.specs.Durables.{DurableState, IsCallRefusal, is_faulted}
-use Rattle.journal_parts.specs.Cores.{IsPair, core_of}
+use Rattle.journal_parts.specs.CoreParts.{IsPair, core_of}
 use Rattle.journal_parts.specs.Holds.{FetchesBlocks, RefusesFetch as RefusesFetchOf}
 use Rattle.journal_core.specs.Interleavings.{RefusesFetch}
 use Rattle.journal_parts.proofs.CallsOfLogs.{stays_read}

@@ -10,7 +10,7 @@ use Rattle.journal_memory.specs.Causes.{CauseState}
 use Rattle.journal_memory.specs.Volatiles.{VolatileState}
 use Rattle.journal_parts.specs.Durables.{DurableState, is_faulted}
 use Rattle.journal_parts.specs.CallAnswers.{install_step_of, install_refusal_of, IfFreed, IfFailed}
-use Rattle.journal_parts.specs.Cores.{IsPair, core_of}
+use Rattle.journal_parts.specs.CoreParts.{IsPair, core_of}
 use Rattle.journal_core.specs.Steps.{InstallAnswers, IsInstallRefusal}
 use Rattle.journal_parts.specs.Holds.{MakesHomeCall, FailsHomeCall}
 use Rattle.journal_parts.proofs.CallsOfLogs.{stays_fault}

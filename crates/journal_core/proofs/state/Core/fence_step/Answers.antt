@@ -1,7 +1,7 @@
 use Rattle.std.proofs.Common.{ℕ, IfErr, OnOk, rules, subst}
 use Rattle.journal_memory.specs.Outsets.{Outset}
 use Rattle.journal_memory.specs.Fences.{IsFenceRefusal}
-use Rattle.journal_parts.specs.Cores.{core_of, outset}
+use Rattle.journal_parts.specs.CoreParts.{core_of, outset}
 use Rattle.journal_core.specs.FenceSteps.{SetsFence as SetsInCore}
 use Rattle.journal_core.proofs.FencesOfPairs.{pair_fenced, fenced_in_core, answers_fence}
 use Rattle.journal_core.proofs.Joining.{crashes_noticed, outset_seen}
