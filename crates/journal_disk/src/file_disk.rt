@@ -1,9 +1,11 @@
 // A disk in a file.
-ghost use Rattle.std.specs.Prelude.{◌≡◌, ◌<◌, ◌*◌, ◌^◌, IsSome, OnOk, OnErr, IfOk};
-ghost use Rattle.journal_disk.specs.Disks.{Keeps, HasFailed};
-ghost use Rattle.journal_disk.specs.FileDisks.{file_state, with_failure, HasWholeBlocks};
+ghost use Rattle.std.specs.Prelude.{◌≡◌, ◌<◌, ◌*◌, ◌^◌, List, IsSome, IsTrue, IsOk, IsErr, OnOk, OnErr, IfOk};
+ghost use Rattle.journal_disk.specs.Disks.{Keeps, HasFailed, write, barrier, read_of, past_after, MayHaveHappened};
+ghost use Rattle.journal_block.specs.Block.{Bytes};
+ghost use Rattle.journal_disk.specs.Images.{IsImage};
+ghost use Rattle.journal_disk.specs.FileDisks.{file_state, with_told, with_failure, HasWholeBlocks};
 
-use crate::{BlockDisk, DiskFault};
+use crate::{BlockDisk, BlockFile, DiskFault, System};
 use journal_block::Block;
 use journal_world::BLOCK_BYTES;
 use std::fs::{File, Files, OpenFile, OpenOptions};
@@ -16,31 +18,32 @@ use std::os::unix::fs::FileExt;
 ///
 /// Block `b` is the 4096 bytes from byte `4096 * b` on. Blocks are read into the caller's and
 /// written from it, with no copy beside the kernel's, and a barrier is an fdatasync. A call that
-/// the system cuts short or interrupts is carried on; one that the system refuses fails. What the
-/// system keeps is not this crate's to prove, so that of what the blocks hold nothing is promised:
-/// the disk counts as not honest.
+/// the system cuts short or interrupts is carried on; one that the system refuses fails. The disk
+/// is honest where its file keeps what it is told. A file of the system, [`System`], states nothing
+/// of that, so of what the blocks of a disk in it hold nothing is promised.
 #[derive(Drop)]
-pub struct FileDisk<F = File> {
-    file: F,
+pub struct FileDisk<B: BlockFile = System<File>> {
+    file: B,
     blocks: u64,
     failures: u64,
     ghost fits: { blocks * 4096 < 2 ^ 64 },
+    ghost tied: { IsTrue (B.told file).keeps → blocks ≡ (B.told file).past.size },
 }
 
-impl<F> Model for FileDisk<F> {
+impl<B: BlockFile> Model for FileDisk<B> {
     ghost use Rattle.journal_disk.specs.FileDisks.{FileState};
 
     ghost Value = { FileState };
 
-    ghost view = { λ d. record { size = d.blocks; failures = d.failures } };
+    ghost view = { λ d. record { told = B.told d.file; size = d.blocks; failures = d.failures } };
 }
 
-impl<F: FileExt + OpenFile + Seek + Drop> FileDisk<F> {
+impl<F: FileExt + OpenFile + Seek + Drop> FileDisk<System<F>> {
     /// Opens the disk in the file at a path, to be read and written. It has as many blocks as there
     /// are whole 4096 bytes up to the file's end.
     ///
     /// Refused as the system refuses the file; a file is never made.
-    pub fn open<R: Files<File = F>>(rt: &R, path: &str) -> io::Result<FileDisk<F>>
+    pub fn open<R: Files<File = F>>(rt: &R, path: &str) -> io::Result<FileDisk<System<F>>>
         ensures { IfOk result (λ disk. disk.failures ≡ 0) }
     {
         let file = OpenOptions::new().read(true).write(true).open(rt, path)?;
@@ -50,7 +53,7 @@ impl<F: FileExt + OpenFile + Seek + Drop> FileDisk<F> {
     /// The disk in a file that was opened to be read and written, as of `open`.
     ///
     /// Refused where the system does not tell where the file ends.
-    pub fn over(file: F) -> io::Result<FileDisk<F>>
+    pub fn over(file: F) -> io::Result<FileDisk<System<F>>>
         ensures failures { IfOk result (λ disk. disk.failures ≡ 0) }
         ensures blocks { IsSome (F.stream_position file) →
             IfOk result (λ disk. HasWholeBlocks (F.stream_bytes file) disk.size) }
@@ -59,16 +62,47 @@ impl<F: FileExt + OpenFile + Seek + Drop> FileDisk<F> {
         // By where it ends, since the length that a device file tells is 0.
         let end = file.seek(SeekFrom::End(0))?;
         Ok(FileDisk {
+            file: System { file },
+            blocks: end / BLOCK_BYTES as u64,
+            failures: 0,
+        })
+    }
+}
+
+impl<B: BlockFile + Drop> FileDisk<B> {
+    /// The disk in a file of any kind. It has as many blocks as there are whole 4096 bytes up to
+    /// the file's end, and is honest where the file keeps what it is told.
+    ///
+    /// # Errors
+    /// - The file does not tell where it ends. It is let go.
+    pub fn on(file: B) -> io::Result<FileDisk<B>>
+        ensures failures { IfOk result (λ disk. disk.failures ≡ 0) }
+        ensures told { IfOk result (λ disk. disk.told ≡ B.told file) }
+        ensures size { IsTrue (B.told file).keeps → IfOk result (λ disk. disk.size ≡ (B.told file).past.size) }
+    {
+        let mut file = file;
+        let end = file.end()?;
+        Ok(FileDisk {
             file,
             blocks: end / BLOCK_BYTES as u64,
             failures: 0,
         })
     }
 
+    /// Gives the file up, with all that is pending on it. Where it keeps what it is told, a crash
+    /// leaves an image of the disk's past in it.
+    pub fn into_file(self) -> B
+        ensures told { B.told result ≡ self.told }
+        ensures crash { IsTrue self.told.keeps → (image : List Bytes) → B.leaves result image → IsImage (file_state self).past image }
+    {
+        let FileDisk { file, .. } = self;
+        file
+    }
+
     // Counts a call that failed.
     fn count(&mut self, done: io::Result<()>) -> Result<(), DiskFault>
-        ensures ok { OnOk result (self.new ≡ self.old) }
-        ensures failed { OnErr result (self.new ≡ with_failure self.old) }
+        ensures ok { OnOk done (IsOk result × (self.new ≡ self.old)) }
+        ensures failed { OnErr done (IsErr result × (self.new ≡ with_failure self.old)) }
         ensures keeps { Keeps (file_state self.old) (file_state self.new) }
         ensures cause { OnErr result (HasFailed (file_state self.old) (file_state self.new)) }
     {
@@ -80,7 +114,7 @@ impl<F: FileExt + OpenFile + Seek + Drop> FileDisk<F> {
     }
 }
 
-impl<F: FileExt + OpenFile + Seek + Drop> BlockDisk for FileDisk<F> {
+impl<B: BlockFile + Drop> BlockDisk for FileDisk<B> {
     ghost state = { file_state };
 
     fn size(&self) -> u64 {
@@ -94,33 +128,42 @@ impl<F: FileExt + OpenFile + Seek + Drop> BlockDisk for FileDisk<F> {
     fn read(&mut self, block: u64, into: &mut Block) -> Result<(), DiskFault>
         requires { block < self.old.size }
         ensures keeps { Keeps (file_state self.old) (file_state self.new) }
-        ensures ok { OnOk result (self.new ≡ self.old) }
-        ensures failed { OnErr result (self.new ≡ with_failure self.old) }
+        ensures cause { OnErr result (HasFailed (file_state self.old) (file_state self.new)) }
+        ensures value { IsTrue self.old.told.keeps → OnOk result (into.new ≡ read_of (file_state self.old).past block) }
+        ensures same { IsTrue self.old.told.keeps → (file_state self.new).past ≡ (file_state self.old).past }
+        ensures ok { OnOk result (self.new ≡ with_told self.old self.new.told) }
+        ensures failed { OnErr result (self.new ≡ with_failure (with_told self.old self.new.told)) }
     {
-        let read = self
-            .file
-            .read_exact_at(into.as_mut_bytes(), block * BLOCK_BYTES as u64);
+        let read = self.file.read_block(into, block * BLOCK_BYTES as u64);
         self.count(read)
     }
 
     fn write(&mut self, block: u64, from: &Block) -> Result<(), DiskFault>
         requires { block < self.old.size }
         ensures keeps { Keeps (file_state self.old) (file_state self.new) }
-        ensures ok { OnOk result (self.new ≡ self.old) }
-        ensures failed { OnErr result (self.new ≡ with_failure self.old) }
+        ensures cause { OnErr result (HasFailed (file_state self.old) (file_state self.new)) }
+        ensures written { IsTrue self.old.told.keeps →
+            OnOk result ((file_state self.new).past ≡ past_after (write block from.now) (file_state self.old).past) }
+        ensures written_or_not { IsTrue self.old.told.keeps →
+            MayHaveHappened (write block from.now) (file_state self.old).past (file_state self.new).past }
+        ensures ok { OnOk result (self.new ≡ with_told self.old self.new.told) }
+        ensures failed { OnErr result (self.new ≡ with_failure (with_told self.old self.new.told)) }
     {
-        let written = self
-            .file
-            .write_all_at(from.as_bytes(), block * BLOCK_BYTES as u64);
+        let written = self.file.write_block(from, block * BLOCK_BYTES as u64);
         self.count(written)
     }
 
     fn barrier(&mut self) -> Result<(), DiskFault>
         ensures keeps { Keeps (file_state self.old) (file_state self.new) }
-        ensures ok { OnOk result (self.new ≡ self.old) }
-        ensures failed { OnErr result (self.new ≡ with_failure self.old) }
+        ensures cause { OnErr result (HasFailed (file_state self.old) (file_state self.new)) }
+        ensures synced { IsTrue self.old.told.keeps →
+            OnOk result ((file_state self.new).past ≡ past_after barrier (file_state self.old).past) }
+        ensures not_synced { IsTrue self.old.told.keeps →
+            OnErr result ((file_state self.new).past ≡ (file_state self.old).past) }
+        ensures ok { OnOk result (self.new ≡ with_told self.old self.new.told) }
+        ensures failed { OnErr result (self.new ≡ with_failure (with_told self.old self.new.told)) }
     {
-        let synced = self.file.sync_data();
+        let synced = self.file.sync();
         self.count(synced)
     }
 }

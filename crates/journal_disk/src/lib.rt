@@ -10,14 +10,19 @@
 //! follows from them for every disk.
 //!
 //! [`BlockDisk`] is a disk as the layers above see it, [`MemDisk`] an honest one in memory, and
-//! [`FileDisk`] one in a file, of whose blocks nothing is promised.
+//! [`FileDisk`] one in a file. It is honest where its [`BlockFile`] keeps what it is told, as
+//! [`KeptFile`] does. [`System`], a file of the system, states nothing of that.
 #![tactic(auto)]
 
 mod block_disk;
+mod block_file;
 mod events;
 mod file_disk;
+mod kept_file;
 mod mem_disk;
 
 pub use block_disk::{BlockDisk, DiskFault};
+pub use block_file::{BlockFile, System};
 pub use file_disk::FileDisk;
+pub use kept_file::{KeptFile, kept_disk};
 pub use mem_disk::MemDisk;
