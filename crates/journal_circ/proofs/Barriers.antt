@@ -6,7 +6,7 @@ use Rattle.journal_disk.specs.Disks.{barrier, Past, DiskState, Keeps, block_at, 
 use Rattle.journal_disk.specs.Images.{IsImage, EveryImage}
 use Rattle.journal_disk.specs.Laws.{settled_reads, settled_after_barrier, images_after_barrier}
 use Rattle.journal_circ.specs.declared.extent.Extent.{Extent}
-use Rattle.journal_circ.specs.Log.{log_block, is_sealed, home_by, end_in}
+use Rattle.journal_circ.specs.Log.{log_block, is_sealed, home_by, end_in, HasLabel}
 use Rattle.journal_circ.specs.Ring.{Ring}
 use Rattle.journal_circ.specs.Soundness.{updates_between, HasStart, HasEnd, HasForm, HasAddresses, HasLogBlocks, HasWhole, GivesHomeBlocks, HasHomeBlocks, HasHeaders, HasSoundImages, HasHolds, HasTags, HasBounds, IsCirc}
 use Rattle.journal_circ.proofs.Forms.{end_as}
@@ -102,6 +102,10 @@ module _ (old : Ring) (d : DiskState) (f : Bool) (was : IsCirc old) (keeps : Kee
   headers_kept m coming freed honest good = with_disk (λ (p : Past). HasHeaders p m) honest
       (record { end = (headers honest good).end ∙ sym coming; start = (headers honest good).start ∙ sym freed })
 
+  label_kept : IsTrue d.honest → EveryImage d.past (HasLabel old.label)
+  label_kept honest = with_disk (λ (p : Past). EveryImage p (HasLabel old.label)) honest
+      (kept old.disk.past (HasLabel old.label) (was.label (subst IsTrue keeps.honest honest)))
+
   narrow_kept : is_sealed old.header ≡ true → d.past.size ≤ 2 ^ 40
   narrow_kept sealed = subst (λ (n : ℕ). n ≤ 2 ^ 40) (sym keeps.size) (was.bounds.narrow sealed)
 
@@ -139,6 +143,7 @@ module _ (old : Ring) (d : DiskState) (f : Bool) (was : IsCirc old) (keeps : Kee
     sound = λ honest. with_disk (λ (p : Past). HasSoundImages p old.header (record old.extent { stable = old.next })) honest
         (log_blocks_synced old.disk.past old.header old.extent old.next was.bounds (sound honest));
     headers = headers_kept (record old.extent { stable = old.next }) refl refl;
+    label = label_kept;
     form = was.form;
     tags_size = was.tags_size;
     holds = holds_kept;
@@ -164,6 +169,7 @@ module _ (old : Ring) (d : DiskState) (f : Bool) (was : IsCirc old) (keeps : Kee
     sound = λ honest. with_disk (λ (p : Past). HasSoundImages p old.header (record old.extent { end = old.extent.coming })) honest
         (end_synced old.disk.past old.header old.extent old.next was.bounds (sound honest) (was.headers (subst IsTrue keeps.honest honest) well));
     headers = headers_kept (record old.extent { end = old.extent.coming }) refl refl;
+    label = label_kept;
     form = was.form;
     tags_size = was.tags_size;
     holds = λ honest sealed. with_disk (λ (p : Past). HasHolds p old.header old.extent.start old.extent.coming old.next) honest
@@ -193,6 +199,7 @@ module _ (old : Ring) (d : DiskState) (f : Bool) (was : IsCirc old) (keeps : Kee
     sound = λ honest. with_disk (λ (p : Past). HasSoundImages p old.header (record old.extent { homes = true })) honest
         (homes_synced old.disk.past old.header old.extent old.next was.bounds (sound honest));
     headers = headers_kept (record old.extent { homes = true }) refl refl;
+    label = label_kept;
     form = was.form;
     tags_size = was.tags_size;
     holds = holds_kept;
@@ -218,6 +225,7 @@ module _ (old : Ring) (d : DiskState) (f : Bool) (was : IsCirc old) (keeps : Kee
     sound = λ honest. with_disk (λ (p : Past). HasSoundImages p old.header (record old.extent { start = old.extent.freed })) honest
         (start_synced old.disk.past old.header old.extent old.next was.bounds (sound honest) (was.headers (subst IsTrue keeps.honest honest) well));
     headers = headers_kept (record old.extent { start = old.extent.freed }) refl refl;
+    label = label_kept;
     form = was.form;
     tags_size = was.tags_size;
     holds = λ honest sealed. with_disk (λ (p : Past). HasHolds p old.header old.extent.freed old.extent.end old.next) honest
@@ -241,6 +249,7 @@ nothing_done old d f was keeps same fine = record {
   bounds = subst (λ (n : ℕ). HasBounds n old.header old.extent old.next) (sym keeps.size) was.bounds;
   sound = λ honest. let before = subst IsTrue keeps.honest honest in subst (λ (p : Past). HasSoundImages p old.header old.extent) (sym (same before)) (was.sound before);
   headers = λ honest good. let before = subst IsTrue keeps.honest honest in subst (λ (p : Past). HasHeaders p old.extent) (sym (same before)) (was.headers before (fine good));
+  label = λ honest. let before = subst IsTrue keeps.honest honest in subst (λ (p : Past). EveryImage p (HasLabel old.label)) (sym (same before)) (was.label before);
   form = was.form;
   tags_size = was.tags_size;
   holds = λ honest sealed. let before = subst IsTrue keeps.honest honest in

@@ -7,7 +7,7 @@ use Rattle.journal_disk.specs.Disks.{Past, DiskState, Keeps, IsSettled, block_at
 use Rattle.journal_disk.specs.Images.{IsImage, EveryImage, reading}
 use Rattle.journal_disk.specs.Laws.{settled_reads, reading_is_image, reading-at}
 use Rattle.journal_circ.specs.declared.extent.Extent.{Extent}
-use Rattle.journal_circ.specs.Log.{log_block, address, is_sealed, home_by, begin_of, count_in, tag_in, tag_of, tag_at, are_there, end_of, sealed_end, end_by, end_in, start_in, DescribesLog, IsWellFormed}
+use Rattle.journal_circ.specs.Log.{log_block, address, is_sealed, home_by, begin_of, count_in, tag_in, tag_of, tag_at, are_there, end_of, sealed_end, end_by, end_in, start_in, label_of, HasLabel, DescribesLog, IsWellFormed}
 use Rattle.journal_circ.specs.StandsFor.{StandsFor}
 use Rattle.journal_circ.specs.Ring.{Ring, blocks_to}
 use Rattle.journal_circ.specs.Soundness.{updates_between, HasSoundImages, HasHolds, HasTags, IsCirc}
@@ -41,7 +41,7 @@ sound p settled large = record {
 module _ (d d2 : DiskState) (h : Bytes) (tags : Bytes) (start end : ℕ) (f : Bool) (large : 532 ≤ d.past.size) (settled : IsTrue d.honest → IsSettled d.past) (keeps : Keeps d d2)
     (same : IsTrue d.honest → d2.past ≡ d.past) (h_is : IsTrue d.honest → h ≡ read_of d.past 0) (start_is : IsTrue d.honest → start ≡ number_at (read_of d.past 1))
     (ends : IsTrue d.honest → end ≡ end_in (reading d.past)) (log : DescribesLog h start end d.past.size)
-    (size : length tags ≡ 4096) (knows : IsTrue d.honest → is_sealed h ≡ true → (q : ℕ) → tag_at tags q ≡ tag_of (read_of d.past (log_block q)))
+    (label : Bytes) (label_is : IsTrue d.honest → label ≡ label_of (read_of d.past 1)) (size : length tags ≡ 4096) (knows : IsTrue d.honest → is_sealed h ≡ true → (q : ℕ) → tag_at tags q ≡ tag_of (read_of d.past (log_block q)))
     (sealed : Bool) (form : sealed ≡ is_sealed h) where
   end_is : IsTrue d.honest → end ≡ end_at d.past
   end_is honest = ends honest ∙ end_as (read_of d.past 0) (read_of d.past) (reading d.past) (reading-at d.past 0 (omega (arith, large)))
@@ -69,7 +69,7 @@ module _ (d d2 : DiskState) (h : Bytes) (tags : Bytes) (start end : ℕ) (f : Bo
       zero_is : (image : List Bytes) → IsImage d.past image → block_at image 0 ≡ h
       zero_is image is = settled_reads d.past (settled was) image is 0 (omega (arith, large)) ∙ sym (h_is was)
 
-  in_order : IsCirc (record { disk = d2; header = h; tags = tags; sealed = sealed; extent = resting start end; next = end; faulted = f })
+  in_order : IsCirc (record { disk = d2; header = h; tags = tags; label = label; sealed = sealed; extent = resting start end; next = end; faulted = f })
   in_order = record {
     bounds = record {
       large = omega (arith, large, keeps.size);
@@ -95,6 +95,9 @@ module _ (d d2 : DiskState) (h : Bytes) (tags : Bytes) (start end : ℕ) (f : Bo
       end = ap end_at (same was) ∙ sym (end_is was);
       start = ap (λ (p : Past). number_at (read_of p 1)) (same was) ∙ sym (start_is was);
     };
+    label = λ honest. let was = subst IsTrue keeps.honest honest in
+        subst (λ (p : Past). EveryImage p (HasLabel label)) (sym (same was))
+        (λ image is. ap label_of (settled_reads d.past (settled was) image is 1 (omega (arith, large))) ∙ sym (label_is was));
     form = form;
     tags_size = size;
     holds = λ honest is. let was = subst IsTrue keeps.honest honest in
@@ -109,8 +112,8 @@ module _ (d d2 : DiskState) (h : Bytes) (tags : Bytes) (start end : ℕ) (f : Bo
         });
   }
 
-  pub opened : (m : Extent) → m ≡ resting start end → IsCirc (record { disk = d2; header = h; tags = tags; sealed = sealed; extent = m; next = m.end; faulted = f })
-  opened m is = subst (λ (k : Extent). IsCirc (record { disk = d2; header = h; tags = tags; sealed = sealed; extent = k; next = k.end; faulted = f })) (sym is) in_order
+  pub opened : (m : Extent) → m ≡ resting start end → IsCirc (record { disk = d2; header = h; tags = tags; label = label; sealed = sealed; extent = m; next = m.end; faulted = f })
+  opened m is = subst (λ (k : Extent). IsCirc (record { disk = d2; header = h; tags = tags; label = label; sealed = sealed; extent = k; next = k.end; faulted = f })) (sym is) in_order
 
 -- where nothing is in flight each image stands for the same
 pub stand_at_rest : (r : Ring) → IsCirc r → IsTrue r.disk.honest → r.extent.coming ≡ r.extent.end → EveryImage r.disk.past (StandsFor r.disk.past.size (blocks_to r r.extent.end))

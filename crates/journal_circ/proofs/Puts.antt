@@ -8,7 +8,7 @@ use Rattle.journal_disk.specs.Disks.{write, Past, DiskState, Keeps, block_at, re
 use Rattle.journal_disk.specs.Images.{IsImage, EveryImage, reading, IsOldOrWritten}
 use Rattle.journal_disk.specs.Laws.{read_written, reading_is_image, reading-at}
 use Rattle.journal_circ.specs.declared.extent.Extent.{Extent}
-use Rattle.journal_circ.specs.Log.{log_block, address_at, address, is_sealed, begin_of, count_in, tag_in, tag_of, tag_at, home_by, end_by, end_in, start_in}
+use Rattle.journal_circ.specs.Log.{log_block, address_at, address, is_sealed, begin_of, count_in, tag_in, tag_of, tag_at, home_by, end_by, end_in, start_in, label_of, HasLabel}
 use Rattle.journal_circ.specs.Ring.{Ring, IsLogged, IsInstalled}
 use Rattle.journal_circ.specs.Soundness.{updates_between, HasStart, HasEnd, HasForm, HasAddresses, HasLogBlocks, HasWhole, GivesHomeBlocks, HasHomeBlocks, HasSoundImages, HasHolds, HasTags, HasBounds, IsCirc}
 use Rattle.journal_circ.proofs.Forms.{form_home, plain_end, end_same, end_as}
@@ -278,6 +278,18 @@ module _ (old : Ring) (d : DiskState) (f : Bool) (was : IsCirc old) (keeps : Kee
       ∙ end_same (read_of old.disk.past 0) (read_of old.disk.past) (read_of d.past) (λ q. (write_of (before honest)).others (log_block q) (off q))
       ∙ (was.headers (before honest) (fine good)).end
 
+  -- the label stays, where block 1 was not written or was written with it
+  label_apart : 1 ≢ c → IsTrue d.honest → EveryImage d.past (HasLabel old.label)
+  label_apart other honest image is = let from = (write_of (before honest)).images image is in
+      ap label_of (from.others 1 other) ∙ was.label (before honest) from.old from.was
+
+  label_put : c ≡ 1 → label_of v ≡ old.label → IsTrue d.honest → EveryImage d.past (HasLabel old.label)
+  label_put one_block labels honest image is = let from = (write_of (before honest)).images image is in ⊎_elim
+      (λ (stays : block_at image c ≡ block_at from.old c).
+      ap label_of (subst (λ (n : ℕ). block_at image n ≡ block_at from.old n) one_block stays) ∙ was.label (before honest) from.old from.was)
+      (λ (new : block_at image c ≡ v). ap label_of (subst (λ (n : ℕ). block_at image n ≡ v) one_block new) ∙ labels)
+      from.here
+
   narrow_kept : is_sealed old.header ≡ true → d.past.size ≤ 2 ^ 40
   narrow_kept sealed = subst (λ (n : ℕ). n ≤ 2 ^ 40) (sym keeps.size) (was.bounds.narrow sealed)
 
@@ -385,6 +397,7 @@ module _ (old : Ring) (d : DiskState) (f : Bool) (was : IsCirc old) (keeps : Kee
       sound = λ honest. log_block_put old.disk.past d.past old.header old.extent old.next was.bounds (was.sound (before honest)) c v (write_of (before honest)) h2
           form off old.next was.bounds.coming_next words high low (ends (before honest));
       headers = λ honest good. record { end = reads honest good; start = front_stays honest good (omega arith) };
+      label = label_apart (omega arith);
       form = was.form ∙ sym form;
       tags_size = size;
       holds = λ honest sealed. holds honest (sym form ∙ sealed);
@@ -467,6 +480,7 @@ module _ (old : Ring) (d : DiskState) (f : Bool) (was : IsCirc old) (keeps : Kee
     sound = λ honest. home_put old.disk.past d.past old.header old.extent old.next was.bounds (was.sound (before honest)) c v (write_of (before honest)) old.header
         refl (λ q ge lt same. omega arith) old.next was.bounds.coming_next (λ q ge lt. refl) high none (named (before honest));
     headers = λ honest good. record { end = header_stays honest good (omega arith) (λ q is. omega arith); start = front_stays honest good (omega arith) };
+    label = label_apart (omega arith);
     form = was.form;
     tags_size = was.tags_size;
     holds = λ honest sealed. not_tried sealed (omega arith) honest;
@@ -504,6 +518,7 @@ module _ (old : Ring) (d : DiskState) (f : Bool) (was : IsCirc old) (keeps : Kee
         end = (λ i. end_by (subst (λ (n : ℕ). read_of d.past n ≡ v) zero_block (reads_written honest good) i) (read_of d.past)) ∙ plain_end v (read_of d.past) plain ∙ put;
         start = front_stays honest good (omega arith);
       };
+      label = label_apart (omega arith);
       form = was.form ∙ was_plain ∙ sym plain;
       tags_size = was.tags_size;
       holds = λ honest sealed. not_sealed plain sealed;
@@ -550,6 +565,7 @@ module _ (old : Ring) (d : DiskState) (f : Bool) (was : IsCirc old) (keeps : Kee
             ∙ sum;
         start = front_stays honest good (omega arith);
       };
+      label = label_apart (omega arith);
       form = was.form ∙ was_sealed ∙ sym sealed;
       tags_size = was.tags_size;
       holds = λ honest _. let held = was.holds (before honest) was_sealed in record {
@@ -609,9 +625,9 @@ module _ (old : Ring) (d : DiskState) (f : Bool) (was : IsCirc old) (keeps : Kee
             ((tags_before honest).flight from.old from.was q ge (omega (arith, lt, was.bounds))))))
 
     pub start_is_put : c ≡ 1 → (upto : ℕ) → old.extent.freed ≡ old.extent.start → IsTrue old.extent.homes → old.extent.start ≤ upto → upto ≤ old.extent.end → number_at v ≡ upto
-        → (IsTrue old.disk.honest → IsInstalled old upto)
+        → label_of v ≡ old.label → (IsTrue old.disk.honest → IsInstalled old upto)
         → IsCirc (record old { disk = d; extent = record old.extent { freed = upto }; faulted = f })
-    start_is_put one_block upto none homes ge le put installed = record {
+    start_is_put one_block upto none homes ge le put labels installed = record {
       bounds = record {
         large = omega (arith, was.bounds, keeps.size);
         start_freed = ge;
@@ -633,6 +649,7 @@ module _ (old : Ring) (d : DiskState) (f : Bool) (was : IsCirc old) (keeps : Kee
         end = header_stays honest good (omega arith) (λ q is. omega arith);
         start = ap number_at (subst (λ (n : ℕ). read_of d.past n ≡ v) one_block (reads_written honest good)) ∙ put;
       };
+      label = label_put one_block labels;
       form = was.form;
       tags_size = was.tags_size;
       holds = λ honest sealed. not_tried sealed (omega arith) honest;

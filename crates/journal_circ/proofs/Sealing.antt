@@ -6,9 +6,9 @@ use Rattle.journal_disk.specs.Disks.{write, barrier, Past, IsSettled, block_at, 
 use Rattle.journal_disk.specs.Images.{IsImage, IsOldOrWritten}
 use Rattle.journal_disk.specs.Moments.{LeavesOnly}
 use Rattle.journal_disk.specs.Laws.{leaves_by_write, leaves_by_barrier, leaves_also, leaves_now, read_written, settled_after_barrier}
-use Rattle.journal_circ.specs.Log.{log_block, is_sealed, begin_of, count_in, end_by, end_in, start_in, updates_from}
+use Rattle.journal_circ.specs.Log.{log_block, is_sealed, begin_of, count_in, end_by, end_in, start_in, updates_from, label_of}
 use Rattle.journal_circ.specs.StandsFor.{StandsFor}
-use Rattle.journal_circ.specs.Ring.{Ring, home_of, ChangesForm}
+use Rattle.journal_circ.specs.Ring.{Ring, home_of, IsHomeAndLabel, ChangesForm}
 use Rattle.journal_circ.specs.Soundness.{IsCirc}
 use Rattle.journal_circ.proofs.Forms.{end_as}
 use Rattle.journal_circ.proofs.Groups.{group_there}
@@ -84,12 +84,15 @@ module _ (r : Ring) (is : IsCirc r) (honest : IsTrue r.disk.honest) (empty : r.e
         start_at : Bytes → ℕ
         start_at bytes = u64_at bytes 0
 
+    written_keeps : (image : List Bytes) → IsOldOrWritten r.disk.past 0 v image → IsHomeAndLabel r image
+    written_keeps image from = (written_stands image from, ap label_of (from.others 1 (λ (no : 1 ≡ 0). omega (arith, no))) ∙ is.label honest from.old from.was)
+
     pub changes : (new : Past) → (mid : Past) × (MayHaveHappened (write 0 v) r.disk.past mid × MayHaveHappened barrier mid new) → ChangesForm r new
-    changes new happened = (happened.0, (first, leaves_also happened.0 new (IsImage happened.0) Stands (leaves_by_barrier happened.0 new happened.1.1) (leaves_now r.disk.past happened.0 Stands first)))
+    changes new happened = (happened.0, (first, leaves_also happened.0 new (IsImage happened.0) (IsHomeAndLabel r) (leaves_by_barrier happened.0 new happened.1.1) (leaves_now r.disk.past happened.0 (IsHomeAndLabel r) first)))
       where
-        first : LeavesOnly r.disk.past happened.0 Stands
-        first = leaves_also r.disk.past happened.0 (IsOldOrWritten r.disk.past 0 v) Stands
-            (leaves_by_write r.disk.past happened.0 0 v (omega (arith, is.bounds)) happened.1.0) written_stands
+        first : LeavesOnly r.disk.past happened.0 (IsHomeAndLabel r)
+        first = leaves_also r.disk.past happened.0 (IsOldOrWritten r.disk.past 0 v) (IsHomeAndLabel r)
+            (leaves_by_write r.disk.past happened.0 0 v (omega (arith, is.bounds)) happened.1.0) written_keeps
 
 -- block 0 was put and is stable
 pub settled_with : (p new : Past) (v : Bytes) (form : Bool) → is_sealed v ≡ form → new ≡ past_after barrier (past_after (write 0 v) p) → IsSettled new × (is_sealed (read_of new 0) ≡ form)

@@ -15,8 +15,8 @@ use Rattle.journal_circ.proofs.Barriers.{nothing_done}
 use Rattle.journal_circ.proofs.Forms.{form_home, form_bytes}
 
 -- the ring of these parts
-abbrev pub ring : DiskState → (header tags : Bytes) → Bool → Extent → ℕ → Bool → Ring
-ring disk header tags sealed extent next faulted = record { disk = disk; header = header; tags = tags; sealed = sealed; extent = extent; next = next; faulted = faulted }
+abbrev pub ring : DiskState → (header tags label : Bytes) → Bool → Extent → ℕ → Bool → Ring
+ring disk header tags label sealed extent next faulted = record { disk = disk; header = header; tags = tags; label = label; sealed = sealed; extent = extent; next = next; faulted = faulted }
 
 -- a step from a ring that is another by its view
 pub stepped_at : {old r new : Ring} → old ≡ r → Crashes old.extent.coming old new → Crashes r.extent.coming r new
@@ -27,7 +27,7 @@ pub stays : (r : Ring) (coming : ℕ) → IsCirc r → r.extent.end ≤ coming �
 stays r coming is ge le which = steps r r coming is is
     (record { size = refl; honest = refl; failures = omega arith })
     (record { ge = ge; le = le; old_coming = which; new_end = inl refl; new_coming = which })
-    barrier (λ honest. inl refl) (λ honest to b t_ge t_le home lt. refl)
+    barrier (λ honest. inl refl) refl (λ honest to b t_ge t_le home lt. refl)
 
 -- Barriers
 
@@ -36,7 +36,7 @@ pub not_synced : (old : Ring) (d : DiskState) (f : Bool) → IsCirc old → Keep
 not_synced old d f was keeps same bad = steps old (record old { disk = d; faulted = f }) old.extent.coming was
     (nothing_done old d f was keeps same (λ good. let impossible : ⊥ = cc in absurd impossible)) keeps
     (record { ge = was.bounds.end_coming; le = omega (arith, was.bounds); old_coming = inr refl; new_end = inl refl; new_coming = inr refl })
-    barrier (λ honest. inl (same honest))
+    barrier (λ honest. inl (same honest)) refl
     (λ honest to b ge le home lt. ap (λ (p : Past). blocks_to (record old { disk = record old.disk { past = p } }) to b) (same honest))
 
 module _ (old : Ring) (d : DiskState) (m : Extent) (f : Bool) (was : IsCirc old) (is : IsCirc (record old { disk = d; extent = m; faulted = f })) (keeps : Keeps old.disk d)
@@ -45,7 +45,7 @@ module _ (old : Ring) (d : DiskState) (m : Extent) (f : Bool) (was : IsCirc old)
       → Crashes old.extent.coming old (record old { disk = d; extent = m; faulted = f })
   synced start end = steps old (record old { disk = d; extent = m; faulted = f }) old.extent.coming was is keeps
       (record { ge = was.bounds.end_coming; le = omega (arith, was.bounds); old_coming = inr refl; new_end = end; new_coming = inr coming })
-      barrier (λ honest. inr (happened honest))
+      barrier (λ honest. inr (happened honest)) refl
       (λ honest. blocks_stay old (record old { disk = d; extent = m; faulted = f }) start
       (λ i. updates_between (happened honest i) old.header (start i) old.next)
       (λ b home lt. ap (λ (p : Past). read_of p b) (happened honest)))
@@ -73,7 +73,7 @@ module _ (old : Ring) (d : DiskState) (m : Extent) (f : Bool) (was : IsCirc old)
       → Crashes old.extent.coming old (record old { disk = d; extent = m; faulted = f })
   freed start end = steps old (record old { disk = d; extent = m; faulted = f }) old.extent.coming was is keeps
       (record { ge = was.bounds.end_coming; le = omega (arith, was.bounds); old_coming = inr refl; new_end = inl end; new_coming = inr coming })
-      barrier (λ honest. inr (happened honest)) (blocks_freed start)
+      barrier (λ honest. inr (happened honest)) refl (blocks_freed start)
 
 -- Two blocks 0 say the same of a position's update
 abbrev pub Alike : Bytes → Bytes → ℕ → Type 0
@@ -112,7 +112,7 @@ module _ (old : Ring) (d : DiskState) (c : ℕ) (v : Bytes) (was : IsCirc old) (
         → (old.extent.coming ≡ old.extent.end) ⊎ (old.extent.coming ≡ coming) → m.coming ≡ coming → Crashes coming old (record old { disk = d; header = h; tags = tags; extent = m; faulted = f })
     put is low coming ge le old_coming new_coming = steps old (record old { disk = d; header = h; tags = tags; extent = m; faulted = f }) coming was is keeps
         (record { ge = ge; le = le; old_coming = old_coming; new_end = inl end; new_coming = inr new_coming })
-        (write c v) happened
+        (write c v) happened refl
         (λ honest. blocks_stay old (record old { disk = d; header = h; tags = tags; extent = m; faulted = f }) start
         ((λ i. updates_between d.past h (start i) old.next) ∙ log_put honest) (homes_put honest low))
 
@@ -121,7 +121,7 @@ module _ (old : Ring) (d : DiskState) (c : ℕ) (v : Bytes) (was : IsCirc old) (
         → m.coming ≡ old.extent.coming → Crashes old.extent.coming old (record old { disk = d; header = h; tags = tags; extent = m; faulted = f })
     home is named new_coming = steps old (record old { disk = d; header = h; tags = tags; extent = m; faulted = f }) old.extent.coming was is keeps
         (record { ge = was.bounds.end_coming; le = omega (arith, was.bounds); old_coming = inr refl; new_end = inl end; new_coming = inr new_coming })
-        (write c v) happened
+        (write c v) happened refl
         (λ honest. blocks_stay_home old (record old { disk = d; header = h; tags = tags; extent = m; faulted = f }) c start
         ((λ i. updates_between d.past h (start i) old.next) ∙ log_put honest) (λ b high lt other. others_put honest b other) (named honest))
 
@@ -136,6 +136,6 @@ module _ (old : Ring) (d : DiskState) (c : ℕ) (v : Bytes) (was : IsCirc old) (
     pub slot : c < 513 → Crashes old.extent.coming old (record old { disk = d; header = h; tags = tags; next = old.next + 1; faulted = f })
     slot low = steps old (record old { disk = d; header = h; tags = tags; next = old.next + 1; faulted = f }) old.extent.coming was is keeps
         (record { ge = was.bounds.end_coming; le = omega (arith, was.bounds); old_coming = inr refl; new_end = inl refl; new_coming = inr refl })
-        (write c v) happened
+        (write c v) happened refl
         (λ honest. blocks_stay_put old (record old { disk = d; header = h; tags = tags; next = old.next + 1; faulted = f }) (record { block = a; bytes = bytes }) refl
         (log_grown honest) (homes_put honest low))

@@ -1,9 +1,7 @@
 -- Where the log lies on a disk, and what it says.
-use Rattle.std.specs.Prelude.{ℕ, zero, suc, ◌≡◌, ◌<◌, ◌≤◌, ◌+◌, ◌-◌, ◌*◌, ◌/◌, ◌%◌, ◌^◌, ◌==◌, ◌&&◌, Bool, true, nat_le, if◌then◌else◌, List, [], ◌∷◌, length, map, slice_index_or}
+use Rattle.std.specs.Prelude.{ℕ, zero, suc, ◌≡◌, ◌<◌, ◌≤◌, ◌+◌, ◌-◌, ◌*◌, ◌/◌, ◌%◌, ◌^◌, ◌==◌, ◌&&◌, Bool, true, nat_le, if◌then◌else◌, List, [], ◌∷◌, ◌++◌, length, drop, map, slice_index_or}
 use Rattle.std.specs.List.{range_with_len}
 use Rattle.journal_block.specs.declared.update.Update.{Update}
-use Rattle.journal_world.specs.declared.address.Kind.TheVariants.{Block}
-use Rattle.journal_world.specs.Addresses.{zeros_of}
 use Rattle.journal_block.specs.Block.{Bytes, with_bytes, u64_bytes, u64_at}
 use Rattle.journal_block.specs.Updates.{Content}
 use Rattle.journal_disk.specs.Disks.{block_at}
@@ -28,9 +26,14 @@ with_end header end = with_bytes header 0 (u64_bytes end)
 abbrev pub with_address : Bytes → ℕ → ℕ → Bytes
 with_address header p block = with_bytes header (address_at p) (u64_bytes block)
 
--- block 1 as the log writes it: the start, and zeros
-abbrev pub start_block : ℕ → Bytes
-start_block start = with_bytes (zeros_of Block) 0 (u64_bytes start)
+-- block 1: the start in bytes 0 to 7, and then the label, which is no part of the log and which each
+-- new start leaves as it is
+abbrev pub start_block : (label : Bytes) (start : ℕ) → Bytes
+start_block label start = u64_bytes start ++ label
+
+-- the label that block 1 has
+abbrev pub label_of : Bytes → Bytes
+label_of block = drop 8 block
 
 -- Of a log there are two forms. In the plain one block 0 has the end. In the sealed one it has
 -- where the last group begins, and that group is there exactly where each of its log blocks has the
@@ -122,6 +125,14 @@ end_in image = end_by (block_at image 0) (block_at image)
 
 abbrev pub start_in : List Bytes → ℕ
 start_in image = u64_at (block_at image 1) 0
+
+-- the label of an image
+abbrev pub label_in : List Bytes → Bytes
+label_in image = label_of (block_at image 1)
+
+-- the image has this label
+abbrev pub HasLabel : (label : Bytes) → List Bytes → Type 0
+HasLabel label image = label_in image ≡ label
 
 -- the log of an image: the updates of its positions from start to end
 abbrev pub log_in : List Bytes → List Update

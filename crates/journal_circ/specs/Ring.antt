@@ -9,7 +9,7 @@ use Rattle.journal_disk.specs.Disks.{Past, DiskEvent, DiskState, Keeps, HasFaile
 use Rattle.journal_disk.specs.Images.{EveryImage, reading}
 use Rattle.journal_disk.specs.Moments.{LeavesOnly}
 use Rattle.journal_circ.specs.declared.extent.Extent.{Extent}
-use Rattle.journal_circ.specs.Log.{updates_from, is_sealed, tag_in, tag_at, tag_of, other_tag, with_tag, with_address, word_of, IsWellFormed}
+use Rattle.journal_circ.specs.Log.{updates_from, is_sealed, tag_in, tag_at, tag_of, other_tag, with_tag, with_address, word_of, HasLabel, IsWellFormed}
 use Rattle.journal_circ.specs.StandsFor.{StandsFor}
 use Rattle.journal_circ.specs.declared.layout.TheConstants.{FIRST_HOME, LOG_POSITIONS}
 
@@ -20,6 +20,8 @@ pub record Ring : Type 0 where
   pub header : Bytes
   -- of a sealed log the tag that each log block has as it reads
   pub tags : Bytes
+  -- bytes 8 to 4095 of block 1
+  pub label : Bytes
   -- whether the log is of the sealed form
   pub sealed : Bool
   pub extent : Extent
@@ -80,11 +82,17 @@ SameHomeBut c old new = (b : ℕ) → FIRST_HOME ≤ b → b < old.disk.past.siz
 abbrev pub SameBlocksTo : Ring → Ring → Type 0
 SameBlocksTo old new = (to b : ℕ) → old.extent.end ≤ to → to ≤ old.next → FIRST_HOME ≤ b → b < old.disk.past.size → blocks_to new to b ≡ blocks_to old to b
 
+-- The label is the same, and each image has it at every moment
+pub record KeepsLabel (old new : Ring) : Type 0 where
+  pub same : new.label ≡ old.label
+  pub moments : IsTrue old.disk.honest → LeavesOnly old.disk.past new.disk.past (HasLabel old.label)
+
 -- What each step says of images: at every moment of it each stands for the blocks up to the old end
--- or up to the coming one
+-- or up to the coming one, and has the label
 pub record Crashes (coming : ℕ) (old new : Ring) : Type 0 where
   pub keeps : Keeps old.disk new.disk
   pub moments : IsTrue old.disk.honest → LeavesOnly old.disk.past new.disk.past (StandsForEither old old.extent.end coming)
+  pub label : KeepsLabel old new
   pub images : IsTrue new.disk.honest → EveryImage new.disk.past (StandsForEither new new.extent.end new.extent.coming)
 
 -- What a step did to an honest disk: this happened to it, and nothing else
@@ -108,11 +116,14 @@ pub record Steps {A : Type 0} (event : DiskEvent) (result : Result A (Refusal Un
   pub makes : OnOk result (MakesCall event old.disk new.disk)
   pub tries : TriesCall event old.disk new.disk
 
+-- the image stands for the home blocks, and has the label
+abbrev pub IsHomeAndLabel : Ring → List Bytes → Type 0
+IsHomeAndLabel r image = StandsFor r.disk.past.size (home_of r) image × HasLabel r.label image
+
 -- What a change of the form of an empty log says of images: up to one moment, and from it on, each
--- stands for the home blocks
+-- stands for the home blocks, and has the label
 abbrev pub ChangesForm : Ring → Past → Type 0
-ChangesForm r new = (mid : Past) × (LeavesOnly r.disk.past mid (StandsFor r.disk.past.size (home_of r))
-    × LeavesOnly mid new (StandsFor r.disk.past.size (home_of r)))
+ChangesForm r new = (mid : Past) × (LeavesOnly r.disk.past mid (IsHomeAndLabel r) × LeavesOnly mid new (IsHomeAndLabel r))
 
 -- The log and the home blocks are as before
 pub record KeepsLog (old new : Ring) : Type 0 where
@@ -127,11 +138,12 @@ IsOpenRefusal old new BadLog = IsTrue old.honest → IsWellFormed (reading old.p
 IsOpenRefusal old new _ = ⊥
 
 -- a log on which nothing is in flight
-abbrev pub at_rest : DiskState → (header tags : Bytes) → (start end : ℕ) → Ring
-at_rest disk header tags start end = record {
+abbrev pub at_rest : DiskState → (header tags label : Bytes) → (start end : ℕ) → Ring
+at_rest disk header tags label start end = record {
   disk = disk;
   header = header;
   tags = tags;
+  label = label;
   sealed = is_sealed header;
   extent = record { start = start; freed = start; end = end; coming = end; stable = end; homes = false };
   next = end;

@@ -8,7 +8,7 @@ use Rattle.journal_block.specs.Updates.{updated}
 use Rattle.journal_disk.specs.Disks.{Past, block_at, read_of}
 use Rattle.journal_disk.specs.Images.{EveryImage}
 use Rattle.journal_circ.specs.declared.extent.Extent.{Extent}
-use Rattle.journal_circ.specs.Log.{log_block, address, is_sealed, begin_of, tag_in, tag_of, tag_at, home_by, end_by, end_in, start_in, updates_from}
+use Rattle.journal_circ.specs.Log.{log_block, address, is_sealed, begin_of, tag_in, tag_of, tag_at, home_by, end_by, end_in, start_in, updates_from, HasLabel}
 use Rattle.journal_circ.specs.Ring.{Ring}
 use Rattle.journal_circ.specs.declared.layout.TheConstants.{FIRST_HOME, LOG_POSITIONS, MAX_GROUP}
 
@@ -120,6 +120,7 @@ pub record IsCirc (r : Ring) : Type 0 where
   pub bounds : HasBounds r.disk.past.size r.header r.extent r.next
   pub sound : IsTrue r.disk.honest → HasSoundImages r.disk.past r.header r.extent
   pub headers : IsTrue r.disk.honest → r.faulted ≡ false → HasHeaders r.disk.past r.extent
+  pub label : IsTrue r.disk.honest → EveryImage r.disk.past (HasLabel r.label)
   pub tags_size : length r.tags ≡ BLOCK_BYTES
   pub holds : IsTrue r.disk.honest → is_sealed r.header ≡ true → HasHolds r.disk.past r.header r.extent.start r.extent.end r.next
   pub tags : IsTrue r.disk.honest → r.faulted ≡ false → is_sealed r.header ≡ true

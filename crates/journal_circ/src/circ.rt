@@ -11,14 +11,12 @@ use crate::tag::put_back;
 use journal_block::Block;
 use journal_disk::{BlockDisk, MemDisk};
 use journal_world::Refusal;
-use start_block::StartBlock;
 use std::marker::Model;
 
 pub mod installer;
 pub mod logger;
 mod opening;
 mod seal;
-mod start_block;
 
 pub use opening::Opened;
 
@@ -40,14 +38,15 @@ pub struct Circ<D: BlockDisk> {
     tags: Block,
     // What a tagged log block is written from, so that no step allocates.
     scratch: Block,
-    // Block 1 as it was put last.
-    start_block: StartBlock,
+    // Block 1 as it was read, with the start that was put last.
+    start_block: Block,
     extent: Extent,
     // The position that is put next.
     next: u64,
 }
 
 impl<D: BlockDisk> Model for Circ<D> {
+    ghost use Rattle.journal_circ.specs.Log.{label_of};
     ghost use Rattle.journal_circ.specs.Ring.{Ring};
     ghost use Rattle.journal_circ.specs.Soundness.{IsCirc};
 
@@ -57,6 +56,7 @@ impl<D: BlockDisk> Model for Circ<D> {
       disk = D.state c.device.disk;
       header = c.header;
       tags = c.tags;
+      label = label_of c.start_block;
       sealed = c.sealed;
       extent = c.extent;
       next = c.next;
@@ -67,6 +67,7 @@ impl<D: BlockDisk> Model for Circ<D> {
       disk = D.state c.device.disk;
       header = c.header;
       tags = c.tags;
+      label = label_of c.start_block;
       sealed = c.sealed;
       extent = c.extent;
       next = c.next;

@@ -6,7 +6,7 @@
 // | | | sealed: 2^63 + a, where a, below 2^62, is the position at which the last group begins |
 // | 0 | 8 + 8 s to 15 + 8 s, s from 0 to 510 | the word of the position p in use with p % 511 = s |
 // | 1, the start's header | 0 to 7 | the start: the first position in use |
-// | 1 | 8 to 4095 | zeros, which are not looked at |
+// | 1 | 8 to 4095 | the label: not the log's, which keeps it as it is |
 // | 2 + s | all | the log block of the position p in use with p % 511 = s |
 // | 513 on | all | home blocks |
 //
@@ -27,7 +27,8 @@
 // There are two headers so that each cycle writes one of its own, and the steps of the two come in
 // any order. A word of 2^62 up to 2^63 in block 0 is of neither form.
 ghost use Rattle.std.specs.Prelude.{◌≡◌};
-ghost use Rattle.journal_circ.specs.Log.{log_block, address_at, is_sealed, home_by};
+ghost use Rattle.journal_block.specs.Block.{u64_at};
+ghost use Rattle.journal_circ.specs.Log.{log_block, address_at, is_sealed, home_by, start_block, label_of};
 
 use journal_block::Block;
 
@@ -42,7 +43,7 @@ pub const MAX_GROUP: u64 = 255;
 pub const MAX_SEALED_BLOCKS: u64 = 1 << 40;
 /// The block with the log's end, or where its last group begins, and the words of its positions.
 pub(crate) const HEADER: u64 = 0;
-/// The block with the log's start, and zeros.
+/// The block with the log's start, and the label.
 pub(crate) const START_BLOCK: u64 = 1;
 /// Where in block 0 the end lies, or where the last group begins, and in block 1 the start.
 pub(crate) const BOUND_AT: usize = 0;
@@ -80,4 +81,13 @@ pub(crate) fn home_at(header: &Block, position: u64) -> u64
     } else {
         word
     }
+}
+
+/// Puts the start into block 1, whose label stays.
+pub(crate) fn put_start(block: &mut Block, start: u64)
+    ensures contents { block.new ≡ start_block (label_of block.old) start }
+    ensures label { label_of block.new ≡ label_of block.old }
+    ensures number { u64_at block.new 0 ≡ start }
+{
+    block.put_u64(BOUND_AT, start);
 }

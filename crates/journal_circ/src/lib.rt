@@ -8,6 +8,10 @@
 //! disk *stands for* its home blocks with the updates of the positions from start to end, one after
 //! the other.
 //!
+//! Bytes 8 to 4095 of block 1 are the *label*. It is no part of the log, which keeps it: opening
+//! reads block 1, and each new start is put into what was read. So nothing else may write block 1
+//! while the log is open.
+//!
 //! The log has one of two *forms*, and block 0 says which. In the *plain* form block 0 has the
 //! log's end at byte 0. In the *sealed* form it has `2^63 + a`, where `a` is the position at which
 //! the last group begins. The last group is then in the log if and only if each of its log blocks

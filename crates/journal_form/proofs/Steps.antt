@@ -4,23 +4,24 @@ use Rattle.std.proofs.lemmas.Bool.{eq-eqb, eqb-true, cond-true, cond-false}
 use Rattle.journal_block.specs.declared.update.Update.{Update}
 use Rattle.journal_block.specs.Block.{Bytes}
 use Rattle.journal_block.specs.Updates.{Content, updated, updates_block}
-use Rattle.journal_disk.specs.Disks.{Past, DiskState, Keeps, read_of}
+use Rattle.journal_disk.specs.Disks.{Past, DiskState, Keeps, IsSettled, read_of}
 use Rattle.journal_disk.specs.Images.{EveryImage, reading}
 use Rattle.journal_disk.specs.Moments.{LeavesOnly}
-use Rattle.journal_disk.specs.Laws.{leaves_also, leaves_now, leaves_none, reading_is_image}
+use Rattle.journal_disk.specs.Laws.{leaves_also, leaves_now, leaves_none, settled_reads, reading_is_image}
 use Rattle.journal_circ.specs.StandsFor.{StandsFor}
-use Rattle.journal_circ.specs.Ring.{Ring, log_of, home_of, blocks_to, StandsForEither, SameHomeBut, IsLogged, IsInstalled, KeepsLog, Crashes, ChangesForm}
-use Rattle.journal_circ.specs.Log.{updates_from}
-use Rattle.journal_form.specs.Forms.{HoldsThroughout}
+use Rattle.journal_circ.specs.Ring.{Ring, log_of, home_of, blocks_to, StandsForEither, SameHomeBut, IsLogged, IsInstalled, KeepsLog, Crashes, IsHomeAndLabel, ChangesForm}
+use Rattle.journal_circ.specs.Log.{updates_from, label_of, HasLabel}
+use Rattle.journal_form.specs.Forms.{HoldsThroughout, HoldsLabelThroughout}
 use Rattle.journal_form.specs.Inspections.{TellsFiles}
 use Rattle.journal_form.specs.declared.inspecting.TheConstants.{FILES_MAGIC}
-use Rattle.journal_form.specs.Emptying.{Rests, StaysThroughout, HasHomesTo, BringsUpdate, BringsHome}
+use Rattle.journal_form.specs.Emptying.{Rests, IsLogAndLabel, StaysThroughout, HasHomesTo, BringsUpdate, BringsHome, IsEmptied}
 use Rattle.journal_form.proofs.Moments.{leaves_then}
 use Rattle.journal_form.proofs.Updating.{updated_again, updated_more, named_at}
 
--- On a disk of as many blocks the log stands for the same
+-- On a disk of as many blocks, with the same label, the log stands for the same
 pub record SameBlocks (old r : Ring) : Type 0 where
   pub size : r.disk.past.size ≡ old.disk.past.size
+  pub label : r.label ≡ old.label
   pub each : (b : ℕ) → 513 ≤ b → b < old.disk.past.size → blocks_to r r.extent.end b ≡ blocks_to old old.extent.end b
 
 -- what an image stands for, it stands for in other words
@@ -34,32 +35,48 @@ stands_as n m f g sizes same image stands = record {
 
 module _ (old r : Ring) (same : SameBlocks old r) where
   -- one more call is made, which leaves only what the log stands for
-  pub stays_on : (new : Past) → StaysThroughout old r.disk.past → LeavesOnly r.disk.past new (StandsFor r.disk.past.size (blocks_to r r.extent.end))
-      → LeavesOnly old.disk.past new (StandsFor old.disk.past.size (blocks_to old old.extent.end))
-  stays_on new before step = leaves_then old.disk.past r.disk.past new _ before
-      (leaves_also r.disk.past new _ _ step (stands_as r.disk.past.size old.disk.past.size (blocks_to r r.extent.end) (blocks_to old old.extent.end) same.size same.each))
+  pub stays_on : (new : Past) → StaysThroughout old r.disk.past → StaysThroughout r new → StaysThroughout old new
+  stays_on new before step = leaves_then old.disk.past r.disk.past new _ before (leaves_also r.disk.past new _ _ step (λ image both. (
+    stands_as r.disk.past.size old.disk.past.size (blocks_to r r.extent.end) (blocks_to old old.extent.end) same.size same.each image both.0,
+    both.1 ∙ same.label,
+  )))
 
-  -- each image stands for the blocks of the log
-  pub stands_now : StaysThroughout old r.disk.past → EveryImage r.disk.past (StandsFor r.disk.past.size (blocks_to r r.extent.end))
-  stands_now before image is =
-      stands_as old.disk.past.size r.disk.past.size (blocks_to old old.extent.end) (blocks_to r r.extent.end) (sym same.size)
-      (λ b home lt. sym (same.each b home (omega (arith, same.size, lt)))) image (leaves_now old.disk.past r.disk.past _ before image is)
+  -- each image stands for the blocks of the log, and has the label
+  pub stands_now : StaysThroughout old r.disk.past → EveryImage r.disk.past (IsLogAndLabel r)
+  stands_now before image is = let both = leaves_now old.disk.past r.disk.past _ before image is in (
+    stands_as old.disk.past.size r.disk.past.size (blocks_to old old.extent.end) (blocks_to r r.extent.end) (sym same.size)
+        (λ b home lt. sym (same.each b home (omega (arith, same.size, lt)))) image both.0,
+    both.1 ∙ sym same.label,
+  )
 
 -- a step of a log whose end does not change leaves what the log stands for
 pub leaves_end : (r : Ring) (new : Past) (coming : ℕ) → coming ≡ r.extent.end → LeavesOnly r.disk.past new (StandsForEither r r.extent.end coming)
-    → LeavesOnly r.disk.past new (StandsFor r.disk.past.size (blocks_to r r.extent.end))
-leaves_end r new coming at_end leaves = leaves_also r.disk.past new (StandsForEither r r.extent.end coming) (StandsFor r.disk.past.size (blocks_to r r.extent.end)) leaves
-    (λ image. ⊎_elim (λ here. here) (λ there. subst (λ (to : ℕ). StandsFor r.disk.past.size (blocks_to r to) image) at_end there))
+    → LeavesOnly r.disk.past new (HasLabel r.label) → StaysThroughout r new
+leaves_end r new coming at_end leaves labels = record {
+  extends = leaves.extends;
+  each = λ m from to image is. (
+    ⊎_elim
+        (λ here. here)
+        (λ there. subst (λ (to : ℕ). StandsFor r.disk.past.size (blocks_to r to) image) at_end there)
+        (leaves.each m from to image is),
+    labels.each m from to image is,
+  );
+}
 
 -- The updates up to a position are at home
 module _ (old r : Ring) (q : ℕ) (brought : BringsHome old q r) (ge : old.extent.start ≤ q) (le : q ≤ old.extent.end) (honest : IsTrue old.disk.honest) where
   pub same_blocks : SameBlocks old r
   same_blocks = record {
     size = brought.keeps.size;
+    label = brought.label;
     each = λ b home lt.
         (λ i. updated (take (brought.end i - brought.start i) (brought.log honest i)) b (brought.homes honest b home lt i))
         ∙ updated_again (log_of old) (old.extent.end - old.extent.start) (q - old.extent.start) b (home_of old b) (omega (arith, le));
   }
+
+-- where nothing happened each image stands for the blocks of the log, and has the label
+pub stays_at_rest : (r : Ring) (new : Past) → Rests r → IsTrue r.disk.honest → new ≡ r.disk.past → StaysThroughout r new
+stays_at_rest r new rests honest same = leaves_none r.disk.past new (IsLogAndLabel r) same (λ image is. (rests.stands honest image is, rests.labels honest image is))
 
 -- nothing is at home yet
 pub none_home : (r : Ring) → Rests r → BringsHome r r.extent.start r
@@ -69,10 +86,11 @@ none_home r rests = record {
   coming = refl;
   next = refl;
   fine = rests.fine;
+  label = refl;
   keeps = record { size = refl; honest = refl; failures = omega arith };
   log = λ _. refl;
   homes = λ _ b home lt. (λ i. updated (take (none i) (log_of r)) b (home_of r b));
-  crash = λ honest. leaves_none r.disk.past r.disk.past (StandsFor r.disk.past.size (blocks_to r r.extent.end)) refl (rests.stands honest);
+  crash = λ honest. stays_at_rest r r.disk.past rests honest refl;
 }
   where
     none : 0 ≡ r.extent.start - r.extent.start
@@ -116,6 +134,7 @@ one_home old r new q brought ge lt keeps stays brings = record {
   coming = ap (λ (s : Ring). s.extent.coming) brings.same ∙ brought.coming;
   next = ap (λ (s : Ring). s.next) brings.same ∙ brought.next;
   fine = ap (λ (s : Ring). s.faulted) brings.same ∙ brought.fine;
+  label = ap (λ (s : Ring). s.label) brings.same ∙ brought.label;
   keeps = keeps_on old.disk r.disk new.disk brought.keeps keeps;
   log = λ honest. brings.log (as_honest honest) ∙ brought.log honest;
   homes = λ honest. homes_on honest (brings.update (as_honest honest));
@@ -139,6 +158,7 @@ module _ (old mid : Ring) (same : mid ≡ record old { disk = mid.disk }) (past 
   pub same_read : SameBlocks old mid
   same_read = record {
     size = ap (λ (p : Past). p.size) past;
+    label = ap (λ (s : Ring). s.label) same;
     each = λ b home lt. (λ i. updated (take ((same i).extent.end - (same i).extent.start) (log_read i)) b (read_of (past i) b));
   }
 
@@ -164,10 +184,10 @@ module _ (old r : Ring) (rests : Rests old) (order : old.extent.start ≤ old.ex
   same_all honest = same_blocks old r old.extent.end brought order (omega arith) honest
 
   -- one more call of the installer leaves what the log stands for
-  pub stepped : (new : Past) → IsTrue old.disk.honest → (IsTrue r.disk.honest → LeavesOnly r.disk.past new (StandsForEither r r.extent.end r.extent.coming))
-      → StaysThroughout old new
-  stepped new honest moments = stays_on old r (same_all honest) new (brought.crash honest)
-      (leaves_end r new r.extent.coming (brought.coming ∙ rests.coming ∙ sym brought.end) (moments (brought.keeps.honest ∙ honest)))
+  pub stepped : (new : Ring) → IsTrue old.disk.honest → Crashes r.extent.coming r new → StaysThroughout old new.disk.past
+  stepped new honest crashes = let now : IsTrue r.disk.honest = brought.keeps.honest ∙ honest in
+      stays_on old r (same_all honest) new.disk.past (brought.crash honest)
+      (leaves_end r new.disk.past r.extent.coming (brought.coming ∙ rests.coming ∙ sym brought.end) (crashes.moments now) (crashes.label.moments now))
 
   -- and keeps it at home
   brought_on : (new : Ring) → SameBounds r new → Crashes r.extent.coming r new → (IsTrue r.disk.honest → KeepsLog r new) → BringsHome old old.extent.end new
@@ -177,10 +197,11 @@ module _ (old r : Ring) (rests : Rests old) (order : old.extent.start ≤ old.ex
     coming = bounds.coming ∙ brought.coming;
     next = bounds.next ∙ brought.next;
     fine = bounds.fine ∙ brought.fine;
+    label = crashes.label.same ∙ brought.label;
     keeps = keeps_on old.disk r.disk new.disk brought.keeps crashes.keeps;
     log = λ honest. (keeps (brought.keeps.honest ∙ honest)).log ∙ brought.log honest;
     homes = λ honest b home lt. (keeps (brought.keeps.honest ∙ honest)).home b home (omega (arith, lt, brought.keeps.size)) ∙ brought.homes honest b home lt;
-    crash = λ honest. stepped new.disk.past honest crashes.moments;
+    crash = λ honest. stepped new honest crashes;
   }
 
   pub brought_synced : (new : Ring) → new ≡ record r { disk = new.disk; extent = record r.extent { homes = true } }
@@ -214,20 +235,35 @@ module _ (old r : Ring) (rests : Rests old) (order : old.extent.start ≤ old.ex
       was = sym brought.keeps.honest ∙ honest
 
 -- the form of the log that was emptied is changed
-pub formed : (old r : Ring) (new : Past) → Keeps old.disk r.disk → StaysThroughout old r.disk.past → HasHomesTo old old.extent.end r → ChangesForm r new
+pub formed : (old r : Ring) (new : Past) → Keeps old.disk r.disk → StaysThroughout old r.disk.past → IsEmptied old r → IsTrue old.disk.honest → ChangesForm r new
     → StaysThroughout old new
-formed old r new keeps before homes changes = leaves_then old.disk.past changes.0 new _
+formed old r new keeps before emptied honest changes = leaves_then old.disk.past changes.0 new _
     (leaves_then old.disk.past r.disk.past changes.0 _ before (leaves_also r.disk.past changes.0 _ _ changes.1.0 weaker))
     (leaves_also changes.0 new _ _ changes.1.1 weaker)
   where
-    weaker : (image : List Bytes) → StandsFor r.disk.past.size (home_of r) image → StandsFor old.disk.past.size (blocks_to old old.extent.end) image
-    weaker = stands_as r.disk.past.size old.disk.past.size (home_of r) (blocks_to old old.extent.end) keeps.size homes
+    weaker : (image : List Bytes) → IsHomeAndLabel r image → IsLogAndLabel old image
+    weaker image both = (
+      stands_as r.disk.past.size old.disk.past.size (home_of r) (blocks_to old old.extent.end) keeps.size (emptied.homes honest) image both.0,
+      both.1 ∙ emptied.label,
+    )
 
 -- where each image stands for some blocks, what leaves them leaves whatever each stands for
-pub holds_by : (p new : Past) (f : Content) → EveryImage p (StandsFor p.size f) → LeavesOnly p new (StandsFor p.size f) → HoldsThroughout p new
-holds_by p new f stands leaves blocks all = leaves_also p new _ _ leaves
-    (stands_as p.size p.size f blocks refl (λ b home lt.
-    sym ((stands (reading p) (reading_is_image p)).each b home lt) ∙ (all (reading p) (reading_is_image p)).each b home lt))
+pub holds_by : (r : Ring) → EveryImage r.disk.past (StandsFor r.disk.past.size (blocks_to r r.extent.end)) → (new : Past) → StaysThroughout r new → HoldsThroughout r.disk.past new
+holds_by r stands new stays blocks all = leaves_also p new _ _ stays
+    (λ image both. stands_as p.size p.size (blocks_to r r.extent.end) blocks refl (λ b home lt.
+    sym ((stands (reading p) (reading_is_image p)).each b home lt) ∙ (all (reading p) (reading_is_image p)).each b home lt) image both.0)
+  where
+    p : Past
+    p = r.disk.past
+
+-- where nothing is pending each image has the label that block 1 reads
+pub keeps_settled : (p new : Past) → IsSettled p → 1 < p.size → new ≡ p → HoldsLabelThroughout p new
+keeps_settled p new settled large same = leaves_none p new (HasLabel (label_of (read_of p 1))) same (λ image is. ap label_of (settled_reads p settled image is 1 large))
+
+-- what leaves the label of the log that was opened leaves that of block 1
+pub keeps_by : (p new : Past) (r : Ring) → r.disk.past ≡ p → r.label ≡ label_of (read_of p 1) → StaysThroughout r new → HoldsLabelThroughout p new
+keeps_by p new r past label stays = subst (λ (q : Past). LeavesOnly q new (HasLabel (label_of (read_of p 1)))) past
+    (leaves_also r.disk.past new _ _ stays (λ image both. both.1 ∙ label))
 
 -- what each image stands for tells whether the first home block begins with the format's name
 pub tells : (p : Past) (f : Content) (has_files : Bool) → 513 < p.size → EveryImage p (StandsFor p.size f)

@@ -5,7 +5,7 @@ use Rattle.journal_block.specs.Updates.{Content}
 use Rattle.journal_disk.specs.Disks.{Past, IsSettled, read_of}
 use Rattle.journal_disk.specs.Images.{EveryImage}
 use Rattle.journal_disk.specs.Moments.{LeavesOnly}
-use Rattle.journal_circ.specs.Log.{is_sealed}
+use Rattle.journal_circ.specs.Log.{is_sealed, label_of, HasLabel}
 use Rattle.journal_circ.specs.StandsFor.{StandsFor}
 use Rattle.journal_form.specs.declared.form.LogForm.{LogForm}
 use Rattle.journal_form.specs.declared.form.LogForm.TheVariants.{Plain, Sealed}
@@ -22,6 +22,10 @@ form_of header = form_by (is_sealed header)
 -- meanwhile opens with the same blocks
 abbrev pub HoldsThroughout : Past → Past → Type 0
 HoldsThroughout old new = (blocks : Content) → EveryImage old (StandsFor old.size blocks) → LeavesOnly old new (StandsFor old.size blocks)
+
+-- Each image of each moment has the label that block 1 read
+abbrev pub HoldsLabelThroughout : Past → Past → Type 0
+HoldsLabelThroughout old new = LeavesOnly old new (HasLabel (label_of (read_of old 1)))
 
 -- Nothing is pending, and the log has the form
 abbrev pub IsChanged : LogForm → Past → Type 0

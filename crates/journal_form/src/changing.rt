@@ -4,7 +4,7 @@ ghost use Rattle.journal_world.specs.declared.layout.TheConstants.{MIN_BLOCKS};
 ghost use Rattle.journal_disk.specs.Disks.{Keeps, IsSettled, read_of};
 ghost use Rattle.journal_circ.specs.declared.layout.TheConstants.{MAX_SEALED_BLOCKS};
 ghost use Rattle.journal_circ.specs.Ring.{IsOpenRefusal, IsFault, ChangesForm};
-ghost use Rattle.journal_form.specs.Forms.{form_by, form_of, HoldsThroughout, IsChanged};
+ghost use Rattle.journal_form.specs.Forms.{form_by, form_of, HoldsThroughout, HoldsLabelThroughout, IsChanged};
 ghost use Rattle.journal_form.specs.Emptying.{Rests, IsRead, StaysThroughout};
 ghost use Rattle.journal_form.specs.declared.form.LogForm.TheVariants.{Sealed};
 
@@ -27,7 +27,7 @@ pub struct Changed<D> {
 
 /// Gives the log of a disk on which nothing is pending this form. Where it has it, nothing is
 /// written. Else all updates of the log are brought home first. Whatever blocks the disk held, it
-/// holds in each image of each moment.
+/// holds in each image of each moment, and the label of block 1 stays.
 ///
 /// Answers J1 `NoMemory` where memory is refused, J7 `BadLog` where the log is not well formed, and
 /// J6 `DeviceFailed` where the device fails, and no other refusal. A refusal hands the disk back.
@@ -49,6 +49,9 @@ pub fn change_form<D: BlockDisk>(
     ensures crash { IsTrue (D.state disk).honest → MatchResult result
         (λ changed. HoldsThroughout (D.state disk).past (D.state changed.disk).past)
         (λ refused. HoldsThroughout (D.state disk).past (D.state refused.disk).past) }
+    ensures label { IsTrue (D.state disk).honest → MatchResult result
+        (λ changed. HoldsLabelThroughout (D.state disk).past (D.state changed.disk).past)
+        (λ refused. HoldsLabelThroughout (D.state disk).past (D.state refused.disk).past) }
     ensures was { IsTrue (D.state disk).honest → IfOk result (λ changed. changed.was ≡ form_of (read_of (D.state disk).past 0)) }
     ensures same { IsTrue (D.state disk).honest → IfOk result (λ changed. changed.was ≡ form
         → (D.state changed.disk).past ≡ (D.state disk).past) }

@@ -11,7 +11,7 @@ use journal_world::Refusal;
 
 /// Brings all updates of a log at rest home, in the order of their positions, and frees the
 /// positions. To an empty log nothing is done. What the disk holds stays in each image of each
-/// moment.
+/// moment, and so does the label.
 ///
 /// Answers J6 `DeviceFailed`, and nothing else, where the device failed.
 pub(crate) fn empty<D: BlockDisk>(

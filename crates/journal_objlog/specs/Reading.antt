@@ -21,6 +21,7 @@ no_log = record {
     disk = record { past = record { size = 0; first = []; events = [] }; honest = false; failures = 0 };
     header = [];
     tags = [];
+    label = [];
     sealed = false;
     extent = record { start = 0; freed = 0; end = 0; coming = 0; stable = 0; homes = false };
     next = 0;

@@ -1,5 +1,5 @@
 -- What the log on the disk says of images, in the words of the log in memory.
-use Rattle.std.proofs.Common.{◌≡◌, ◌⊎◌, inl, inr, ⊎_elim, ◌≤◌, ◌-◌, ℕ, List, take, refl, ap, subst, ◌∙◌, arith}
+use Rattle.std.proofs.Common.{◌≡◌, ◌⊎◌, inl, inr, ⊎_elim, ◌≤◌, ◌-◌, ℕ, List, take, refl, sym, ap, subst, ◌∙◌, arith, IsTrue}
 use Rattle.std.proofs.lemmas.List.{take-take}
 use Rattle.journal_block.specs.declared.update.Update.{Update}
 use Rattle.journal_block.specs.Block.{Bytes}
@@ -7,13 +7,19 @@ use Rattle.journal_block.specs.Updates.{updated}
 use Rattle.journal_disk.specs.Disks.{Past}
 use Rattle.journal_disk.specs.Images.{EveryImage}
 use Rattle.journal_disk.specs.Moments.{LeavesOnly}
-use Rattle.journal_disk.specs.Laws.{leaves_also}
+use Rattle.journal_disk.specs.Laws.{leaves_also, leaves_now}
+use Rattle.journal_circ.specs.Log.{HasLabel}
 use Rattle.journal_circ.specs.StandsFor.{StandsFor}
-use Rattle.journal_circ.specs.Ring.{Ring, log_of, home_of, blocks_to, StandsForEither}
+use Rattle.journal_circ.specs.Ring.{Ring, log_of, home_of, blocks_to, StandsForEither, Crashes as RingCrashes}
 use Rattle.journal_circ.specs.Laws.{stands_same}
 use Rattle.journal_memlog.specs.Logs.{LogState}
 use Rattle.journal_wal.specs.Wal.{WalState, MayStandFor, size_of, blocks_at}
 use Rattle.journal_wal.specs.States.{AreTied, updates_to}
+
+-- the label that stays is in each image
+pub labels_of : {coming : ℕ} (old new : Ring) → RingCrashes coming old new → IsTrue new.disk.honest → EveryImage new.disk.past (HasLabel new.label)
+labels_of old new steps honest = subst (λ (l : Bytes). EveryImage new.disk.past (HasLabel l)) (sym steps.label.same)
+    (leaves_now old.disk.past new.disk.past (HasLabel old.label) (steps.label.moments (subst IsTrue steps.keeps.honest honest)))
 
 -- the log on the disk, up to a position that was put
 pub ring_updates : (ring : Ring) (log : LogState) → ring.extent.start ≡ log.start

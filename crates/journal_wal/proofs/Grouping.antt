@@ -9,6 +9,7 @@ use Rattle.journal_block.specs.Updates.{updated, updates_block}
 use Rattle.journal_block.specs.UpdateLaws.{updated-append}
 use Rattle.journal_disk.specs.Images.{EveryImage}
 use Rattle.journal_disk.specs.Laws.{leaves_none}
+use Rattle.journal_circ.specs.Log.{HasLabel}
 use Rattle.journal_circ.specs.StandsFor.{StandsFor}
 use Rattle.journal_circ.specs.Ring.{Ring, home_of}
 use Rattle.journal_memlog.specs.Logs.{LogState, HasDistinctBlocks, next_position, head_of, tail_of, absorbed, appended, CanTake}
@@ -168,12 +169,14 @@ module _ (w : WalState) (updates : List Update) (is : IsWal w) (room : HasGroupR
         tied = tied;
         log = λ honest. is.log honest ∙ sym (before w.ring.next is.tied.next_to_cut);
         images = images;
+        label = is.label;
         logging = subst (IsLogging w.ring log) (sym rest.0) at_blocks;
         installing = installing_stays w.ring w.ring w.log log keeps w.installing is.installing;
       };
       crash = record {
         keeps = record { size = refl; honest = refl; failures = omega arith };
         moments = λ honest. leaves_none w.ring.disk.past w.ring.disk.past (MayStandFor w) refl (is.images honest);
+        label = record { same = refl; moments = λ honest. leaves_none w.ring.disk.past w.ring.disk.past (HasLabel w.ring.label) refl (is.label honest) };
         images = images;
       };
     }
@@ -229,6 +232,7 @@ room_made w room is = record {
   };
   log = is.log;
   images = is.images;
+  label = is.label;
   logging = same_marks w.ring w.log later refl refl w.logging is.logging;
   installing = installing_stays w.ring w.ring w.log later (record {
     size = refl;
@@ -252,5 +256,6 @@ pub crashes_room : (w : WalState) (room : ℕ) → IsWal w → Crashes w (with_r
 crashes_room w room is = record {
   keeps = record { size = refl; honest = refl; failures = omega arith };
   moments = λ honest. leaves_none w.ring.disk.past w.ring.disk.past (MayStandFor w) refl (is.images honest);
+  label = record { same = refl; moments = λ honest. leaves_none w.ring.disk.past w.ring.disk.past (HasLabel w.ring.label) refl (is.label honest) };
   images = is.images;
 }

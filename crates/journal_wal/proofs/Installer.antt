@@ -21,7 +21,7 @@ use Rattle.journal_wal.specs.Wal.{WalState, planned, IsPlanOf, MakesDueCall, ins
 use Rattle.journal_wal.specs.declared.step.InstallStep.TheVariants.{Freed}
 use Rattle.journal_wal.specs.States.{updates_to, IsInLog, IsHomeOf, PutsHomes, AreTied, IsWal, IsLogging, IsInstalling}
 use Rattle.journal_wal.proofs.Lists.{updates_block-longer}
-use Rattle.journal_wal.proofs.Crashes.{images_of, moments_of, ring_updates}
+use Rattle.journal_wal.proofs.Crashes.{labels_of, images_of, moments_of, ring_updates}
 use Rattle.journal_wal.proofs.Frames.{keeps_homes, keeps_covered, tied_by}
 use Rattle.journal_wal.proofs.Homes.{home_at}
 use Rattle.journal_wal.proofs.Logger.{Leaves, stepped}
@@ -325,6 +325,7 @@ module _ (ring now : Ring) (log : LogState) (logging : Logging) (upto : ℕ)
         tied = tied;
         log = λ honest. log_is dropped (subst IsTrue steps.keeps.honest honest);
         images = images;
+        label = labels_of ring now steps;
         logging = logging_stays ring now log (trimmed log upto) coming end (ap (λ (r : Ring). r.extent.stable) is_now) next (ap (λ (r : Ring). r.sealed) is_now)
             (subst IsTrue (sym (ap (λ (r : Ring). r.faulted) is_now))) refl refl logging is.logging;
         installing = freed ∙ is.installing.idle ∙ sym start;
@@ -332,6 +333,7 @@ module _ (ring now : Ring) (log : LogState) (logging : Logging) (upto : ℕ)
       crash = record {
         keeps = steps.keeps;
         moments = λ honest. moments_of old is.tied (is.log honest) now.disk.past ring.extent.coming is.tied.coming (steps.moments honest);
+        label = steps.label;
         images = images;
       };
     },
@@ -352,16 +354,16 @@ module _ (ring now : Ring) (log : LogState) (logging : Logging) (upto : ℕ)
           ∙ ap (λ (us : List Update). updated us b (home_of ring b)) (take_all (next_position log - log.start) log.updates (omega arith))
 
 -- the device call of a plan is that of its first block
-pub call_home : (log : LogState) (upto : ℕ) (plan rest : List (ℕ × ℕ)) (b q : ℕ) (u : Update) (disk now : DiskState) → plan ≡ (b, q) ∷ rest
-    → slice_get log.updates (q - log.start) ≡ Some u → MakesCall (write b u.bytes) disk now → MakesDueCall (install_call log (install_homes upto plan)) disk now
-call_home log upto plan rest b q u disk now is found happened =
-    subst (λ (es : List (ℕ × ℕ)). MakesDueCall (install_call log (install_homes upto es)) disk now) (sym is)
+pub call_home : (label : Bytes) (log : LogState) (upto : ℕ) (plan rest : List (ℕ × ℕ)) (b q : ℕ) (u : Update) (disk now : DiskState) → plan ≡ (b, q) ∷ rest
+    → slice_get log.updates (q - log.start) ≡ Some u → MakesCall (write b u.bytes) disk now → MakesDueCall (install_call label log (install_homes upto plan)) disk now
+call_home label log upto plan rest b q u disk now is found happened =
+    subst (λ (es : List (ℕ × ℕ)). MakesDueCall (install_call label log (install_homes upto es)) disk now) (sym is)
     (subst (λ (v : Update). MakesCall (write b v.bytes) disk now) (sym (get_or_from_slice_get log.updates (q - log.start) u (record { block = 0; bytes = [] }) found)) happened)
 
 -- a step of an installing that goes on
 pub installs_on : (ring now : Ring) (log : LogState) (logging : Logging) (before after : Installing) (left : ℕ) → now.next ≡ ring.next → now.sealed ≡ ring.sealed
     → install_steps_by before ≡ suc (suc left) → install_steps_by after ≡ suc left
-    → MakesDueCall (install_call log before) ring.disk now.disk → after ≡ after_call before
+    → MakesDueCall (install_call ring.label log before) ring.disk now.disk → after ≡ after_call before
     → (IsTrue ring.disk.honest → KeepsBlocks (record { ring = ring; log = log; logging = logging; installing = before })
     (record { ring = now; log = log; logging = logging; installing = after }))
     → let new : WalState = record { ring = now; log = log; logging = logging; installing = after } in
@@ -387,7 +389,7 @@ installs_on ring now log logging before after left next form was is call is_next
 
 -- the step that frees positions
 pub installs_freed : (ring now : Ring) (log : LogState) (logging : Logging) (upto : ℕ) → now.next ≡ ring.next → now.sealed ≡ ring.sealed → IsInLog log upto
-    → MakesDueCall (install_call log (install_sync upto)) ring.disk now.disk
+    → MakesDueCall (install_call ring.label log (install_sync upto)) ring.disk now.disk
     → (IsTrue ring.disk.honest → KeepsBlocks (record { ring = ring; log = log; logging = logging; installing = install_sync upto })
     (record { ring = now; log = trimmed log upto; logging = logging; installing = install_none }))
     → InstallAnswers (record { ring = ring; log = log; logging = logging; installing = install_sync upto }) (Freed upto)
@@ -413,6 +415,7 @@ plan_made w is none_yet plan planned_is = record {
   tied = is.tied;
   log = is.log;
   images = is.images;
+  label = is.label;
   logging = is.logging;
   installing = record {
     idle = subst (λ (i : Installing). IsInstalling w.ring w.log i) none_yet is.installing;

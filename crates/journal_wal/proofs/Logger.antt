@@ -9,13 +9,13 @@ use Rattle.journal_disk.specs.Laws.{leaves_none}
 use Rattle.std.proofs.lemmas.Option.{get_or_from_slice_get, slice_get_within}
 use Rattle.journal_block.specs.declared.update.Update.{Update}
 use Rattle.journal_disk.specs.Images.{EveryImage}
-use Rattle.journal_circ.specs.Log.{log_block, with_end, with_group}
+use Rattle.journal_circ.specs.Log.{HasLabel, log_block, with_end, with_group}
 use Rattle.journal_circ.specs.Ring.{Ring, log_of, home_of, bytes_put, header_put, tags_put, Crashes as RingCrashes, KeepsLog, SameHome, MakesCall}
 use Rattle.journal_memlog.specs.Logs.{LogState, next_position}
 use Rattle.journal_tail.specs.Homes.{AreHomes}
 use Rattle.journal_wal.specs.Wal.{WalState, Logging, log_blocks, log_end, log_sync, log_spent, Installing, Crashes, Fails, LogsOn, EndsGroup, log_steps, log_steps_by, barriers_before, call_after_blocks, log_call, log_call_by, bytes_at, MakesDueCall, MayStandFor, tail_length}
 use Rattle.journal_wal.specs.States.{updates_to, AreTied, IsWal, IsLogging, IsInstalling}
-use Rattle.journal_wal.proofs.Crashes.{images_of, moments_of}
+use Rattle.journal_wal.proofs.Crashes.{labels_of, images_of, moments_of}
 use Rattle.journal_wal.proofs.Frames.{keeps_homes, KeepsInstalling, installing_stays, tied_by, keeps_installing}
 
 -- What a device call leaves of a log that is in step: one that is in step, and nothing else of its
@@ -29,6 +29,7 @@ pub unchanged : (w : WalState) → IsWal w → Crashes w w
 unchanged w is = record {
   keeps = record { size = refl; honest = refl; failures = omega arith };
   moments = λ honest. leaves_none w.ring.disk.past w.ring.disk.past (MayStandFor w) refl (is.images honest);
+  label = record { same = refl; moments = λ honest. leaves_none w.ring.disk.past w.ring.disk.past (HasLabel w.ring.label) refl (is.label honest) };
   images = is.images;
 }
 
@@ -45,12 +46,14 @@ stepped w ring logging installing coming is steps coming_is tied log logging_is 
     tied = tied;
     log = λ honest. log (subst IsTrue steps.keeps.honest honest);
     images = images;
+    label = labels_of w.ring ring steps;
     logging = logging_is;
     installing = installing_is;
   };
   crash = record {
     keeps = steps.keeps;
     moments = λ honest. moments_of w is.tied (is.log honest) ring.disk.past coming coming_is (steps.moments honest);
+    label = steps.label;
     images = images;
   };
 }
@@ -304,12 +307,14 @@ module _ (ring now : Ring) (log : LogState) (installing : Installing) where
         tied = tied;
         log = λ honest. same (subst IsTrue steps.keeps.honest honest);
         images = images;
+        label = labels_of ring now steps;
         logging = ap (λ (r : Ring). r.extent.coming) is_now ∙ sym end;
         installing = installing_stays ring now log later keeps installing is.installing;
       };
       crash = record {
         keeps = steps.keeps;
         moments = λ honest. moments_of (at ring log_sync) is.tied (is.log honest) now.disk.past ring.extent.coming is.tied.coming (steps.moments honest);
+        label = steps.label;
         images = images;
       };
     },

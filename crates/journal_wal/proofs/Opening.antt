@@ -6,10 +6,11 @@ use Rattle.std.proofs.lemmas.List.{take_all}
 use Rattle.std.proofs.lemmas.List.Elements.{All-push}
 use Rattle.std.proofs.lemmas.Option.{get_or_from_slice_get, slice_get_within}
 use Rattle.journal_block.specs.declared.update.Update.{Update}
+use Rattle.journal_block.specs.Block.{Bytes}
 use Rattle.journal_block.specs.Updates.{updated}
 use Rattle.journal_disk.specs.Disks.{Past, read_of}
 use Rattle.journal_disk.specs.Images.{IsImage, EveryImage}
-use Rattle.journal_circ.specs.Log.{updates_from}
+use Rattle.journal_circ.specs.Log.{updates_from, HasLabel}
 use Rattle.journal_circ.specs.StandsFor.{StandsFor}
 use Rattle.journal_circ.specs.Ring.{Ring, log_of, home_of, blocks_to, at_rest}
 use Rattle.journal_circ.specs.Laws.{log_length, stands_same}
@@ -52,9 +53,10 @@ log_same old new recovers honest =
     ∙ (λ i. updates_from old.header (read_of (recovers.past honest i)) old.extent.start (old.next - old.extent.start))
 
 -- A log that was recovered
-module _ (first ring : Ring) (log : LogState) (rest : first ≡ at_rest first.disk first.header first.tags first.extent.start first.extent.end)
+module _ (first ring : Ring) (log : LogState) (rest : first ≡ at_rest first.disk first.header first.tags first.label first.extent.start first.extent.end)
     (recovers : OnlyReadsRing first ring) (is : IsRecovered first first.extent.end log) (fine : ring.faulted ≡ false)
     (ordered : first.extent.start ≤ first.extent.end) (fits : first.extent.end ≤ first.extent.start + 511) (small : first.extent.end < 2 ^ 62)
+    (labels : IsTrue first.disk.honest → EveryImage first.disk.past (HasLabel first.label))
     (stands : IsTrue first.disk.honest → EveryImage first.disk.past (StandsFor first.disk.past.size (blocks_to first first.extent.end))) where
   abbrev pub opened : WalState
   opened = record { ring = ring; log = log; logging = log_blocks; installing = install_none }
@@ -108,6 +110,12 @@ module _ (first ring : Ring) (log : LogState) (rest : first ≡ at_rest first.di
       (λ i. updated (sym (is.updates was) i) b (read_of (sym (recovers.past was) i) b)))
       (stands was image (subst (λ (p : Past). IsImage p image) (recovers.past was) one))
 
+  labels_now : IsTrue ring.disk.honest → EveryImage ring.disk.past (HasLabel ring.label)
+  labels_now honest =
+      let was : IsTrue first.disk.honest = subst IsTrue recovers.keeps.honest honest in
+      subst (λ (l : Bytes). EveryImage ring.disk.past (HasLabel l)) (sym (ap (λ (r : Ring). r.label) recovers.same))
+      (subst (λ (p : Past). EveryImage p (HasLabel first.label)) (sym (recovers.past was)) (labels was))
+
   images : IsTrue ring.disk.honest → EveryImage ring.disk.past (MayStandFor opened)
   images honest image one = inl (stands_same (size_of opened) (size_of opened) (blocks_now opened) (blocks_logged opened) image refl
       (λ b home lt. ap (λ (us : List Update). updated us b (home_of ring b))
@@ -120,6 +128,7 @@ module _ (first ring : Ring) (log : LogState) (rest : first ≡ at_rest first.di
       tied = tied;
       log = same;
       images = images;
+      label = labels_now;
       logging = coming ∙ sym end;
       installing = ap (λ (r : Ring). r.extent.freed) recovers.same ∙ ap (λ (r : Ring). r.extent.freed) rest ∙ sym start;
     },

@@ -13,6 +13,7 @@ crashes_from : (old new : WalState) (installing : Installing) → Crashes (recor
 crashes_from old new installing crash = record {
   keeps = crash.keeps;
   moments = crash.moments;
+  label = crash.label;
   images = crash.images;
 }
 
@@ -25,8 +26,8 @@ installs_from : (old mid new : WalState) → mid ≡ record old { installing = m
 installs_from old mid new same ahead some installs moves = record {
   ahead = mid.installing;
   is_ahead = ahead;
-  call = subst (λ (w : WalState). MakesDueCall (install_call w.log mid.installing) w.ring.disk new.ring.disk) same
-      (subst (λ (i : Installing). MakesDueCall (install_call mid.log i) mid.ring.disk new.ring.disk) goes_on installs.call);
+  call = subst (λ (w : WalState). MakesDueCall (install_call w.ring.label w.log mid.installing) w.ring.disk new.ring.disk) same
+      (subst (λ (i : Installing). MakesDueCall (install_call mid.ring.label mid.log i) mid.ring.disk new.ring.disk) goes_on installs.call);
   next = installs.next ∙ ap after_call goes_on;
   blocks = λ honest. keeps_planned old new mid.installing (subst (λ (w : WalState). IsTrue w.ring.disk.honest → KeepsBlocks w new) same installs.blocks honest);
   logging = installs.logging ∙ ap log_steps same;

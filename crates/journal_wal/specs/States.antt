@@ -4,6 +4,7 @@ use Rattle.std.specs.Prelude.{ℕ, ◌≡◌, ◌⊎◌, ◌<◌, ◌≤◌, ◌
 use Rattle.journal_block.specs.declared.update.Update.{Update}
 use Rattle.journal_block.specs.Updates.{with_updates}
 use Rattle.journal_disk.specs.Images.{EveryImage}
+use Rattle.journal_circ.specs.Log.{HasLabel}
 use Rattle.journal_circ.specs.Ring.{Ring, log_of, home_of}
 use Rattle.journal_memlog.specs.Logs.{LogState, next_position}
 use Rattle.journal_wal.specs.declared.disk_log.Logger.{Logger}
@@ -89,11 +90,12 @@ pub record AreTied (ring : Ring) (log : LogState) : Type 0 where
   pub coming : (ring.extent.coming ≡ log.logged) ⊎ ((ring.extent.coming ≡ log.cut) × (ring.next ≡ log.cut))
 
 -- What the type keeps: the two logs go together, the cycles are where their states say, and each
--- image is possible
+-- image is possible, with the label
 pub record IsWal (w : WalState) : Type 0 where
   pub tied : AreTied w.ring w.log
   -- what was put is what memory has
   pub log : IsTrue w.ring.disk.honest → log_of w.ring ≡ take (w.ring.next - w.log.start) w.log.updates
   pub images : IsTrue w.ring.disk.honest → EveryImage w.ring.disk.past (MayStandFor w)
+  pub label : IsTrue w.ring.disk.honest → EveryImage w.ring.disk.past (HasLabel w.ring.label)
   pub logging : IsLogging w.ring w.log w.logging
   pub installing : IsInstalling w.ring w.log w.installing

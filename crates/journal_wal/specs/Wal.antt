@@ -16,7 +16,7 @@ use Rattle.journal_disk.specs.Images.{EveryImage}
 use Rattle.journal_disk.specs.Moments.{LeavesOnly}
 use Rattle.journal_circ.specs.StandsFor.{StandsFor}
 use Rattle.journal_circ.specs.Log.{log_block, with_end, with_group, start_block, start_in, end_in}
-use Rattle.journal_circ.specs.Ring.{Ring, home_of, bytes_put, MakesCall, TriesCall}
+use Rattle.journal_circ.specs.Ring.{Ring, home_of, bytes_put, KeepsLabel, MakesCall, TriesCall}
 use Rattle.journal_memlog.specs.Logs.{LogState, next_position, tail_of, trimmed}
 use Rattle.journal_circ.specs.declared.layout.TheConstants.{LOG_POSITIONS}
 use Rattle.journal_wal.specs.declared.step.GroupStep.{GroupStep}
@@ -150,14 +150,14 @@ log_call w = log_call_by w.logging (w.log.cut - w.log.logged) (w.log.cut - w.rin
     (write (log_block w.ring.next) (bytes_put w.ring (bytes_at w.log w.ring.next))) (call_after_blocks w.ring w.log) (with_end w.ring.header w.log.cut)
 
 -- The installer's next device call, where it has begun: each home block of its plan, a barrier,
--- block 1 with the start, a barrier
-abbrev pub install_call : LogState → Installing → Option DiskEvent
-install_call log install_none = None
-install_call log (install_homes upto []) = Some barrier
-install_call log (install_homes upto (home ∷ plan)) = Some (write home.0 (bytes_at log home.1))
-install_call log (install_start upto) = Some (write 1 (start_block upto))
-install_call log (install_sync upto) = Some barrier
-install_call log install_spent = None
+-- block 1 with the start and the label, a barrier
+abbrev pub install_call : (label : Bytes) → LogState → Installing → Option DiskEvent
+install_call label log install_none = None
+install_call label log (install_homes upto []) = Some barrier
+install_call label log (install_homes upto (home ∷ plan)) = Some (write home.0 (bytes_at log home.1))
+install_call label log (install_start upto) = Some (write 1 (start_block label upto))
+install_call label log (install_sync upto) = Some barrier
+install_call label log install_spent = None
 
 -- what it does next once that is done
 abbrev pub after_call : Installing → Installing
@@ -183,10 +183,11 @@ abbrev pub with_room : WalState → ℕ → WalState
 with_room w room = record w { log = record w.log { room = room } }
 
 -- What each call says of the disk: at every moment of it each image is one that a crash might have
--- left before, and at its end one that a crash may leave now
+-- left before, with the label, and at its end one that a crash may leave now
 pub record Crashes (old new : WalState) : Type 0 where
   pub keeps : Keeps old.ring.disk new.ring.disk
   pub moments : IsTrue old.ring.disk.honest → LeavesOnly old.ring.disk.past new.ring.disk.past (MayStandFor old)
+  pub label : KeepsLabel old.ring new.ring
   pub images : IsTrue new.ring.disk.honest → EveryImage new.ring.disk.past (MayStandFor new)
 
 -- The disk was read, with or without a fault: all else is as before, and it is faulted only where
@@ -306,7 +307,7 @@ pub record IsInstallIdle (w : WalState) : Type 0 where
 pub record Installs (old new : WalState) : Type 0 where
   pub ahead : Installing
   pub is_ahead : IsAhead old ahead
-  pub call : MakesDueCall (install_call old.log ahead) old.ring.disk new.ring.disk
+  pub call : MakesDueCall (install_call old.ring.label old.log ahead) old.ring.disk new.ring.disk
   pub next : new.installing ≡ after_call ahead
   pub blocks : IsTrue old.ring.disk.honest → KeepsBlocks old new
   pub logging : log_steps new ≡ log_steps old
@@ -315,7 +316,7 @@ pub record Installs (old new : WalState) : Type 0 where
 -- A step of the installer that was refused made no device call, or tried the one that it had ahead
 abbrev pub TriesAhead : WalState → WalState → Type 0
 TriesAhead old new =
-    (new ≡ old) ⊎ ((ahead : Installing) × (IsAhead old ahead × TriesDueCall (install_call old.log ahead) old.ring.disk new.ring.disk))
+    (new ≡ old) ⊎ ((ahead : Installing) × (IsAhead old ahead × TriesDueCall (install_call old.ring.label old.log ahead) old.ring.disk new.ring.disk))
 
 -- The blocks to be installed are planned, where nothing is being installed
 pub record Plans (old new : WalState) : Type 0 where

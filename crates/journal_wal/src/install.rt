@@ -85,7 +85,7 @@ impl<D: BlockDisk> Wal<D> {
         ensures ok { IfOk result (λ step. InstallAnswers self.old step self.new) }
         ensures err { OnErr result (Fails self.old self.new) }
         ensures tries { OnErr result
-            (TriesDueCall (install_call self.old.log self.old.installing) self.old.ring.disk self.new.ring.disk) }
+            (TriesDueCall (install_call self.old.ring.label self.old.log self.old.installing) self.old.ring.disk self.new.ring.disk) }
         ensures crash { Crashes self.old self.new }
     {
         let circ = &mut self.on_disk.circ;

@@ -3,7 +3,7 @@ ghost use Rattle.std.specs.Prelude.{ℕ, ◌≡◌, ◌≤◌, ◌<◌, ◌+◌,
 ghost use Rattle.journal_world.specs.declared.layout.TheConstants.{MIN_BLOCKS};
 ghost use Rattle.journal_disk.specs.Disks.{Keeps, IsSettled, read_of};
 ghost use Rattle.journal_disk.specs.Images.{EveryImage, reading};
-ghost use Rattle.journal_circ.specs.Log.{is_sealed, IsWellFormed};
+ghost use Rattle.journal_circ.specs.Log.{is_sealed, label_of, HasLabel, IsWellFormed};
 ghost use Rattle.journal_circ.specs.StandsFor.{StandsFor};
 ghost use Rattle.journal_circ.specs.Ring.{IsOpenRefusal, log_of};
 ghost use Rattle.journal_tail.specs.Homes.{AreHomes};
@@ -43,6 +43,8 @@ impl<D: BlockDisk> Wal<D> {
         // The bounds and the form are those that the disk tells.
         ensures bounds { IsTrue (D.state disk).honest → IfOk result (HasBoundsIn (reading (D.state disk).past)) }
         ensures form { IsTrue (D.state disk).honest → IfOk result (λ wal. wal.ring.sealed ≡ is_sealed (read_of (D.state disk).past 0)) }
+        ensures label { IsTrue (D.state disk).honest → IfOk result (λ wal. wal.ring.label ≡ label_of (read_of (D.state disk).past 1)) }
+        ensures labels { IsTrue (D.state disk).honest → IfOk result (λ wal. EveryImage wal.ring.disk.past (HasLabel wal.ring.label)) }
         ensures images { IsTrue (D.state disk).honest → IfOk result (λ wal.
             EveryImage wal.ring.disk.past (StandsFor (size_of wal) (blocks_now wal))) }
     {

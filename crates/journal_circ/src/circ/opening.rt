@@ -4,7 +4,7 @@ ghost use Rattle.journal_world.specs.declared.layout.TheConstants.{MIN_BLOCKS, B
 ghost use Rattle.journal_block.specs.Block.{u64_at};
 ghost use Rattle.journal_disk.specs.Disks.{Keeps, IsSettled, read_of};
 ghost use Rattle.journal_disk.specs.Images.{EveryImage, reading};
-ghost use Rattle.journal_circ.specs.Log.{log_block, is_sealed, tag_at, tag_of, home_by, end_by, start_in, end_in, DescribesLog, IsWellFormed};
+ghost use Rattle.journal_circ.specs.Log.{log_block, is_sealed, tag_at, tag_of, home_by, end_by, start_in, end_in, label_of, HasLabel, DescribesLog, IsWellFormed};
 ghost use Rattle.journal_circ.specs.StandsFor.{StandsFor};
 ghost use Rattle.journal_circ.specs.Ring.{blocks_to, IsFault, IsOpenRefusal, at_rest};
 ghost use Rattle.journal_circ.specs.declared.layout.TheConstants.{FIRST_HOME, LOG_POSITIONS};
@@ -12,7 +12,6 @@ ghost use Rattle.journal_circ.specs.declared.layout.TheConstants.{FIRST_HOME, LO
 use crate::Circ;
 use crate::circ::installer::HomesPut;
 use crate::circ::logger::LogBlocksPut;
-use crate::circ::start_block::StartBlock;
 use crate::extent::Extent;
 use crate::fail_stop::FailStop;
 use crate::layout::{
@@ -42,7 +41,7 @@ struct Headers {
     scratch: Block,
     start: u64,
     end: u64,
-    start_block: StartBlock,
+    start_block: Block,
 }
 
 impl<D: BlockDisk> Circ<D> {
@@ -66,11 +65,13 @@ impl<D: BlockDisk> Circ<D> {
             (λ opened. opened.circ.disk.past ≡ (D.state disk).past)
             (λ refused. (D.state refused.disk).past ≡ (D.state disk).past) }
         ensures well_formed { IsTrue (D.state disk).honest → IfOk result (λ _. IsWellFormed (reading (D.state disk).past)) }
-        ensures ok { IfOk result (λ opened. opened.circ ≡ at_rest opened.circ.disk opened.circ.header opened.circ.tags opened.circ.extent.start opened.circ.extent.end) }
+        ensures ok { IfOk result (λ opened. opened.circ ≡ at_rest opened.circ.disk opened.circ.header opened.circ.tags opened.circ.label opened.circ.extent.start opened.circ.extent.end) }
         ensures header { IsTrue (D.state disk).honest → IfOk result (λ opened. opened.circ.header ≡ read_of (D.state disk).past 0) }
+        ensures label { IsTrue (D.state disk).honest → IfOk result (λ opened. opened.circ.label ≡ label_of (read_of (D.state disk).past 1)) }
         // The bounds are those that the disk tells.
         ensures start { IsTrue (D.state disk).honest → IfOk result (λ opened. opened.circ.extent.start ≡ start_in (reading (D.state disk).past)) }
         ensures end { IsTrue (D.state disk).honest → IfOk result (λ opened. opened.circ.extent.end ≡ end_in (reading (D.state disk).past)) }
+        ensures labels { IsTrue (D.state disk).honest → IfOk result (λ opened. EveryImage opened.circ.disk.past (HasLabel opened.circ.label)) }
         ensures images { IsTrue (D.state disk).honest → IfOk result (λ opened.
             EveryImage opened.circ.disk.past (StandsFor opened.circ.disk.past.size (blocks_to opened.circ opened.circ.extent.end))) }
     {
@@ -131,6 +132,8 @@ fn read_headers<D: BlockDisk>(
         IfOk result (λ headers. headers.header ≡ read_of (D.state device.old.disk).past 0) }
     ensures start { IsTrue (D.state device.old.disk).honest →
         IfOk result (λ headers. headers.start ≡ u64_at (read_of (D.state device.old.disk).past 1) 0) }
+    ensures label { IsTrue (D.state device.old.disk).honest →
+        IfOk result (λ headers. label_of headers.start_block ≡ label_of (read_of (D.state device.old.disk).past 1)) }
     ensures size { IfOk result (λ headers. length headers.tags ≡ BLOCK_BYTES) }
     ensures tags { IsTrue (D.state device.old.disk).honest → IfOk result (λ headers. is_sealed headers.header ≡ true
         → (q : ℕ) → tag_at headers.tags q ≡ tag_of (read_of (D.state device.old.disk).past (log_block q))) }
@@ -138,11 +141,11 @@ fn read_headers<D: BlockDisk>(
         IfOk result (λ headers. headers.end ≡ end_in (reading (D.state device.old.disk).past)) }
 {
     let mut header = Block::try_new(alloc)?;
-    let start_block = StartBlock::new(alloc)?;
+    let mut start_block = Block::try_new(alloc)?;
     let mut tags = Block::try_new(alloc)?;
     let mut scratch = Block::try_new(alloc)?;
-    device.read(START_BLOCK, &mut header)?;
-    let start = header.get_u64(BOUND_AT);
+    device.read(START_BLOCK, &mut start_block)?;
+    let start = start_block.get_u64(BOUND_AT);
     device.read(HEADER, &mut header)?;
     let end = read_end(device, &header, &mut scratch, &mut tags)?;
     if !is_log(&header, start, end, device.disk.size()) {

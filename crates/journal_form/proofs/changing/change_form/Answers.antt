@@ -1,12 +1,11 @@
-use Rattle.std.proofs.Common.{◌∙◌, refl, subst, Result, Ok, Err}
+use Rattle.std.proofs.Common.{◌<◌, ◌∙◌, refl, subst, arith, Result, Ok, Err}
 use Rattle.std.specs.Prelude.{MatchResult}
 use Rattle.journal_disk.specs.Disks.{Past}
 use Rattle.journal_disk.specs.Laws.{leaves_none}
 use Rattle.journal_circ.specs.StandsFor.{StandsFor}
-use Rattle.journal_circ.specs.Ring.{blocks_to}
-use Rattle.journal_form.specs.Forms.{HoldsThroughout}
+use Rattle.journal_form.specs.Forms.{HoldsThroughout, HoldsLabelThroughout}
 use Rattle.journal_form.specs.Emptying.{StaysThroughout}
-use Rattle.journal_form.proofs.Steps.{holds_by}
+use Rattle.journal_form.proofs.Steps.{holds_by, keeps_by, keeps_settled}
 use Rattle.journal_form.proofs.changing.change_form.Goals as goal
 
 pub returns-in_default-clause-crash : goal.returns-in_default-clause-crash
@@ -29,8 +28,29 @@ returns-in-Ok-open-clause-crash g c honest =
     let circ = c.in-Ok-open.opened.circ in
     let holds : (new : Past) → StaysThroughout circ new → HoldsThroughout p new = λ new stays.
     subst (λ (q : Past). HoldsThroughout q new) (c.in-Ok-open.ensures.same honest)
-    (holds_by circ.disk.past new (blocks_to circ circ.extent.end) (c.in-Ok-open.ensures.images honest) stays) in
+    (holds_by circ (c.in-Ok-open.ensures.images honest) new stays) in
     match_more c.change_opened.result _ _ _ _
     (λ changed. holds (g.D.BlockDisk.state changed.disk).past)
     (λ refused. holds (g.D.BlockDisk.state refused.disk).past)
+    (c.change_opened.ensures.crash (c.in-Ok-open.ensures.keeps.honest ∙ honest))
+
+pub returns-in_default-clause-label : goal.returns-in_default-clause-label
+returns-in_default-clause-label g c honest =
+    let p = (g.D.BlockDisk.state c.args.disk).past in
+    keeps_settled p p (c.requires.settled honest) (omega (arith, c.requires.in_range)) refl
+
+pub returns-clause-label : goal.returns-clause-label
+returns-clause-label g c honest =
+    let p = (g.D.BlockDisk.state c.args.disk).past in
+    keeps_settled p (g.D.BlockDisk.state c.in-Err.refused.disk).past (c.requires.settled honest) (omega (arith, c.requires.in_range)) (c.in-Err.ensures.same honest)
+
+pub returns-in-Ok-open-clause-label : goal.returns-in-Ok-open-clause-label
+returns-in-Ok-open-clause-label g c honest =
+    let p = (g.D.BlockDisk.state c.args.disk).past in
+    let circ = c.in-Ok-open.opened.circ in
+    let keeps : (new : Past) → StaysThroughout circ new → HoldsLabelThroughout p new = λ new.
+    keeps_by p new circ (c.in-Ok-open.ensures.same honest) (c.in-Ok-open.ensures.label honest) in
+    match_more c.change_opened.result _ _ _ _
+    (λ changed. keeps (g.D.BlockDisk.state changed.disk).past)
+    (λ refused. keeps (g.D.BlockDisk.state refused.disk).past)
     (c.change_opened.ensures.crash (c.in-Ok-open.ensures.keeps.honest ∙ honest))

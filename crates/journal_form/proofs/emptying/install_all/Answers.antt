@@ -1,6 +1,7 @@
 use Rattle.std.proofs.Common.{◌<◌, ◌≤◌, ◌∙◌, ℕ, sym, ap, subst, arith, IsTrue}
+use Rattle.journal_disk.specs.Images.{EveryImage}
 use Rattle.journal_circ.specs.Ring.{Ring}
-use Rattle.journal_form.specs.Emptying.{BringsHome}
+use Rattle.journal_form.specs.Emptying.{BringsHome, IsLogAndLabel}
 use Rattle.journal_form.proofs.Steps.{none_home, one_home, same_blocks, stands_now, stays_on}
 use Rattle.journal_form.proofs.emptying.install_all.Goals as goal
 
@@ -27,14 +28,16 @@ install_update-requires-clause-rests g c =
     let rests = c.requires.rests in
     let ge : old.extent.start ≤ q = omega (arith, c.loop-position.auto.position, c.start-position.ensures.start) in
     let le : q ≤ old.extent.end = omega (arith, c.loop-position-test.true, c.end-position-end.ensures.end) in
+    let now : IsTrue r.disk.honest → EveryImage r.disk.past (IsLogAndLabel r) = λ honest.
+    let was : IsTrue old.disk.honest = sym brought.keeps.honest ∙ honest in
+    stands_now old r (same_blocks old r q brought ge le was) (brought.crash was) in
     record {
       freed = c.loop-position.invariant.idle;
       coming = brought.coming ∙ rests.coming ∙ sym brought.end;
       next = brought.next ∙ rests.next ∙ sym brought.end;
       fine = brought.fine;
-      stands = λ honest.
-          let was : IsTrue old.disk.honest = sym brought.keeps.honest ∙ honest in
-          stands_now old r (same_blocks old r q brought ge le was) (brought.crash was);
+      stands = λ honest image is. (now honest image is).0;
+      labels = λ honest image is. (now honest image is).1;
     }
 
 pub returns-in_err-state-clause-crash : goal.returns-in_err-state-clause-crash

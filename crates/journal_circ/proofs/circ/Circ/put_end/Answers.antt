@@ -1,5 +1,5 @@
 use Rattle.std.proofs.Common.{false, ◌∙◌, ◌≡◌, inl, refl, sym, subst, arith}
-use Rattle.journal_circ.specs.Log.{address_at, is_sealed}
+use Rattle.journal_circ.specs.Log.{label_of, address_at, is_sealed}
 use Rattle.journal_circ.proofs.Forms.{is_plain}
 use Rattle.journal_circ.specs.Ring.{Ring, Crashes}
 use Rattle.journal_circ.specs.Soundness.{IsCirc}
@@ -16,11 +16,11 @@ returns-in_err-check-clause-crash g c =
 
 -- block 0 was or was not written
 clause_crash : (g : Over) (c : After-write g) → let s = c.self.inside in
-    let now = ring (g.D.BlockDisk.state c.write.new.self.disk) c.put_u64.new.self s.tags s.sealed (record s.extent { coming = s.next }) s.next c.write.new.self.faulted in
+    let now = ring (g.D.BlockDisk.state c.write.new.self.disk) c.put_u64.new.self s.tags (label_of s.start_block) s.sealed (record s.extent { coming = s.next }) s.next c.write.new.self.faulted in
     IsCirc now × Crashes c.args.self.now.next c.args.self.now now
 clause_crash g c =
     let s = c.self.inside in
-    let old : Ring = ring (g.D.BlockDisk.state s.device.disk) s.header s.tags s.sealed s.extent s.next s.device.faulted in
+    let old : Ring = ring (g.D.BlockDisk.state s.device.disk) s.header s.tags (label_of s.start_block) s.sealed s.extent s.next s.device.faulted in
     let d = g.D.BlockDisk.state c.write.new.self.disk in
     let fine = fine_of c.write.result c.write.ensures.ok c.write.ensures.err in
     let done = done_of c.write.result c.write.ensures.written c.write.ensures.err in
@@ -31,7 +31,7 @@ clause_crash g c =
     let is = end_is_put old d c.write.new.self.faulted c.self.invariant c.write.ensures.keeps fine 0 c.put_u64.new.self (omega (arith, c.self.invariant.bounds)) c.write.ensures.written_or_not done
     refl plain_was plain one synced c.put_u64.ensures.number (λ q. c.put_u64.ensures.after (address_at q) (omega arith)) in (
       is,
-      subst (λ (r : Ring). Crashes r.next r (ring d c.put_u64.new.self s.tags s.sealed (record s.extent { coming = s.next }) s.next c.write.new.self.faulted)) c.self.view_is
+      subst (λ (r : Ring). Crashes r.next r (ring d c.put_u64.new.self s.tags (label_of s.start_block) s.sealed (record s.extent { coming = s.next }) s.next c.write.new.self.faulted)) c.self.view_is
           (put_low old d 0 c.put_u64.new.self c.self.invariant c.write.ensures.keeps (omega (arith, c.self.invariant.bounds)) c.write.ensures.written_or_not
           c.put_u64.new.self s.tags (λ q ge lt same. omega arith) (λ q ge lt. alike_by s.header c.put_u64.new.self q (plain ∙ sym plain_was) (c.put_u64.ensures.after (address_at q) (omega arith))) (record s.extent { coming = s.next }) c.write.new.self.faulted refl refl is
           (omega arith) s.next (omega (arith, c.self.invariant.bounds)) (omega arith) (inl one) refl),

@@ -1,6 +1,6 @@
 use Rattle.std.proofs.Common.{◌≡◌, ◌≢◌, ◌∙◌, ◌<◌, ◌≤◌, ◌-◌, ◌+◌, ◌%◌, ◌^◌, ℕ, true, false, ap, inl, refl, sym, subst, arith, IsTrue}
 use Rattle.journal_block.specs.Block.{u64_at}
-use Rattle.journal_circ.specs.Log.{log_block, address, is_sealed, begin_of, home_in, tag_in, first_in, word_of, with_tag, home_by}
+use Rattle.journal_circ.specs.Log.{label_of, log_block, address, is_sealed, begin_of, home_in, tag_in, first_in, word_of, with_tag, home_by}
 use Rattle.journal_circ.specs.Ring.{Ring, Crashes, KeepsLog}
 use Rattle.journal_circ.specs.Soundness.{IsCirc}
 use Rattle.journal_circ.proofs.Grouped.{is_sealed_by, sealed_home, sealed_bytes, homes, tags, firsts, counts}
@@ -17,11 +17,11 @@ returns-in_err-check-clause-crash g c =
 
 -- block 0 was or was not written
 wrote : (g : Over) (c : After-write g) → let s = c.self.inside in
-    let now = ring (g.D.BlockDisk.state c.write.new.self.disk) c.put_group.new.header s.tags s.sealed (record s.extent { coming = s.next }) s.next c.write.new.self.faulted in
+    let now = ring (g.D.BlockDisk.state c.write.new.self.disk) c.put_group.new.header s.tags (label_of s.start_block) s.sealed (record s.extent { coming = s.next }) s.next c.write.new.self.faulted in
     IsCirc now × Crashes c.args.self.now.next c.args.self.now now × (IsTrue c.args.self.now.disk.honest → KeepsLog c.args.self.now now)
 wrote g c =
     let s = c.self.inside in
-    let old : Ring = ring (g.D.BlockDisk.state s.device.disk) s.header s.tags s.sealed s.extent s.next s.device.faulted in
+    let old : Ring = ring (g.D.BlockDisk.state s.device.disk) s.header s.tags (label_of s.start_block) s.sealed s.extent s.next s.device.faulted in
     let d = g.D.BlockDisk.state c.write.new.self.disk in
     let v = c.put_group.new.header in
     let n = s.next - s.extent.end in
@@ -50,11 +50,11 @@ wrote g c =
     let is = group_is_put old d c.write.new.self.faulted c.self.invariant c.write.ensures.keeps fine 0 v on_disk c.write.ensures.written_or_not done
     refl well was_sealed one sealed begins (counts s.header v s.extent.end n word few others) (tags s.header v s.extent.end n word few others) words same_homes in (
       is,
-      subst (λ (r : Ring). Crashes r.next r (ring d v s.tags s.sealed (record s.extent { coming = s.next }) s.next c.write.new.self.faulted)) c.self.view_is
+      subst (λ (r : Ring). Crashes r.next r (ring d v s.tags (label_of s.start_block) s.sealed (record s.extent { coming = s.next }) s.next c.write.new.self.faulted)) c.self.view_is
           (put_low old d 0 v c.self.invariant c.write.ensures.keeps on_disk c.write.ensures.written_or_not
           v s.tags (λ q ge lt same. omega arith) alike (record s.extent { coming = s.next }) c.write.new.self.faulted refl refl is
           (omega arith) s.next (omega (arith, c.self.invariant.bounds)) (omega arith) (inl one) refl),
-      subst (λ (r : Ring). IsTrue r.disk.honest → KeepsLog r (ring d v s.tags s.sealed (record s.extent { coming = s.next }) s.next c.write.new.self.faulted)) c.self.view_is
+      subst (λ (r : Ring). IsTrue r.disk.honest → KeepsLog r (ring d v s.tags (label_of s.start_block) s.sealed (record s.extent { coming = s.next }) s.next c.write.new.self.faulted)) c.self.view_is
           (λ honest. record {
             log = log_put old d 0 v c.self.invariant c.write.ensures.keeps on_disk c.write.ensures.written_or_not v s.tags (λ q ge lt same. omega arith) alike honest;
             home = homes_put old d 0 v c.self.invariant c.write.ensures.keeps on_disk c.write.ensures.written_or_not v s.tags (λ q ge lt same. omega arith) alike honest (omega arith);

@@ -1,4 +1,5 @@
 use Rattle.std.proofs.Common.{◌≡◌, ◌<◌, false, inr, refl, sym, subst, arith, IsTrue}
+use Rattle.journal_circ.specs.Log.{label_of}
 use Rattle.journal_circ.specs.Ring.{Ring, Crashes, IsLogged}
 use Rattle.journal_circ.specs.Soundness.{IsCirc}
 use Rattle.journal_circ.proofs.Puts.{fine_of, home_is_put}
@@ -13,11 +14,11 @@ returns-in_err-check-clause-crash g c =
 
 -- the block was or was not written
 clause_crash : (g : Over) (c : After-write g) → let s = c.self.inside in
-    let now = ring (g.D.BlockDisk.state c.write.new.self.disk) s.header s.tags s.sealed (record s.extent { homes = false }) s.next c.write.new.self.faulted in
+    let now = ring (g.D.BlockDisk.state c.write.new.self.disk) s.header s.tags (label_of s.start_block) s.sealed (record s.extent { homes = false }) s.next c.write.new.self.faulted in
     IsCirc now × Crashes c.args.self.now.extent.coming c.args.self.now now
 clause_crash g c =
     let s = c.self.inside in
-    let old : Ring = ring (g.D.BlockDisk.state s.device.disk) s.header s.tags s.sealed s.extent s.next s.device.faulted in
+    let old : Ring = ring (g.D.BlockDisk.state s.device.disk) s.header s.tags (label_of s.start_block) s.sealed s.extent s.next s.device.faulted in
     let d = g.D.BlockDisk.state c.write.new.self.disk in
     let fine = fine_of c.write.result c.write.ensures.ok c.write.ensures.err in
     let idle : s.extent.freed ≡ s.extent.start = subst (λ (r : Ring). r.extent.freed ≡ r.extent.start) (sym c.self.view_is) c.requires.idle in

@@ -4,7 +4,7 @@ use Rattle.journal_block.specs.Block.{u64_at}
 use Rattle.journal_disk.specs.Disks.{read_of}
 use Rattle.journal_disk.specs.Laws.{read_written}
 use Rattle.std.specs.Prelude.{nat_le}
-use Rattle.journal_circ.specs.Log.{log_block, address_at, address, is_sealed, home_by, bytes_by}
+use Rattle.journal_circ.specs.Log.{label_of, log_block, address_at, address, is_sealed, home_by, bytes_by}
 use Rattle.journal_circ.proofs.Forms.{plain_home, plain_bytes}
 use Rattle.journal_circ.specs.Ring.{Ring, Crashes, log_of}
 use Rattle.journal_circ.specs.Soundness.{IsCirc}
@@ -16,11 +16,11 @@ use Rattle.journal_circ.proofs.circ.Circ.put_plain.Goals as goal
 
 -- the log block was perhaps written, and no position has it
 failed : (g : Over) (c : In_err-write g) → let s = c.self.inside in
-    let now = ring (g.D.BlockDisk.state c.write.new.self.disk) s.header s.tags s.sealed s.extent s.next c.write.new.self.faulted in
+    let now = ring (g.D.BlockDisk.state c.write.new.self.disk) s.header s.tags (label_of s.start_block) s.sealed s.extent s.next c.write.new.self.faulted in
     IsCirc now × Crashes c.args.self.now.extent.coming c.args.self.now now × (IsTrue c.args.self.now.disk.honest → log_of now ≡ log_of c.args.self.now)
 failed g c =
     let s = c.self.inside in
-    let old : Ring = ring (g.D.BlockDisk.state s.device.disk) s.header s.tags s.sealed s.extent s.next s.device.faulted in
+    let old : Ring = ring (g.D.BlockDisk.state s.device.disk) s.header s.tags (label_of s.start_block) s.sealed s.extent s.next s.device.faulted in
     let d = g.D.BlockDisk.state c.write.new.self.disk in
     let plain_was : is_sealed s.header ≡ false = sym c.self.invariant.form ∙ subst (λ (r : Ring). r.sealed ≡ false) (sym c.self.view_is) c.requires.plain in
     let here : c.log_block.result ≡ log_block s.next = c.log_block.ensures in
@@ -35,7 +35,7 @@ failed g c =
       stepped_at c.self.view_is (put old d c.log_block.result c.args.from.now c.self.invariant c.write.ensures.keeps on_disk c.write.ensures.written_or_not
           s.header s.tags (λ q ge lt same. omega arith) (λ q ge lt. (refl, λ f. refl)) s.extent c.write.new.self.faulted refl refl is
           (omega arith) s.extent.coming (omega (arith, c.self.invariant.bounds)) (omega (arith, c.self.invariant.bounds)) (inr refl) refl),
-      subst (λ (r : Ring). IsTrue r.disk.honest → log_of (ring d s.header s.tags s.sealed s.extent s.next c.write.new.self.faulted) ≡ log_of r) c.self.view_is
+      subst (λ (r : Ring). IsTrue r.disk.honest → log_of (ring d s.header s.tags (label_of s.start_block) s.sealed s.extent s.next c.write.new.self.faulted) ≡ log_of r) c.self.view_is
           (log_put old d c.log_block.result c.args.from.now c.self.invariant c.write.ensures.keeps on_disk c.write.ensures.written_or_not
           s.header s.tags (λ q ge lt same. omega arith) (λ q ge lt. (refl, λ f. refl))),
     )
@@ -53,12 +53,12 @@ returns-in_err-write-clause-log g c =
 
 -- the log block was written, and the next position has it
 clauses_crash_and_log : (g : Over) (c : After-put_u64 g) → let s = c.self.inside in
-    let now = ring (g.D.BlockDisk.state c.write.new.self.disk) c.put_u64.new.self s.tags s.sealed s.extent (s.next + 1) c.write.new.self.faulted in
+    let now = ring (g.D.BlockDisk.state c.write.new.self.disk) c.put_u64.new.self s.tags (label_of s.start_block) s.sealed s.extent (s.next + 1) c.write.new.self.faulted in
     IsCirc now × Crashes c.args.self.now.extent.coming c.args.self.now now
     × (IsTrue c.args.self.now.disk.honest → log_of now ≡ log_of c.args.self.now ++ record { block = c.args.address; bytes = c.args.from.now } ∷ [])
 clauses_crash_and_log g c =
     let s = c.self.inside in
-    let old : Ring = ring (g.D.BlockDisk.state s.device.disk) s.header s.tags s.sealed s.extent s.next s.device.faulted in
+    let old : Ring = ring (g.D.BlockDisk.state s.device.disk) s.header s.tags (label_of s.start_block) s.sealed s.extent s.next s.device.faulted in
     let d = g.D.BlockDisk.state c.write.new.self.disk in
     let plain_was : is_sealed s.header ≡ false = sym c.self.invariant.form ∙ subst (λ (r : Ring). r.sealed ≡ false) (sym c.self.view_is) c.requires.plain in
     let here : c.log_block.result ≡ log_block s.next = c.log_block.ensures in
@@ -88,7 +88,7 @@ clauses_crash_and_log g c =
       is,
       stepped_at c.self.view_is (slot old d c.log_block.result c.args.from.now c.self.invariant c.write.ensures.keeps within c.write.ensures.written_or_not
           c.put_u64.new.self s.tags (λ q ge lt same. omega arith) (λ q ge lt. alike_by s.header c.put_u64.new.self q form (words q ge lt)) c.args.address c.args.from.now c.write.new.self.faulted home content is (omega arith)),
-      subst (λ (r : Ring). IsTrue r.disk.honest → log_of (ring d c.put_u64.new.self s.tags s.sealed s.extent (s.next + 1) c.write.new.self.faulted) ≡ log_of r ++ record { block = c.args.address; bytes = c.args.from.now } ∷ []) c.self.view_is
+      subst (λ (r : Ring). IsTrue r.disk.honest → log_of (ring d c.put_u64.new.self s.tags (label_of s.start_block) s.sealed s.extent (s.next + 1) c.write.new.self.faulted) ≡ log_of r ++ record { block = c.args.address; bytes = c.args.from.now } ∷ []) c.self.view_is
           (log_grown old d c.log_block.result c.args.from.now c.self.invariant c.write.ensures.keeps within c.write.ensures.written_or_not
           c.put_u64.new.self s.tags (λ q ge lt same. omega arith) (λ q ge lt. alike_by s.header c.put_u64.new.self q form (words q ge lt)) c.args.address c.args.from.now c.write.new.self.faulted home content is),
     )

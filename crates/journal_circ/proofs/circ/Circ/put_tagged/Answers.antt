@@ -5,7 +5,7 @@ use Rattle.std.specs.Prelude.{nat_le}
 use Rattle.journal_block.specs.Block.{Bytes, u64_at}
 use Rattle.journal_disk.specs.Disks.{Past, read_of}
 use Rattle.journal_disk.specs.Laws.{read_written}
-use Rattle.journal_circ.specs.Log.{log_block, address_at, address, is_sealed, home_by, bytes_by, tag_in, tag_of, tag_at, with_tag}
+use Rattle.journal_circ.specs.Log.{label_of, log_block, address_at, address, is_sealed, home_by, bytes_by, tag_in, tag_of, tag_at, with_tag}
 use Rattle.journal_circ.specs.Ring.{Ring, Crashes, log_of}
 use Rattle.journal_circ.specs.Soundness.{IsCirc}
 use Rattle.journal_circ.proofs.Groups.{byte_back, tag_put}
@@ -16,11 +16,11 @@ use Rattle.journal_circ.proofs.circ.Circ.put_tagged.Goals as goal
 
 -- the log block was perhaps written, and no position has it
 failed : (g : Over) (c : goal.After-from_residual g) → let s = c.self.inside in
-    let now = ring (g.D.BlockDisk.state c.write.new.self.disk) s.header s.tags s.sealed s.extent s.next c.write.new.self.faulted in
+    let now = ring (g.D.BlockDisk.state c.write.new.self.disk) s.header s.tags (label_of s.start_block) s.sealed s.extent s.next c.write.new.self.faulted in
     IsCirc now × Crashes c.args.self.now.extent.coming c.args.self.now now × (IsTrue c.args.self.now.disk.honest → log_of now ≡ log_of c.args.self.now)
 failed g c =
     let s = c.self.inside in
-    let old : Ring = ring (g.D.BlockDisk.state s.device.disk) s.header s.tags s.sealed s.extent s.next s.device.faulted in
+    let old : Ring = ring (g.D.BlockDisk.state s.device.disk) s.header s.tags (label_of s.start_block) s.sealed s.extent s.next s.device.faulted in
     let d = g.D.BlockDisk.state c.write.new.self.disk in
     let v = c.put_tagged.new.into in
     let here : c.log_block.result ≡ log_block s.next = c.log_block.ensures in
@@ -36,7 +36,7 @@ failed g c =
       stepped_at c.self.view_is (put old d c.log_block.result v c.self.invariant c.write.ensures.keeps on_disk c.write.ensures.written_or_not
           s.header s.tags (λ q ge lt same. omega arith) (λ q ge lt. (refl, λ f. refl)) s.extent c.write.new.self.faulted refl refl is
           (omega arith) s.extent.coming (omega (arith, c.self.invariant.bounds)) (omega (arith, c.self.invariant.bounds)) (inr refl) refl),
-      subst (λ (r : Ring). IsTrue r.disk.honest → log_of (ring d s.header s.tags s.sealed s.extent s.next c.write.new.self.faulted) ≡ log_of r) c.self.view_is
+      subst (λ (r : Ring). IsTrue r.disk.honest → log_of (ring d s.header s.tags (label_of s.start_block) s.sealed s.extent s.next c.write.new.self.faulted) ≡ log_of r) c.self.view_is
           (log_put old d c.log_block.result v c.self.invariant c.write.ensures.keeps on_disk c.write.ensures.written_or_not
           s.header s.tags (λ q ge lt same. omega arith) (λ q ge lt. (refl, λ f. refl))),
     )
@@ -54,12 +54,12 @@ returns-in_err-write-clause-log g c =
 
 -- the log block was written, and the next position has it
 done : (g : Over) (c : goal.After-self-1 g) → let s = c.self.inside in
-    let now = ring (g.D.BlockDisk.state c.write.new.self.disk) c.put_u64.new.self c.put_tag_at.new.tags s.sealed s.extent (s.next + 1) c.write.new.self.faulted in
+    let now = ring (g.D.BlockDisk.state c.write.new.self.disk) c.put_u64.new.self c.put_tag_at.new.tags (label_of s.start_block) s.sealed s.extent (s.next + 1) c.write.new.self.faulted in
     IsCirc now × Crashes c.args.self.now.extent.coming c.args.self.now now
     × (IsTrue c.args.self.now.disk.honest → log_of now ≡ log_of c.args.self.now ++ record { block = c.args.address; bytes = c.args.from.now } ∷ [])
 done g c =
     let s = c.self.inside in
-    let old : Ring = ring (g.D.BlockDisk.state s.device.disk) s.header s.tags s.sealed s.extent s.next s.device.faulted in
+    let old : Ring = ring (g.D.BlockDisk.state s.device.disk) s.header s.tags (label_of s.start_block) s.sealed s.extent s.next s.device.faulted in
     let d = g.D.BlockDisk.state c.write.new.self.disk in
     let v = c.put_tagged.new.into in
     let t = c.other_tag-tag.result in
@@ -105,7 +105,7 @@ done g c =
       stepped_at c.self.view_is (slot old d c.log_block.result v c.self.invariant c.write.ensures.keeps on_disk c.write.ensures.written_or_not
           h2 c.put_tag_at.new.tags (λ q ge lt same. omega arith) (λ q ge lt. alike_by s.header h2 q form (words q (apart q ge lt)))
           c.args.address c.args.from.now c.write.new.self.faulted home content is (omega arith)),
-      subst (λ (r : Ring). IsTrue r.disk.honest → log_of (ring d h2 c.put_tag_at.new.tags s.sealed s.extent (s.next + 1) c.write.new.self.faulted) ≡ log_of r ++ record { block = c.args.address; bytes = c.args.from.now } ∷ []) c.self.view_is
+      subst (λ (r : Ring). IsTrue r.disk.honest → log_of (ring d h2 c.put_tag_at.new.tags (label_of s.start_block) s.sealed s.extent (s.next + 1) c.write.new.self.faulted) ≡ log_of r ++ record { block = c.args.address; bytes = c.args.from.now } ∷ []) c.self.view_is
           (log_grown old d c.log_block.result v c.self.invariant c.write.ensures.keeps on_disk c.write.ensures.written_or_not
           h2 c.put_tag_at.new.tags (λ q ge lt same. omega arith) (λ q ge lt. alike_by s.header h2 q form (words q (apart q ge lt)))
           c.args.address c.args.from.now c.write.new.self.faulted home content is),

@@ -1,6 +1,7 @@
 use Rattle.std.proofs.Common.{ℕ, refl, ◌≡◌, ◌<◌, ◌≤◌, ◌-◌, Some, sym, ap, subst, ◌∙◌, IsTrue}
 use Rattle.std.specs.List.{slice_get}
 use Rattle.journal_disk.specs.Disks.{read_of}
+use Rattle.journal_circ.specs.Log.{label_of}
 use Rattle.journal_circ.specs.Ring.{Ring, log_of}
 use Rattle.journal_circ.proofs.Forms.{form_bytes}
 use Rattle.journal_circ.proofs.Logs.{update_at_position}
@@ -10,7 +11,7 @@ use Rattle.journal_circ.proofs.circ.Circ.read_logged.Goals as goal
 pub returns-clause-update : goal.returns-clause-update
 returns-clause-update g c =
     let s = c.self.inside in
-    let old : Ring = ring (g.D.BlockDisk.state s.device.disk) s.header s.tags s.sealed s.extent s.next s.device.faulted in
+    let old : Ring = ring (g.D.BlockDisk.state s.device.disk) s.header s.tags (label_of s.start_block) s.sealed s.extent s.next s.device.faulted in
     let from : s.extent.start ≤ c.args.position = subst (λ (r : Ring). r.extent.start ≤ c.args.position) (sym c.self.view_is) c.requires.from_start in
     let below : c.args.position < s.next = subst (λ (r : Ring). c.args.position < r.next) (sym c.self.view_is) c.requires.put in
     subst (λ (r : Ring). IsTrue r.disk.honest → slice_get (log_of r) (c.args.position - r.extent.start) ≡ Some (record { block = c.home_at.result; bytes = c.put_back.new.block })) c.self.view_is

@@ -1,6 +1,6 @@
 use Rattle.std.proofs.Common.{◌≡◌, ◌≤◌, ◌+◌, ◌^◌, true, sym, subst, arith, IsTrue}
 use Rattle.journal_block.specs.Block.{u64_at}
-use Rattle.journal_circ.specs.Log.{is_sealed, begin_of, count_in}
+use Rattle.journal_circ.specs.Log.{label_of, is_sealed, begin_of, count_in}
 use Rattle.journal_circ.specs.Ring.{Ring, ChangesForm}
 use Rattle.journal_circ.proofs.Grouped.{is_sealed_by, counts}
 use Rattle.journal_circ.proofs.Sealing.{none_there, changes}
@@ -13,7 +13,7 @@ use Rattle.journal_circ.proofs.circ.Circ.seal.Goals as goal
 tried : (g : Over) (c : After-put_stable g) → IsTrue c.args.self.disk.honest → ChangesForm c.args.self (g.D.BlockDisk.state c.put_stable.new.device.disk).past
 tried g c =
     let s = c.self.inside in
-    let old : Ring = ring (g.D.BlockDisk.state s.device.disk) s.header s.tags s.sealed s.extent s.next s.device.faulted in
+    let old : Ring = ring (g.D.BlockDisk.state s.device.disk) s.header s.tags (label_of s.start_block) s.sealed s.extent s.next s.device.faulted in
     let new = (g.D.BlockDisk.state c.put_stable.new.device.disk).past in
     let v = c.put_group.new.header in
     let bound : u64_at v 0 ≡ 2 ^ 63 + s.next = c.put_group.ensures.bound in

@@ -1,4 +1,5 @@
 use Rattle.std.proofs.Common.{◌≡◌, ◌-◌, drop, refl, subst, IsTrue}
+use Rattle.journal_circ.specs.Log.{label_of}
 use Rattle.journal_circ.specs.Ring.{Ring, log_of, SameBlocksTo}
 use Rattle.journal_circ.proofs.Barriers.{start_is_synced}
 use Rattle.journal_circ.proofs.Steps.{ring, stepped_at, not_synced, freed, log_freed, blocks_freed}
@@ -18,13 +19,13 @@ returns-clause-crash g c =
 pub returns-clause-log : goal.returns-clause-log
 returns-clause-log g c =
     let s = c.self.inside in
-    let now : Ring = ring (g.D.BlockDisk.state c.barrier.new.self.disk) s.header s.tags s.sealed (record s.extent { start = s.extent.freed }) s.next c.barrier.new.self.faulted in
+    let now : Ring = ring (g.D.BlockDisk.state c.barrier.new.self.disk) s.header s.tags (label_of s.start_block) s.sealed (record s.extent { start = s.extent.freed }) s.next c.barrier.new.self.faulted in
     subst (λ (r : Ring). IsTrue r.disk.honest → log_of now ≡ drop (r.extent.freed - r.extent.start) (log_of r)) c.self.view_is
     (log_freed _ _ _ _ c.self.invariant (invariant_of-self-2 g c) c.barrier.ensures.keeps c.in_ok-barrier.ensures.synced refl refl)
 
 pub returns-clause-blocks : goal.returns-clause-blocks
 returns-clause-blocks g c =
     let s = c.self.inside in
-    let now : Ring = ring (g.D.BlockDisk.state c.barrier.new.self.disk) s.header s.tags s.sealed (record s.extent { start = s.extent.freed }) s.next c.barrier.new.self.faulted in
+    let now : Ring = ring (g.D.BlockDisk.state c.barrier.new.self.disk) s.header s.tags (label_of s.start_block) s.sealed (record s.extent { start = s.extent.freed }) s.next c.barrier.new.self.faulted in
     subst (λ (r : Ring). IsTrue r.disk.honest → SameBlocksTo r now) c.self.view_is
     (blocks_freed _ _ _ _ c.self.invariant (invariant_of-self-2 g c) c.barrier.ensures.keeps c.in_ok-barrier.ensures.synced refl refl)

@@ -1,5 +1,5 @@
 use Rattle.std.proofs.Common.{◌≡◌, ◌∙◌, false, sym, subst, arith, IsTrue}
-use Rattle.journal_circ.specs.Log.{is_sealed}
+use Rattle.journal_circ.specs.Log.{label_of, is_sealed}
 use Rattle.journal_circ.specs.Ring.{Ring, ChangesForm}
 use Rattle.journal_circ.proofs.Forms.{is_plain, plain_end}
 use Rattle.journal_circ.proofs.Puts.{not_sealed}
@@ -13,7 +13,7 @@ use Rattle.journal_circ.proofs.circ.Circ.unseal.Goals as goal
 tried : (g : Over) (c : After-put_stable g) → IsTrue c.args.self.disk.honest → ChangesForm c.args.self (g.D.BlockDisk.state c.put_stable.new.device.disk).past
 tried g c =
     let s = c.self.inside in
-    let old : Ring = ring (g.D.BlockDisk.state s.device.disk) s.header s.tags s.sealed s.extent s.next s.device.faulted in
+    let old : Ring = ring (g.D.BlockDisk.state s.device.disk) s.header s.tags (label_of s.start_block) s.sealed s.extent s.next s.device.faulted in
     let new = (g.D.BlockDisk.state c.put_stable.new.device.disk).past in
     let v = c.put_u64.new.self in
     let plain : is_sealed v ≡ false = is_plain v (omega (arith, c.put_u64.ensures.number, c.self.invariant.bounds)) in

@@ -101,11 +101,11 @@ clauses_ok_and_crash g c = elim c.match-replace.branch [
   | in-Homes+in-Some+in_ok-put_home-in-Some w ↦
       let put = home_put c.self.inside.on_disk.circ w.put_home.new.self c.self.inside.memory (logging_of c.self.inside.on_disk.logger) w.in-Homes.plan.upto w.in-Homes.plan.homes.entries w.in-Some.block w.in-Some.position ((in_installing c.self.inside.on_disk.circ c.self.inside.memory (logging_of c.self.inside.on_disk.logger) (installing_of c.self.inside.on_disk.installer) (install_homes w.in-Homes.plan.upto w.in-Homes.plan.homes.entries) (ap installing_of (sym w.in-Homes.ensures.value)) c.self.invariant)).installing w.in-Some.ensures.found w.next.new.self.homes.entries w.at-update.result.now (install_homes w.in-Homes.plan.upto w.in-Homes.plan.homes.entries) (in_installing c.self.inside.on_disk.circ c.self.inside.memory (logging_of c.self.inside.on_disk.logger) (installing_of c.self.inside.on_disk.installer) (install_homes w.in-Homes.plan.upto w.in-Homes.plan.homes.entries) (ap installing_of (sym w.in-Homes.ensures.value)) c.self.invariant) w.in-Some.ensures.left w.at-update.ensures w.put_home.ensures.crash w.in_ok-put_home-in-Some.ensures.log w.in_ok-put_home-in-Some.ensures.home w.in_ok-put_home-in-Some.ensures.others w.in_ok-put_home-in-Some.ensures.ok in
       subst (λ s. Moved c.match-replace.step c.args.self.now (of_parts s.on_disk.circ s.memory (logging_of s.on_disk.logger) (installing_of c.match-replace.next))) (sym w.self-inside-is)
-      (by_step w.step-is (installed_from (Moved Put) c.args.self.now c.self.inside.on_disk.circ w.put_home.new.self c.self.inside.memory c.self.inside.memory (logging_of c.self.inside.on_disk.logger) (installing_of c.self.inside.on_disk.installer) (install_homes w.in-Homes.plan.upto w.in-Homes.plan.homes.entries) (installing_of c.match-replace.next) (install_homes w.in-Homes.plan.upto w.next.new.self.homes.entries) c.self.view_is (ap installing_of (sym w.in-Homes.ensures.value)) ((ap installing_of w.next-is) ∙ (λ i. install_homes (w.next.ensures.upto i) w.next.new.self.homes.entries)) (put.0, installs_on c.self.inside.on_disk.circ w.put_home.new.self c.self.inside.memory (logging_of c.self.inside.on_disk.logger) (install_homes w.in-Homes.plan.upto w.in-Homes.plan.homes.entries) (install_homes w.in-Homes.plan.upto w.next.new.self.homes.entries) (length w.next.new.self.homes.entries + 2) (ap (λ (r : Ring). r.next) w.in_ok-put_home-in-Some.ensures.ok) (ap (λ (r : Ring). r.sealed) w.in_ok-put_home-in-Some.ensures.ok) (omega (arith, ap (λ (es : List (ℕ × ℕ)). length es) w.in-Some.ensures.some)) (omega arith) (call_home c.self.inside.memory w.in-Homes.plan.upto w.in-Homes.plan.homes.entries w.next.new.self.homes.entries w.in-Some.block w.in-Some.position w.at-update.result.now c.self.inside.on_disk.circ.disk w.put_home.new.self.disk w.in-Some.ensures.some w.at-update.ensures w.in_ok-put_home-in-Some.ensures.step.makes) (sym (ap (λ (es : List (ℕ × ℕ)). after_call (install_homes w.in-Homes.plan.upto es)) w.in-Some.ensures.some)) put.1)))
+      (by_step w.step-is (installed_from (Moved Put) c.args.self.now c.self.inside.on_disk.circ w.put_home.new.self c.self.inside.memory c.self.inside.memory (logging_of c.self.inside.on_disk.logger) (installing_of c.self.inside.on_disk.installer) (install_homes w.in-Homes.plan.upto w.in-Homes.plan.homes.entries) (installing_of c.match-replace.next) (install_homes w.in-Homes.plan.upto w.next.new.self.homes.entries) c.self.view_is (ap installing_of (sym w.in-Homes.ensures.value)) ((ap installing_of w.next-is) ∙ (λ i. install_homes (w.next.ensures.upto i) w.next.new.self.homes.entries)) (put.0, installs_on c.self.inside.on_disk.circ w.put_home.new.self c.self.inside.memory (logging_of c.self.inside.on_disk.logger) (install_homes w.in-Homes.plan.upto w.in-Homes.plan.homes.entries) (install_homes w.in-Homes.plan.upto w.next.new.self.homes.entries) (length w.next.new.self.homes.entries + 2) (ap (λ (r : Ring). r.next) w.in_ok-put_home-in-Some.ensures.ok) (ap (λ (r : Ring). r.sealed) w.in_ok-put_home-in-Some.ensures.ok) (omega (arith, ap (λ (es : List (ℕ × ℕ)). length es) w.in-Some.ensures.some)) (omega arith) (call_home c.self.inside.on_disk.circ.label c.self.inside.memory w.in-Homes.plan.upto w.in-Homes.plan.homes.entries w.next.new.self.homes.entries w.in-Some.block w.in-Some.position w.at-update.result.now c.self.inside.on_disk.circ.disk w.put_home.new.self.disk w.in-Some.ensures.some w.at-update.ensures w.in_ok-put_home-in-Some.ensures.step.makes) (sym (ap (λ (es : List (ℕ × ℕ)). after_call (install_homes w.in-Homes.plan.upto es)) w.in-Some.ensures.some)) put.1)))
   | in-Homes+in-None+in_ok-sync_homes-in-None w ↦
       let put = homes_synced c.self.inside.on_disk.circ w.sync_homes.new.self c.self.inside.memory (logging_of c.self.inside.on_disk.logger) w.in-Homes.plan.upto (install_homes w.in-Homes.plan.upto w.in-Homes.plan.homes.entries) (in_installing c.self.inside.on_disk.circ c.self.inside.memory (logging_of c.self.inside.on_disk.logger) (installing_of c.self.inside.on_disk.installer) (install_homes w.in-Homes.plan.upto w.in-Homes.plan.homes.entries) (ap installing_of (sym w.in-Homes.ensures.value)) c.self.invariant) (subst (λ (es : List (ℕ × ℕ)). IsInstalling c.self.inside.on_disk.circ c.self.inside.memory (install_homes w.in-Homes.plan.upto es)) w.in-None.ensures.none.0 ((in_installing c.self.inside.on_disk.circ c.self.inside.memory (logging_of c.self.inside.on_disk.logger) (installing_of c.self.inside.on_disk.installer) (install_homes w.in-Homes.plan.upto w.in-Homes.plan.homes.entries) (ap installing_of (sym w.in-Homes.ensures.value)) c.self.invariant)).installing) w.sync_homes.ensures.crash w.in_ok-sync_homes-in-None.ensures.log w.in_ok-sync_homes-in-None.ensures.ok in
       subst (λ s. Moved c.match-replace.step c.args.self.now (of_parts s.on_disk.circ s.memory (logging_of s.on_disk.logger) (installing_of c.match-replace.next))) (sym w.self-inside-is)
-      (by_step w.step-is (installed_from (Moved Put) c.args.self.now c.self.inside.on_disk.circ w.sync_homes.new.self c.self.inside.memory c.self.inside.memory (logging_of c.self.inside.on_disk.logger) (installing_of c.self.inside.on_disk.installer) (install_homes w.in-Homes.plan.upto w.in-Homes.plan.homes.entries) (installing_of c.match-replace.next) (install_start w.in-Homes.plan.upto) c.self.view_is (ap installing_of (sym w.in-Homes.ensures.value)) ((ap installing_of w.next-is) ∙ (λ i. install_start (w.next.ensures.upto i))) (put.0, installs_on c.self.inside.on_disk.circ w.sync_homes.new.self c.self.inside.memory (logging_of c.self.inside.on_disk.logger) (install_homes w.in-Homes.plan.upto w.in-Homes.plan.homes.entries) (install_start w.in-Homes.plan.upto) 1 (ap (λ (r : Ring). r.next) w.in_ok-sync_homes-in-None.ensures.ok) (ap (λ (r : Ring). r.sealed) w.in_ok-sync_homes-in-None.ensures.ok) (omega (arith, ap (λ (es : List (ℕ × ℕ)). length es) w.in-None.ensures.none.0)) refl (subst (λ (es : List (ℕ × ℕ)). MakesDueCall (install_call c.self.inside.memory (install_homes w.in-Homes.plan.upto es)) c.self.inside.on_disk.circ.disk w.sync_homes.new.self.disk) (sym w.in-None.ensures.none.0) w.in_ok-sync_homes-in-None.ensures.step.makes) (sym (ap (λ (es : List (ℕ × ℕ)). after_call (install_homes w.in-Homes.plan.upto es)) w.in-None.ensures.none.0)) put.1)))
+      (by_step w.step-is (installed_from (Moved Put) c.args.self.now c.self.inside.on_disk.circ w.sync_homes.new.self c.self.inside.memory c.self.inside.memory (logging_of c.self.inside.on_disk.logger) (installing_of c.self.inside.on_disk.installer) (install_homes w.in-Homes.plan.upto w.in-Homes.plan.homes.entries) (installing_of c.match-replace.next) (install_start w.in-Homes.plan.upto) c.self.view_is (ap installing_of (sym w.in-Homes.ensures.value)) ((ap installing_of w.next-is) ∙ (λ i. install_start (w.next.ensures.upto i))) (put.0, installs_on c.self.inside.on_disk.circ w.sync_homes.new.self c.self.inside.memory (logging_of c.self.inside.on_disk.logger) (install_homes w.in-Homes.plan.upto w.in-Homes.plan.homes.entries) (install_start w.in-Homes.plan.upto) 1 (ap (λ (r : Ring). r.next) w.in_ok-sync_homes-in-None.ensures.ok) (ap (λ (r : Ring). r.sealed) w.in_ok-sync_homes-in-None.ensures.ok) (omega (arith, ap (λ (es : List (ℕ × ℕ)). length es) w.in-None.ensures.none.0)) refl (subst (λ (es : List (ℕ × ℕ)). MakesDueCall (install_call c.self.inside.on_disk.circ.label c.self.inside.memory (install_homes w.in-Homes.plan.upto es)) c.self.inside.on_disk.circ.disk w.sync_homes.new.self.disk) (sym w.in-None.ensures.none.0) w.in_ok-sync_homes-in-None.ensures.step.makes) (sym (ap (λ (es : List (ℕ × ℕ)). after_call (install_homes w.in-Homes.plan.upto es)) w.in-None.ensures.none.0)) put.1)))
   | in-Synced+in_ok-put_start-in-Synced w ↦
       let put = start_written c.self.inside.on_disk.circ w.put_start.new.self c.self.inside.memory (logging_of c.self.inside.on_disk.logger) w.in-Synced.upto (in_installing c.self.inside.on_disk.circ c.self.inside.memory (logging_of c.self.inside.on_disk.logger) (installing_of c.self.inside.on_disk.installer) (install_start w.in-Synced.upto) (ap installing_of (sym w.in-Synced.ensures.value)) c.self.invariant) w.put_start.ensures.crash w.in_ok-put_start-in-Synced.ensures.log w.in_ok-put_start-in-Synced.ensures.ok in
       subst (λ s. Moved c.match-replace.step c.args.self.now (of_parts s.on_disk.circ s.memory (logging_of s.on_disk.logger) (installing_of c.match-replace.next))) (sym w.self-inside-is)

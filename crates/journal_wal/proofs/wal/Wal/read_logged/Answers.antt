@@ -2,7 +2,7 @@ use Rattle.std.proofs.Common.{◌≡◌, IsTrue, OnOk, sym, subst}
 use Rattle.journal_wal.specs.Wal.{WalState, Crashes, blocks_logged}
 use Rattle.journal_wal.specs.States.{logging_of, installing_of}
 use Rattle.journal_wal.proofs.Phases.{of_parts}
-use Rattle.journal_wal.proofs.Reading.{read_home_at, read_crashes}
+use Rattle.journal_wal.proofs.Reading.{read_home_at, read_crashes, label_read}
 use Rattle.journal_wal.proofs.Logger.{unchanged}
 use Rattle.journal_wal.proofs.wal.Wal.read_logged.Goals as goal
 
@@ -20,4 +20,5 @@ returns-in-Some-clause-crash g c = subst (λ (w : WalState). Crashes w w) c.self
 
 pub returns-clause-crash : goal.returns-clause-crash
 returns-clause-crash g c = subst (λ (w : WalState). Crashes w (of_parts c.read.new.self c.self.inside.memory (logging_of c.self.inside.on_disk.logger) (installing_of c.self.inside.on_disk.installer))) c.self.view_is
-    (read_crashes (of_parts c.self.inside.on_disk.circ c.self.inside.memory (logging_of c.self.inside.on_disk.logger) (installing_of c.self.inside.on_disk.installer)) c.read.new.self c.self.invariant c.read.ensures.keeps c.read.ensures.same)
+    (read_crashes (of_parts c.self.inside.on_disk.circ c.self.inside.memory (logging_of c.self.inside.on_disk.logger) (installing_of c.self.inside.on_disk.installer)) c.read.new.self c.self.invariant c.read.ensures.keeps c.read.ensures.same
+    (label_read c.self.inside.on_disk.circ c.read.new.self c.read.result c.read.ensures.ok c.read.ensures.err))
