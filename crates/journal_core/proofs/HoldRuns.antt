@@ -6,6 +6,7 @@ use Rattle.std.proofs.lemmas.List.Elements.{All-cons, All-weaker}
 use mathlib.Core.List.{IsPrefix}
 use Rattle.journal_world.specs.declared.address.Addr.{Addr}
 use Rattle.journal_world.specs.declared.refusal.Refusal.{Refusal}
+use Rattle.journal_world.specs.declared.refusal.Refusal.TheVariants.{Full}
 use Rattle.journal_world.specs.Addresses.{Value, slot_of, Shape}
 use Rattle.journal_world.specs.Maps.{Map, Pair, Transaction, SameMap, value_at}
 use Rattle.journal_world.specs.Histories.{Entry, opened, is_trusted, latest, count, floor, commits_of, at, Follows, IsTrueTo, IsLegal}
@@ -35,13 +36,13 @@ use Rattle.journal_memory.specs.Transactions.{TransactionState, ReadResultState,
 use Rattle.journal_parts.specs.Pairs.{IsMarkDue, MarksBoth, MarksAll}
 use Rattle.journal_parts.specs.Holds.{IsBetween, FetchesBlocks, AnswersFetch, AnswersGroupCall, AnswersHomeCall, MarksOrCuts, AnswersMarkOrCut, Trims, NotesFault}
 use Rattle.journal_memory.specs.VolatileHolds.{FindsInMemory, LacksBlock, RefusesRead, AnswersRead, CommitsInMemory, LacksBlocks, RefusesCommit, KeepsCopies, AnswersSession, FencesSession, AnswersFence, Stops}
-use Rattle.journal_core.specs.Outcomes.{Answer, Tells, TellsAll, HoldsImage}
+use Rattle.journal_core.specs.Outcomes.{Answer, Tells, TellsAll, HoldsImage, is_actor}
 use Rattle.journal_core.specs.Outcomes.Answer.{nothing, value, committed, marked, fenced, waited, imaged, crashed, reopened}
-use Rattle.journal_core.specs.TwoLocks.{Event, Parts, history_of, Mount, Machine, mounted, holds, with_parts, with_volatile, with_durable, with_transaction, with_slot, with_fetched, ended, keeping, layout_of, BeginsApart, Ignores, BeginsTransaction, TakesSlot, ReadsUnderSlot, OverwritesUnderSlot, Finishes, MakesFence, MarksOrCutsBoth, WaitsFor, Flushes, TakesImage, HappensUp, HappensDown, Happens, Run, HasHistory, IsUndisturbed, StaysFetched}
-use Rattle.journal_core.specs.TwoLocks.Event.{begins, takes, reads, overwrites, aborts, copies, joins, fences, stops, waits, flushes, shows, fetches, logs, installs, marks_or_cuts, trims, notes, images, crashes, opens}
+use Rattle.journal_core.specs.TwoLocks.{Event, Parts, history_of, Mount, Machine, mounted, holds, with_parts, with_volatile, with_durable, with_transaction, with_slot, without_slot, with_fetched, ended, keeping, layout_of, BeginsApart, Ignores, BeginsTransaction, TakesSlot, GivesBackSlot, ReadsUnderSlot, OverwritesUnderSlot, Finishes, MakesFence, MarksOrCutsBoth, WaitsFor, Flushes, TakesImage, HappensUp, HappensDown, Happens, Run, HasHistory, IsUndisturbed, StaysFetched}
+use Rattle.journal_core.specs.TwoLocks.Event.{begins, takes, gives_back, reads, overwrites, aborts, copies, joins, fences, stops, waits, flushes, shows, fetches, logs, installs, marks_or_cuts, trims, notes, images, crashes, opens}
 use Rattle.journal_core.specs.TwoLocks.Event.{commits as finishes}
 use Rattle.journal_core.specs.TwoLocks.Machine.{up, down}
-use Rattle.journal_core.proofs.Holding.{IsSound, begun_sound, sound_held, keeps_taken, keeps_given, sound_marked, sound_fenced, sound_committed, sound_read, sound_overwritten, is_holder}
+use Rattle.journal_core.proofs.Holding.{IsSound, begun_sound, sound_held, keeps_taken, keeps_given, keeps_without, sound_without, sound_marked, sound_fenced, sound_committed, sound_read, sound_overwritten, is_holder}
 use Rattle.journal_memory.proofs.Fronts.{at-layout, at-longer, count-longer, trusted-longer}
 use Rattle.journal_parts.proofs.Pairing.{begins_not, leaves_history, made_in}
 use Rattle.journal_parts.proofs.Between.{between_fetch, between_group, between_home, between_mark_or_cut, between_trimmed, between_noted, between_commit, between_roomed, between_copied, between_counted, between_fenced, fetch_honest, group_honest, home_honest, mark_or_cut_honest}
@@ -168,6 +169,27 @@ module _ (rule : Map → Type 0) where
     fetched = is.fetched;
   }
 
+  slot_given : (m : Mount) (actor slot : ℕ) (draft : TransactionState) → m.transactions actor ≡ Some draft → m.holders slot ≡ Some actor
+      → All (λ (p : Pair). slot_of (layout_of m) p.0 ≢ slot) draft.reads → All (λ (p : Pair). slot_of (layout_of m) p.0 ≢ slot) draft.writes
+      → IsUp rule m → IsUp rule (without_slot m slot)
+  slot_given m actor slot draft drafted given unread unwritten is = record {
+    runs = is.runs;
+    sound = λ other t at. by_test other t (other == actor) refl at;
+    fetched = is.fetched;
+  }
+    where
+      by_test : (other : ℕ) (t : TransactionState) (b : Bool) → (other == actor) ≡ b → m.transactions other ≡ Some t
+          → IsSound (history_of m.parts) (without_slot m slot).holders other t
+      by_test other t true same at =
+          let is_actors : other ≡ actor = eqb-true other actor same in
+          let is_draft : t ≡ draft = same_Some t draft (sym at ∙ ap m.transactions is_actors ∙ drafted) in
+          subst (λ (n : ℕ). IsSound (history_of m.parts) (without_slot m slot).holders n t) (sym is_actors)
+          (subst (IsSound (history_of m.parts) (without_slot m slot).holders actor) (sym is_draft)
+          (sound_without (history_of m.parts) m.holders slot actor draft unread unwritten (is.sound actor draft drafted)))
+      by_test other t false differ at =
+          sound_held (history_of m.parts) m.holders (without_slot m slot).holders other t (is.sound other t at)
+          (λ held_slot held. keeps_without m.holders actor slot other held_slot (eqb-false other actor differ) given held)
+
   -- what an actor has fetched is one batch more
   fetched_kept : (m : Mount) (actor : ℕ) (f : FetchedState) → IsUp rule m → WasFetched (history_of m.parts) f → IsUp rule (with_fetched m actor f)
   fetched_kept m actor f is was = record { runs = is.runs; sound = is.sound; fetched = λ other. by_test other (other == actor) }
@@ -221,6 +243,15 @@ module _ (rule : Map → Type 0) where
   goes-takes m actor slot (Some t) (Some holder) answer new it is free = ignored m answer new it is
   goes-takes m actor slot (Some t) None answer new it is free =
       silent (history_of m.parts) (with_slot m actor slot) answer new it.0 it.1 refl (slot_taken m actor slot free is)
+
+  goes-gives-back : (m : Mount) (actor slot : ℕ) (draft : Option TransactionState) (held : Bool) (answer : Answer) (new : Machine)
+      → GivesBackSlot m actor slot draft held answer new → IsUp rule m → m.transactions actor ≡ draft → is_actor (m.holders slot) actor ≡ held
+      → Goes rule (history_of m.parts) answer new
+  goes-gives-back m actor slot None held answer new it is at holder = ignored m answer new it is
+  goes-gives-back m actor slot (Some t) false answer new it is at holder = ignored m answer new it is
+  goes-gives-back m actor slot (Some t) true answer new it is at holder =
+      silent (history_of m.parts) (without_slot m slot) answer new it.0 it.3 refl
+      (slot_given m actor slot t at (is_holder (m.holders slot) actor holder) it.1 it.2 is)
 
   -- a read in memory leaves all
   read_same : (n : Shape) (v : VolatileState) (t : TransactionState) (a : Addr) (f : FetchedState) (r : Result (Option ReadResultState) (Refusal CauseState)) (x : Value) (w : VolatileState)
@@ -296,10 +327,15 @@ module _ (rule : Map → Type 0) where
       silent (history_of m.parts) (ended (with_volatile m w) actor) nothing new refl refuses.2 same
       (has_ended (with_volatile m w) actor (up_on m w durable is
       (between_roomed (layout_of m) m.parts.volatile durable is.runs.between w w.tail.log.room refuses.1.kept refuses.1.same) refl same)))
+      (⊎_elim
+      (λ (awaits : (cause : CauseState) × RefusesCommit (layout_of m) m.parts.volatile it.0 d (Full cause) w × (new ≡ up (with_volatile m w))).
+      let same : w.ledger.history ≡ history_of m.parts = ap (λ (x : VolatileState). x.ledger.history) awaits.1.same in
+      quiet m w durable nothing new refl awaits.2 is
+      (between_roomed (layout_of m) m.parts.volatile durable is.runs.between w w.tail.log.room awaits.1.kept awaits.1.same) refl same)
       (λ (lacks : (f : FetchedState) × ((missing : List ℕ) × LacksBlocks (layout_of m) m.parts.volatile it.0 d f missing w × (new ≡ up (with_volatile m w)))).
       let same : w.ledger.history ≡ history_of m.parts = ap (λ (x : VolatileState). x.ledger.history) lacks.1.1.same in
       quiet m w durable nothing new refl lacks.1.2 is
-      (between_roomed (layout_of m) m.parts.volatile durable is.runs.between w w.tail.log.room lacks.1.1.kept lacks.1.1.same) refl same)
+      (between_roomed (layout_of m) m.parts.volatile durable is.runs.between w w.tail.log.room lacks.1.1.kept lacks.1.1.same) refl same))
       it.1.1
   goes-finishes m actor (Some d) (committed t) new it is at =
       let session : SessionState = it.0 in
@@ -524,6 +560,8 @@ module _ (rule : Map → Type 0) where
   goes-up : (m : Mount) (event : Event) (answer : Answer) (new : Machine) → HappensUp m event answer new → IsUp rule m → Goes rule (history_of m.parts) answer new
   goes-up m (begins actor) answer new it is = goes-begins rule m actor (m.transactions actor) answer new it is
   goes-up m (takes actor slot) answer new it is = goes-takes rule m actor slot (m.transactions actor) (m.holders slot) answer new it is refl
+  goes-up m (gives_back actor slot) answer new it is =
+      goes-gives-back rule m actor slot (m.transactions actor) (is_actor (m.holders slot) actor) answer new it is refl refl
   goes-up m (reads actor a) answer new it is = goes-reads rule m actor a (m.transactions actor) (holds m actor a) answer new it is refl refl
   goes-up m (overwrites actor a v) answer new it is = goes-overwrites rule m actor (a, v) (m.transactions actor) (holds m actor a) answer new it is refl refl
   goes-up m (aborts actor) answer new it is = silent rule (history_of m.parts) (ended m actor) answer new it.0 it.1 refl (has_ended rule m actor is)
@@ -605,6 +643,7 @@ module _ (rule : Map → Type 0) where
   goes-down layout image m opens answer new it on_disk holds = goes-opens layout image m answer new it on_disk holds
   goes-down layout image m (begins actor) answer new it on_disk holds = stays-down layout image m answer new on_disk holds it.0 it.1
   goes-down layout image m (takes actor slot) answer new it on_disk holds = stays-down layout image m answer new on_disk holds it.0 it.1
+  goes-down layout image m (gives_back actor slot) answer new it on_disk holds = stays-down layout image m answer new on_disk holds it.0 it.1
   goes-down layout image m (reads actor a) answer new it on_disk holds = stays-down layout image m answer new on_disk holds it.0 it.1
   goes-down layout image m (overwrites actor a v) answer new it on_disk holds = stays-down layout image m answer new on_disk holds it.0 it.1
   goes-down layout image m (aborts actor) answer new it on_disk holds = stays-down layout image m answer new on_disk holds it.0 it.1

@@ -1,9 +1,10 @@
 -- Transactions of many actors, and the holds of two locks that threads make for them, in any order:
 -- lists of events, and what they come to. A hold of one lock leaves the other's part as it is.
-use Rattle.std.specs.Prelude.{ℕ, ◌≡◌, ◌⊎◌, ◌==◌, ◌≤◌, true, false, if◌then◌else◌, Bool, IsTrue, List, [], ◌∷◌, All, Option, Some, None, Result, Ok, Err}
+use Rattle.std.specs.Prelude.{ℕ, ◌≡◌, ◌≢◌, ◌⊎◌, ◌==◌, ◌≤◌, true, false, if◌then◌else◌, Bool, IsTrue, List, [], ◌∷◌, All, Option, Some, None, Result, Ok, Err}
 use mathlib.Core.List.{IsPrefix}
 use Rattle.journal_world.specs.declared.address.Addr.{Addr}
 use Rattle.journal_world.specs.declared.refusal.Refusal.{Refusal}
+use Rattle.journal_world.specs.declared.refusal.Refusal.TheVariants.{Full}
 use Rattle.journal_world.specs.Addresses.{Value, slot_of, Shape}
 use Rattle.journal_world.specs.Maps.{Map, Pair, Agrees, is_object}
 use Rattle.journal_world.specs.Histories.{Entry, opened, latest, count}
@@ -38,11 +39,12 @@ use Rattle.journal_core.specs.Outcomes.Answer.{nothing, value, committed, marked
 -- or is shown the history. Of the disk alone: blocks are fetched, the device call is made that is
 -- due of the group in flight, the installer's next is. Of both: what is due where no device call
 -- is, what is at home is dropped from memory up to a position, a fault is noted, an image is taken
--- of the disk. Slots are taken, and objects overwritten, under no lock. A close gives the disk up:
--- what is left of it is left as by a crash between two calls
+-- of the disk. Slots are taken and given back, and objects overwritten, under no lock. A close
+-- gives the disk up: what is left of it is left as by a crash between two calls
 pub data Event : Type 0 where
   begins : ℕ → Event
   takes : ℕ → ℕ → Event
+  gives_back : ℕ → ℕ → Event
   reads : ℕ → Addr → Event
   overwrites : ℕ → Addr → Value → Event
   aborts : ℕ → Event
@@ -112,6 +114,10 @@ with_transaction m actor draft = record m { transactions = λ other. if other ==
 abbrev pub with_slot : Mount → ℕ → ℕ → Mount
 with_slot m actor slot = record m { holders = λ other. if other == slot then Some actor else m.holders other }
 
+-- nobody has it
+abbrev pub without_slot : Mount → ℕ → Mount
+without_slot m slot = record m { holders = λ other. if other == slot then None else m.holders other }
+
 -- the actor has these blocks too
 abbrev pub with_fetched : Mount → ℕ → FetchedState → Mount
 with_fetched m actor blocks = record m { fetched = λ other. if other == actor then blocks ∷ m.fetched other else m.fetched other }
@@ -145,6 +151,16 @@ TakesSlot old actor slot None holder answer new = Ignores old answer new
 TakesSlot old actor slot (Some draft) (Some holder) answer new = Ignores old answer new
 TakesSlot old actor slot (Some draft) None answer new = (answer ≡ nothing) × (new ≡ up (with_slot old actor slot))
 
+-- a slot is given back by itself, under which nothing is that the transaction read or overwrote
+abbrev pub GivesBackSlot : Mount → ℕ → ℕ → Option TransactionState → Bool → Answer → Machine → Type 0
+GivesBackSlot old actor slot None held answer new = Ignores old answer new
+GivesBackSlot old actor slot (Some draft) false answer new = Ignores old answer new
+GivesBackSlot old actor slot (Some draft) true answer new =
+    (answer ≡ nothing)
+    × All (λ (p : Pair). slot_of (layout_of old) p.0 ≢ slot) draft.reads
+    × All (λ (p : Pair). slot_of (layout_of old) p.0 ≢ slot) draft.writes
+    × (new ≡ up (without_slot old slot))
+
 -- a read under its slot is answered in memory, and the answer is remembered; or it is refused, or
 -- its block is to be fetched
 abbrev pub ReadsUnderSlot : Mount → ℕ → Addr → Option TransactionState → Bool → Answer → Machine → Type 0
@@ -170,14 +186,16 @@ OverwritesUnderSlot old actor p (Some draft) true answer new =
     × ((after : TransactionState) × Overwrites draft p.0 p.1 after × (new ≡ up (with_transaction old actor (Some after))))))
 
 -- the transaction is committed in memory by some session, as that session's next one, or refused,
--- and ended either way; or it goes on, since blocks are to be fetched for it first
+-- and ended either way; or it goes on, since it waits for room in the log's tail, or since blocks
+-- are to be fetched for it first
 abbrev pub Finishes : Mount → ℕ → Option TransactionState → Answer → Machine → Type 0
 Finishes old actor None answer new = Ignores old answer new
 Finishes old actor (Some draft) nothing new =
     (session : SessionState) × ((w : VolatileState)
     × (((why : Refusal CauseState) × RefusesCommit (layout_of old) old.parts.volatile session draft why w × (new ≡ up (ended (with_volatile old w) actor)))
+    ⊎ (((cause : CauseState) × RefusesCommit (layout_of old) old.parts.volatile session draft (Full cause) w × (new ≡ up (with_volatile old w)))
     ⊎ ((f : FetchedState) × ((missing : List ℕ) × LacksBlocks (layout_of old) old.parts.volatile session draft f missing w
-    × (new ≡ up (with_volatile old w))))))
+    × (new ≡ up (with_volatile old w)))))))
 Finishes old actor (Some draft) (committed t) new =
     (session : SessionState) × ((after : SessionState) × ((w : VolatileState) × (t ≡ next_transaction session draft.reads draft.writes)
     × CommitsInMemory (layout_of old) old.parts.volatile session draft w after × (new ≡ up (ended (with_volatile old w) actor))))
@@ -238,6 +256,7 @@ TakesImage old image other new = ⊥
 abbrev pub HappensUp : Mount → Event → Answer → Machine → Type 0
 HappensUp old (begins actor) answer new = BeginsTransaction old actor (old.transactions actor) answer new
 HappensUp old (takes actor slot) answer new = TakesSlot old actor slot (old.transactions actor) (old.holders slot) answer new
+HappensUp old (gives_back actor slot) answer new = GivesBackSlot old actor slot (old.transactions actor) (is_actor (old.holders slot) actor) answer new
 HappensUp old (reads actor a) answer new = ReadsUnderSlot old actor a (old.transactions actor) (holds old actor a) answer new
 HappensUp old (overwrites actor a v) answer new = OverwritesUnderSlot old actor (a, v) (old.transactions actor) (holds old actor a) answer new
 HappensUp old (aborts actor) answer new = (answer ≡ nothing) × (new ≡ up (ended old actor))

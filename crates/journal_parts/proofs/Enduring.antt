@@ -27,6 +27,7 @@ use Rattle.journal_tail.specs.ObjectTails.{known_object}
 use Rattle.journal_objlog.specs.ObjectLogs.{map_now, map_cut, map_logged, IsCutLogged, MayOpenAs, Crashes as MapCrashes, KeepsMaps, EndsMap, OnlyReads, is_faulted as is_log_faulted, disk_of as log_disk}
 use Rattle.journal_tail.proofs.MapsOfBlocks.{law_of, HasObjects-map_of}
 use Rattle.journal_memory.specs.Updates.{IsSince, IsLastSince, HaveAllSince}
+use Rattle.journal_parts.specs.Cores.{OpensAfter}
 use Rattle.journal_parts.specs.Durables.{DurableState, disk_of, Leaves, Crashes, IsDurable, begun_durable}
 use Rattle.journal_memory.specs.Fetches.{IsBlockAfter}
 use Rattle.journal_memory.proofs.Fronts.{at-longer, count-longer, some-longer, opened-longer, trusted-longer}
@@ -89,6 +90,20 @@ pub leaves_disk : (layout : Shape) (inside now : DurableState) (disk : DiskState
 leaves_disk layout inside now disk kept is same =
     subst (λ (s : DiskState). IsTrue s.honest → EveryImage s.past (Leaves now)) (sym same)
     (λ honest image one. subst (λ (d : DurableState). Leaves d image) is (leaves_of layout inside kept honest image (kept.images honest image one)))
+
+-- each opens as the map after some first commits of the front
+pub opens_disk : (layout : Shape) (inside now : DurableState) (disk : DiskState) → IsDurable layout inside → inside ≡ now → disk ≡ disk_of inside
+    → IsTrue disk.honest → EveryImage disk.past (OpensAfter now.front)
+opens_disk layout inside now disk kept is same = λ honest image one.
+    let left : Leaves now image = leaves_disk layout inside now disk kept is same honest image one in
+    let comes : now.coming ≤ count now.front = subst (λ (d : DurableState). d.coming ≤ count d.front) is kept.coming_to_count in
+    record {
+      commits = left.commits;
+      made = omega (arith, left.coming, comes);
+      map = left.map;
+      opens = left.opens;
+      same = left.same;
+    }
 
 -- it was only read
 pub crashes_read : (layout : Shape) (inside now : DurableState) (objects : WalState) → IsDurable layout inside → inside ≡ now

@@ -80,6 +80,14 @@ pub record Leaves (history : List Entry) (image : List Bytes) : Type 0 where
   pub opens : OpensAs map image
   pub same : SameMap map (at history commits)
 
+-- The image opens as the map after so many first commits of the history
+pub record OpensAfter (history : List Entry) (image : List Bytes) : Type 0 where
+  pub commits : ℕ
+  pub made : commits ≤ count history
+  pub map : Map
+  pub opens : OpensAs map image
+  pub same : SameMap map (at history commits)
+
 -- What each step says of crashes: at every moment of it an image opens as the map after a front of
 -- the history that there was, and at its end after one of the history that there is
 pub record Crashes (old new : CoreState) : Type 0 where

@@ -5,6 +5,7 @@ ghost use Rattle.journal_disk.specs.Images.{EveryImage};
 ghost use Rattle.journal_wal.specs.Wal.{size_of, IsAtRest};
 ghost use Rattle.journal_objlog.specs.Maps.{OpensAs};
 ghost use Rattle.journal_objlog.specs.ObjectLogs.{map_now, IsCutLogged, start_of, end_of, disk_of as log_disk};
+ghost use Rattle.journal_parts.specs.Cores.{OpensAfter};
 ghost use Rattle.journal_parts.specs.Durables.{IsDurable, Leaves, begun_durable, disk_of};
 
 use journal_disk::{BlockDisk, MemDisk};
@@ -92,12 +93,20 @@ impl<'b, D: BlockDisk, R: MapRule, J: Naming> Durable<'b, D, R, J> {
         self.objects.disk()
     }
 
+    /// The history as far as this part has seen it. It takes no memory.
+    pub fn front(&self) -> Front<'b, J, R>
+        ensures { result ≡ self.now.front }
+    {
+        self.front.again()
+    }
+
     /// Gives the disk up, as it is. Where it was honest and settled when it was opened, each image
     /// that a crash may leave of it opens as the map after some of the front's commits.
     pub fn into_disk(self) -> D
         ensures disk { D.state result ≡ disk_of self.entry }
         ensures size { (D.state result).past.size ≡ J.layout.blocks }
         ensures images { IsTrue (D.state result).honest → EveryImage (D.state result).past (Leaves self.entry) }
+        ensures opens { IsTrue (D.state result).honest → EveryImage (D.state result).past (OpensAfter self.entry.front) }
     {
         let Durable { objects, .. } = self;
         objects.into_disk()

@@ -10,13 +10,14 @@ ghost use Rattle.journal_object.specs.Objects.{size_at};
 ghost use Rattle.journal_disk.specs.Disks.{IsSettled};
 ghost use Rattle.journal_disk.specs.Images.{EveryImage};
 ghost use Rattle.journal_history.specs.Tokens.{OnlyExtends};
-ghost use Rattle.journal_parts.specs.Cores.{Leaves};
+ghost use Rattle.journal_parts.specs.Cores.{Leaves, OpensAfter};
 ghost use Rattle.journal_parts.specs.Durables.{disk_of, is_faulted};
 ghost use Rattle.journal_memory.specs.SlotCounts.{AreUnder};
 ghost use Rattle.journal_twophase.specs.Journals.{IsLogRefusal, IsInstallRefusal, IsFetchRefusal, IsCloseRefusal, IsImageRefusal};
 ghost use Rattle.journal_twophase.specs.Transactions.{KeepsHeld, ReadsObject, IsCheckRefusal};
 ghost use Rattle.journal_twophase.specs.Commits.{IsCommitted, ShowsFence, IsTryRefusal};
 
+use crate::journal::DiskLeft;
 use crate::locked_parts::{JournalRefusal, LockedParts, UnderMemoryLock, is_past_threshold};
 use journal_block::Block;
 use journal_disk::{BlockDisk, MemDisk};
@@ -306,10 +307,15 @@ impl<'b, D: BlockDisk, R: MapRule, J: Naming> LockedParts<'b, D, R, J> {
         }
     }
 
-    // Gives the disk up.
-    pub(crate) fn into_disk(self) -> D {
+    // Gives the disk up, with the history as far as the disk's part has seen it.
+    pub(crate) fn into_disk(self) -> DiskLeft<'b, D, R, J>
+        ensures size { (D.state result.disk).past.size ≡ J.layout.blocks }
+        ensures images { IsTrue (D.state result.disk).honest → EveryImage (D.state result.disk).past (OpensAfter result.front) }
+    {
         let (durable, _) = self.into_parts();
-        durable.into_disk()
+        let front = durable.front();
+        let disk = durable.into_disk();
+        DiskLeft { disk, front }
     }
 
     fn into_parts(self) -> (Durable<'b, D, R, J>, Volatile<'b, R, J>) {

@@ -7,7 +7,7 @@ ghost use Rattle.journal_world.specs.Histories.{is_trusted, is_fenced, count};
 ghost use Rattle.journal_disk.specs.Disks.{IsSettled};
 ghost use Rattle.journal_disk.specs.Images.{EveryImage};
 ghost use Rattle.journal_history.specs.Tokens.{made, IsExact, OnlyExtends};
-ghost use Rattle.journal_parts.specs.Cores.{Leaves};
+ghost use Rattle.journal_parts.specs.Cores.{Leaves, OpensAfter};
 ghost use Rattle.journal_parts.specs.Openings.{HasWellFormedLog, IsInRange, IsLayoutRefusal, IsOpenRefusal, OnlyReadsDisk};
 ghost use Rattle.journal_twophase.specs.Journals.{BeginsWith, IsKnown, IsSessionRefusal, IsFenceRefusal, IsLogRefusal, IsInstallRefusal, IsCloseRefusal, IsImageRefusal};
 ghost use Rattle.journal_twophase.specs.Waits.{IsStable, IsWaitRefusal, IsEndedUnmarked};
@@ -33,6 +33,16 @@ pub const CACHED_BLOCKS: usize = 64;
 
 /// Of how many blocks that are at home `Journal::open_with_cache` may be told to keep copies.
 pub const MAX_CACHED_BLOCKS: usize = 4096;
+
+/// What is left of a journal that was ended: its disk, as it is, and a front of its history, which
+/// has each commit that a crash may leave of the disk.
+#[derive(Drop)]
+pub struct DiskLeft<'b, D: BlockDisk, R: MapRule, J: Naming> {
+    /// The disk.
+    pub disk: D,
+    /// The history as far as the disk's part of the journal has seen it.
+    pub front: Front<'b, J, R>,
+}
 
 /// A journal over a disk, lent the book of its history, which threads share by `&`. Contracts see
 /// the history at its opening.
@@ -373,9 +383,13 @@ impl<'b, D: BlockDisk, R: MapRule, J: Naming> Journal<'b, D, R, J> {
         self.core.await_install_work(rt);
     }
 
-    /// Ends the journal, and gives the disk up as it is. For whoever has a session, `close` says
-    /// more.
-    pub fn into_disk(self) -> D {
+    /// Ends the journal, and gives the disk up as it is, with the history as far as the disk's part
+    /// has seen it: each image that a crash may leave of the disk opens as the map after some first
+    /// commits of that history. For whoever has a session, `close` says more.
+    pub fn into_disk(self) -> DiskLeft<'b, D, R, J>
+        ensures size { (D.state result.disk).past.size ≡ J.layout.blocks }
+        ensures images { IsTrue (D.state result.disk).honest → EveryImage (D.state result.disk).past (OpensAfter result.front) }
+    {
         let Journal {
             layout: _,
             slots: _,

@@ -30,7 +30,7 @@ mod txn;
 mod waiters;
 mod waiting;
 
-pub use journal::{CACHED_BLOCKS, Journal, MAX_CACHED_BLOCKS};
+pub use journal::{CACHED_BLOCKS, DiskLeft, Journal, MAX_CACHED_BLOCKS};
 pub use locked_parts::JournalRefusal;
 pub use txn::Txn;
 pub use waiting::{WaitFault, Waited};
