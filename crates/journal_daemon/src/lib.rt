@@ -15,6 +15,3 @@ mod threads;
 
 pub use steps::{Gate, INSTALLER, LOGGER, OneStep, OpenGate};
 pub use threads::start;
-
-#[cfg(test)]
-mod tests;

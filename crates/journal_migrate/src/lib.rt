@@ -10,8 +10,6 @@ mod either;
 mod marking;
 mod migration;
 mod superblock;
-#[cfg(test)]
-mod tests;
 
 pub use either::EitherVersion;
 pub use migration::migrate;

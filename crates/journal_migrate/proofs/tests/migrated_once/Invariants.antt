@@ -1,6 +1,0 @@
-use Rattle.journal_world.specs.Files.{files}
-use Rattle.journal_migrate.proofs.tests.migrated_once.Given as goal
-
--- the book and the cell that were just opened, and the disk's blocks
-abbrev pub ghosts-migrated : goal.ghosts-migrated
-ghosts-migrated g a = record { book = a.book.now; cell = a.cell; layout = files a.disk.past.size }

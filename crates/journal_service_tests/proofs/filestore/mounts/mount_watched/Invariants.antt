@@ -1,6 +1,0 @@
-use Rattle.journal_world.specs.Files.{files}
-use Rattle.journal_service_tests.proofs.filestore.mounts.mount_watched.Given as goal
-
--- the book and the cell that were just opened, and the disk's blocks
-abbrev pub ghosts-mount : goal.ghosts-mount
-ghosts-mount a = record { book = a.book.now; cell = a.cell; layout = files a.disk.disk.past.size }
