@@ -1,5 +1,5 @@
 -- What the words of a command line say of a layout.
-use Rattle.std.specs.Prelude.{ℕ, List, Option, Some, None, codes}
+use Rattle.std.specs.Prelude.{ℕ, ◌≡◌, List, Option, Some, None, codes}
 use Rattle.journal_world.specs.declared.address.Kind.{Kind}
 use Rattle.journal_world.specs.declared.address.Kind.TheVariants.{Bit, Record, Block}
 use Rattle.journal_world.specs.declared.address.RecordSize.{RecordSize}
@@ -8,6 +8,8 @@ use Rattle.journal_world.specs.declared.layout.Region.{Region}
 use Rattle.journal_world.specs.declared.layout.TheConstants.{MAX_BLOCKS, MAX_LAYOUT_BLOCKS}
 use Rattle.journal_world.specs.Addresses.{Shape}
 use Rattle.journal_world.specs.Files.{files}
+use Rattle.journal_program.specs.declared.label.Label.{Label}
+use Rattle.journal_program.specs.Labels.{regions_told}
 
 -- how many blocks a disk has at most, by regions that were given, or by those of files
 abbrev pub most_blocks : Option (List Region) → ℕ
@@ -18,6 +20,21 @@ most_blocks None = MAX_BLOCKS
 abbrev pub asked_shape : Option (List Region) → ℕ → ℕ → Shape
 asked_shape (Some regions) slots blocks = record { blocks = blocks; regions = regions; slots = slots }
 asked_shape None slots blocks = record (files blocks) { slots = slots }
+
+-- the regions that a label tells, or where it tells none those that were named
+abbrev pub told_or : Option (List Region) → Option (List Region) → Option (List Region)
+told_or (Some told) asked = Some told
+told_or None asked = asked
+
+-- the regions that the label of a disk tells, where it has one that tells any
+abbrev pub told_of : Option Label → Option (List Region)
+told_of (Some label) = regions_told label
+told_of None = None
+
+-- what a label tells and what was named do not differ
+abbrev pub AreSame : Option (List Region) → Option (List Region) → Type 0
+AreSame (Some told) (Some asked) = told ≡ asked
+AreSame told asked = Unit {0}
 
 abbrev pub record_name : RecordSize → List ℕ
 record_name Bytes8 = codes "record8"

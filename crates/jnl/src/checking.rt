@@ -2,10 +2,10 @@
 ghost use Rattle.std.specs.Prelude.{◌≡◌};
 ghost use Rattle.journal_world.specs.Files.{files};
 
-use journal_disk::FileDisk;
 use journal_history::{Book, Naming};
 use journal_inode::{FormatVersion, SoundFiles, Version, VersionOne, VersionTwo};
 use journal_lockmap::SlotCell;
+use journal_program::SizedDisk;
 use journal_twophase::Journal;
 use journal_world::{Refusal, Refused};
 use std::alloc::Global;
@@ -16,7 +16,7 @@ use std::marker::Brand;
 ///
 /// Answers J8 `BadSuper` where they are sound in no version, J1 `NoMemory` where memory is refused,
 /// J7 `BadLog` where the log is not well formed, and J6 `DeviceFailed` where the device fails.
-pub fn sound_version(alloc: Global, disk: FileDisk) -> Result<FormatVersion, Refusal<()>> {
+pub fn sound_version(alloc: Global, disk: SizedDisk) -> Result<FormatVersion, Refusal<()>> {
     let disk = match check_in::<VersionTwo>(alloc, disk)? {
         Checked::Sound => return Ok(FormatVersion::Two),
         Checked::Unsound(disk) => disk,
@@ -32,11 +32,11 @@ pub fn sound_version(alloc: Global, disk: FileDisk) -> Result<FormatVersion, Ref
 enum Checked {
     Sound,
     // Nothing was written to the disk.
-    Unsound(FileDisk),
+    Unsound(SizedDisk),
 }
 
 // Opens the disk under the rule of a version, with a book of its own.
-fn check_in<V: Version>(alloc: Global, disk: FileDisk) -> Result<Checked, Refusal<()>> {
+fn check_in<V: Version>(alloc: Global, disk: SizedDisk) -> Result<Checked, Refusal<()>> {
     let Ok(book) = Book::<SoundFiles<V>>::open::<()>() else {
         return Err(Refusal::NoMemory);
     };
@@ -51,14 +51,14 @@ fn open_under<J: Naming, V: Version>(
     alloc: Global,
     book: &Book<SoundFiles<V>>,
     cell: SlotCell,
-    disk: FileDisk,
+    disk: SizedDisk,
 ) -> Result<Checked, Refusal<()>>
     requires book { book.now ≡ J.book }
     requires cell { cell ≡ J.cell }
     requires layout { J.layout ≡ files disk.size }
 {
     let rule = SoundFiles::new(alloc);
-    let opened: Result<Journal<FileDisk, SoundFiles<V>, J>, _> = Journal::open(
+    let opened: Result<Journal<SizedDisk, SoundFiles<V>, J>, _> = Journal::open(
         alloc, book, cell, disk, &rule,
     );
     match opened {

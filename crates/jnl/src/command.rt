@@ -1,7 +1,7 @@
 // The command line.
 
 use crate::fault::Fault;
-use crate::regions::AskedLayout;
+use crate::regions::{AskedLayout, Regions, named_regions};
 use crate::serving::Service;
 use clap::{Arg, ArgAction, ArgMatches, Command, value_parser};
 use journal_form::LogForm;
@@ -16,7 +16,7 @@ const STATUSES: &str =
     "Exit status:\n  0  it was done\n  1  it was not done, or not to its end; standard error has the reason\n  2  the words are no command";
 
 const SERVE_NOTES: &str =
-    "Only the owner of the socket can open it. A socket whose program is gone is replaced, and anything else at PATH is refused. The port of --tcp has no access check: each program on this machine can read and write the disk there, but not end the service.\n\nThe first lines of the output say where it listens. jnl stop ends it once all commits are stable. A signal ends it as a crash does: each commit that was answered as stable stands.\n\nA disk of the file service is refused.\n\nKIND is bit, block, or a record of so many bytes: record8, record16, record32, record64, record128, record256, record512, record1024, record2048. A region goes to the block before the next one, and the last to the end of the disk. FIRST rises from one region to the next. Without --region the disk has 532 to 33299 blocks, and the regions 513:block 514:bit 515:record128 531:block. The disk does not tell its regions: name the same each time. Another number of slots may be named each time.";
+    "Only the owner of the socket can open it. A socket whose program is gone is replaced, and anything else at PATH is refused. The port of --tcp has no access check: each program on this machine can read and write the disk there, but not end the service.\n\nThe first lines of the output say where it listens. jnl stop ends it once all commits are stable. A signal ends it as a crash does: each commit that was answered as stable stands.\n\nA disk of the file service is refused.\n\nKIND is bit, block, or a record of so many bytes: record8, record16, record32, record64, record128, record256, record512, record1024, record2048. A region goes to the block before the next one, and the last to the end of the disk. FIRST rises from one region to the next. A disk that jnl create made, or jnl label, has its regions in its label: name none, or the same. Without a label the disk does not tell its regions: name the same each time, or none for 513:block 514:bit 515:record128 531:block on a disk of at most 33299 blocks. Another number of slots may be named each time.";
 
 const NFS_NOTES: &str =
     "A client mounts /files, or /, by version 3 of NFS and of MOUNT, which are both on this port:\n  mount -t nfs -o vers=3,nolock,proto=tcp,port=P,mountproto=tcp,mountport=P HOST:/files DIRECTORY\n\nThe service looks at no credential. Whoever reaches the address reads and writes all files: each program on this machine, and with another address than 127.0.0.1 each machine of the network too.\n\nThe first line of the output says at which port it listens. It serves until it is ended. A signal ends it as a crash does: all that was answered as stable stands, and a client sends its other writes again once the disk is served anew.\n\njtool format makes a disk of the file service. Any other is refused.";
@@ -27,6 +27,8 @@ const FILE: &str = "FILE";
 const BLOCKS: &str = "blocks";
 
 const UNDO: &str = "undo";
+
+const AGAIN: &str = "again";
 
 const SOCKET: &str = "socket";
 
@@ -48,20 +50,47 @@ const DEFAULT_CONNECTIONS: u64 = 64;
 /// What the words of the command line ask for.
 #[derive(Drop)]
 pub enum Subcommand<'w> {
-    /// Make an empty disk of this number of blocks in a new file.
-    Create { path: &'w str, blocks: u64 },
+    /// Make an empty disk of this number of blocks, with these regions, in a new file.
+    Create {
+        path: &'w str,
+        blocks: u64,
+        regions: Option<Regions>,
+    },
+    /// Give the disk in a file a label with these regions, also one that has a label.
+    Label {
+        path: &'w str,
+        regions: Option<Regions>,
+        again: bool,
+    },
+    /// Give the disk in a file so many blocks.
+    Grow {
+        path: &'w str,
+        blocks: u64,
+    },
     /// Print what the disk in a file is.
-    Info { path: &'w str },
+    Info {
+        path: &'w str,
+    },
     /// Print that the disk in a file is sound.
-    Check { path: &'w str },
+    Check {
+        path: &'w str,
+    },
     /// Give the log of the disk in a file this form.
-    Seal { path: &'w str, form: LogForm },
+    Seal {
+        path: &'w str,
+        form: LogForm,
+    },
     /// Serve the disk in a file.
     Serve(Service<'w>),
     /// End the service at a socket.
-    Stop { socket: &'w str },
+    Stop {
+        socket: &'w str,
+    },
     /// Serve the files of the disk in a file so that clients mount them.
-    Nfs { path: &'w str, endpoint: Endpoint },
+    Nfs {
+        path: &'w str,
+        endpoint: Endpoint,
+    },
 }
 
 impl<'w> Subcommand<'w> {
@@ -76,6 +105,15 @@ impl<'w> Subcommand<'w> {
         };
         match name {
             "create" => parse_create(given),
+            "label" => Ok(Subcommand::Label {
+                path: word(given, FILE)?,
+                regions: named_regions(given.get_strs(REGION))?,
+                again: given.get_flag(AGAIN),
+            }),
+            "grow" => Ok(Subcommand::Grow {
+                path: word(given, FILE)?,
+                blocks: blocks_of(given)?,
+            }),
             "info" => Ok(Subcommand::Info {
                 path: word(given, FILE)?,
             }),
@@ -102,11 +140,17 @@ fn word<'w>(given: &ArgMatches<'w>, name: &str) -> Result<&'w str, Fault<'w>> {
 }
 
 fn parse_create<'w>(given: &ArgMatches<'w>) -> Result<Subcommand<'w>, Fault<'w>> {
+    Ok(Subcommand::Create {
+        path: word(given, FILE)?,
+        blocks: blocks_of(given)?,
+        regions: named_regions(given.get_strs(REGION))?,
+    })
+}
+
+// The number of blocks that a subcommand requires.
+fn blocks_of<'w>(given: &ArgMatches<'w>) -> Result<u64, Fault<'w>> {
     match given.get_one::<u64>(BLOCKS) {
-        Some(blocks) => Ok(Subcommand::Create {
-            path: word(given, FILE)?,
-            blocks,
-        }),
+        Some(blocks) => Ok(blocks),
         None => Err(Fault::NoCommand),
     }
 }
@@ -164,31 +208,58 @@ fn command<'w>(alloc: Global) -> Result<Command<'w>, AllocError> {
         .subcommand(info_command(alloc)?)?
         .subcommand(check_command(alloc)?)?
         .subcommand(seal_command(alloc)?)?
+        .subcommand(label_command(alloc)?)?
+        .subcommand(grow_command(alloc)?)?
         .subcommand(serve_command(alloc)?)?
         .subcommand(stop_command(alloc)?)?
         .subcommand(nfs_command(alloc)?)
 }
 
 fn create_command<'w>(alloc: Global) -> Result<Command<'w>, AllocError> {
-    let blocks = Arg::new(alloc, BLOCKS)
-        .long(BLOCKS)
-        .value_name("N")
-        .required(true)
-        .value_parser(value_parser!(u64).range(532..=1099511627776))
-        .help("How many blocks of 4096 bytes the disk has, 532 to 1099511627776");
     Command::new(alloc, "create")
         .about("Makes an empty disk with a sealed log in a new file")
         .after_help(
-            "Refused where FILE is there. When it is done, FILE's name and the room of the log are stable. The other blocks take room once they are written. A disk of more than 33299 blocks is served with --region alone.",
+            "Refused where FILE is there. When it is done, FILE's name and the room of the log are stable. The other blocks take room once they are written. FILE keeps N and the regions in a label, and serve takes them from it. Without --region a disk of at most 33299 blocks has the regions 513:block 514:bit 515:record128 531:block, and a larger one is served with --region alone.",
         )
         .arg(file_arg(alloc, "The file to make"))?
-        .arg(blocks)
+        .arg(blocks_arg(
+            alloc,
+            "How many blocks of 4096 bytes the disk has, 532 to 1099511627776",
+        ))?
+        .arg(region_arg(alloc))
+}
+
+fn label_command<'w>(alloc: Global) -> Result<Command<'w>, AllocError> {
+    let again = Arg::new(alloc, AGAIN)
+        .long(AGAIN)
+        .action(ArgAction::SetTrue)
+        .help("Writes another label where the disk has one");
+    Command::new(alloc, "label")
+        .about(
+            "Gives a disk that an older program made a label: its number of blocks and its regions",
+        )
+        .after_help(
+            "Refused while a program has FILE, and where the disk has a label, unless --again is given. Without --region the label has the regions of the label before it, or those that create gives. Name those by which the disk was served: by other regions the same bytes are other objects.",
+        )
+        .arg(file_arg(alloc, "The file of the disk"))?
+        .arg(region_arg(alloc))?
+        .arg(again)
+}
+
+fn grow_command<'w>(alloc: Global) -> Result<Command<'w>, AllocError> {
+    Command::new(alloc, "grow")
+        .about("Gives a disk more blocks, which are zeros")
+        .after_help(
+            "Refused while a program has FILE, where the disk has more blocks, where it is one of the file service, and above 33299 blocks where its label has no regions. The last region takes the new blocks. Where it was stopped, the disk has its old number of blocks or the new one; call it again.",
+        )
+        .arg(file_arg(alloc, "The file of the disk"))?
+        .arg(blocks_arg(alloc, "How many blocks of 4096 bytes the disk has then"))
 }
 
 fn info_command<'w>(alloc: Global) -> Result<Command<'w>, AllocError> {
     Command::new(alloc, "info")
         .about(
-            "Prints the number of blocks of a disk, the form of its log, and whether it has files",
+            "Prints the number of blocks of a disk, the form of its log, whether it has files, and its label",
         )
         .after_help("Nothing is written to FILE.")
         .arg(file_arg(alloc, "The file of the disk"))
@@ -231,11 +302,6 @@ fn serve_command<'w>(alloc: Global) -> Result<Command<'w>, AllocError> {
         .value_parser(value_parser!(u64).range(1..=64))
         .default_value("64")
         .help("How many connections are served at once, 1 to 64; further ones wait");
-    let region = Arg::new(alloc, REGION)
-        .long(REGION)
-        .value_name("FIRST:KIND")
-        .action(ArgAction::Append)
-        .help("The kind of the objects from block FIRST on; up to eight times, the first from 513");
     let slots = Arg::new(alloc, SLOTS_WORD)
         .long(SLOTS_WORD)
         .value_name("S")
@@ -249,7 +315,7 @@ fn serve_command<'w>(alloc: Global) -> Result<Command<'w>, AllocError> {
         .arg(socket_arg(alloc, "The socket to make"))?
         .arg(port)?
         .arg(connections)?
-        .arg(region)?
+        .arg(region_arg(alloc))?
         .arg(slots)
 }
 
@@ -279,6 +345,25 @@ fn nfs_command<'w>(alloc: Global) -> Result<Command<'w>, AllocError> {
         .arg(file_arg(alloc, "The file of the disk"))?
         .arg(port)?
         .arg(address)
+}
+
+// The number of blocks of a disk.
+fn blocks_arg<'w>(alloc: Global, help: &'w str) -> Arg<'w> {
+    Arg::new(alloc, BLOCKS)
+        .long(BLOCKS)
+        .value_name("N")
+        .required(true)
+        .value_parser(value_parser!(u64).range(532..=1099511627776))
+        .help(help)
+}
+
+// The regions of a disk.
+fn region_arg<'w>(alloc: Global) -> Arg<'w> {
+    Arg::new(alloc, REGION)
+        .long(REGION)
+        .value_name("FIRST:KIND")
+        .action(ArgAction::Append)
+        .help("The kind of the objects from block FIRST on; up to eight times, the first from 513")
 }
 
 // The socket that a subcommand is for.

@@ -1,21 +1,25 @@
 // What the subcommands do with disks in files.
-ghost use Rattle.std.specs.Prelude.{◌≤◌, ◌↔◌, IsTrue, IfOk};
-ghost use Rattle.journal_world.specs.declared.layout.TheConstants.{MIN_BLOCKS, MAX_BLOCKS, MAX_LAYOUT_BLOCKS};
 
 use crate::checking::sound_version;
 use crate::fault::Fault;
-use journal_disk::{BlockDisk, FileDisk};
-use journal_form::{Inspected, LogForm, change_form, inspect};
+use crate::labels::label_of;
+use crate::regions::{RegionWords, Regions};
+use journal_disk::BlockDisk;
+use journal_form::{LogForm, change_form};
 use journal_inode::FormatVersion;
-use journal_program::{create_new_disk, open_settled, open_to_check};
-use journal_world::{MAX_BLOCKS, MAX_LAYOUT_BLOCKS, MIN_BLOCKS, Refused};
+use journal_program::{
+    DiskFacts, FoundDisk, Label, SizedDisk, ToCheck, create_labeled_disk, find_disk, is_disk_size,
+    open_to_check,
+};
+use journal_world::Refused;
 use std::alloc::Global;
-use std::fs;
 use std::fs::{File, Files};
 use std::io::Write;
+use std::{fs, io};
 
 /// Makes an empty disk of this number of blocks, 532 to 2^40, in a new file at the path. Its log is
-/// sealed.
+/// sealed, and its label has the number of blocks and the regions of its layout. Where none are
+/// named, these are those of files if so few blocks have them, and else the label has none.
 ///
 /// Refused where anything is at the path, which stays as it is. Where it is refused later, the new
 /// file is removed.
@@ -24,13 +28,14 @@ pub fn create<'w, R: Files<File = File>>(
     alloc: Global,
     path: &'w str,
     blocks: u64,
+    regions: Option<Regions>,
 ) -> Result<(), Fault<'w>> {
-    if !is_disk_size(blocks) {
+    let Some(label) = label_of(blocks, regions) else {
         return Err(Fault::NoDisk { path, blocks });
-    }
-    let disk = match create_new_disk(rt, path, blocks) {
+    };
+    let disk = match create_labeled_disk(rt, alloc, path, &label) {
         Ok(disk) => disk,
-        Err(why) => return Err(Fault::File { path, why }),
+        Err(why) => return Err(Fault::unopened(path, why)),
     };
     let sealed = give_form(alloc, path, disk, LogForm::Sealed);
     if sealed.is_err() {
@@ -41,8 +46,8 @@ pub fn create<'w, R: Files<File = File>>(
     Ok(())
 }
 
-/// Prints the number of blocks of the disk, the form of its log, and whether it is a disk of the
-/// file service. Nothing is written to it.
+/// Prints the number of blocks of the disk, the form of its log, whether it is a disk of the file
+/// service, whether it has a label, and the regions that this has. Nothing is written to it.
 pub fn info<'w, R: Files<File = File>, O: Write, E: Write>(
     rt: &R,
     alloc: Global,
@@ -50,18 +55,20 @@ pub fn info<'w, R: Files<File = File>, O: Write, E: Write>(
     output: &mut O,
     faults: &mut E,
 ) -> Result<(), Fault<'w>> {
-    let inspected = inspect_file(rt, alloc, path, faults)?;
-    let files = if inspected.has_files { "yes" } else { "no" };
-    let printed = writeln!(
-        output,
-        "blocks {}\nlog {}\nfiles {files}",
-        inspected.disk.size(),
-        inspected.form.name()
-    )
-    .and_then(|()| output.flush());
-    match printed {
+    let facts = open_to_read(rt, alloc, path, faults)?.facts;
+    match print_facts(&facts, output).and_then(|()| output.flush()) {
         Ok(()) => Ok(()),
         Err(_) => Err(Fault::CannotWrite),
+    }
+}
+
+fn print_facts<O: Write>(facts: &DiskFacts, output: &mut O) -> io::Result<()> {
+    let form = facts.form.name();
+    let files = if facts.has_files { "yes" } else { "no" };
+    writeln!(output, "blocks {}\nlog {form}\nfiles {files}", facts.blocks)?;
+    match facts.label {
+        Some(label) => writeln!(output, "label yes\nregions {}", RegionWords(label.told())),
+        None => writeln!(output, "label no"),
     }
 }
 
@@ -74,11 +81,11 @@ pub fn check<'w, R: Files<File = File>, O: Write, E: Write>(
     output: &mut O,
     faults: &mut E,
 ) -> Result<(), Fault<'w>> {
-    let inspected = inspect_file(rt, alloc, path, faults)?;
-    if !inspected.has_files {
+    let opened = open_to_read(rt, alloc, path, faults)?;
+    if !opened.facts.has_files {
         return print_line(output, "sound", "");
     }
-    match sound_version(alloc, inspected.disk) {
+    match sound_version(alloc, opened.disk.disk()) {
         Ok(FormatVersion::One) => print_line(output, "sound", " version 1"),
         Ok(FormatVersion::Two) => print_line(output, "sound", " version 2"),
         Err(why) => Err(Fault::Refused { path, why }),
@@ -86,7 +93,7 @@ pub fn check<'w, R: Files<File = File>, O: Write, E: Write>(
 }
 
 /// Gives the log of the disk this form, and prints the form. Where the log has it already, that is
-/// printed, and nothing is written.
+/// printed, and no byte is changed.
 pub fn seal<'w, R: Files<File = File>, O: Write>(
     rt: &R,
     alloc: Global,
@@ -94,39 +101,30 @@ pub fn seal<'w, R: Files<File = File>, O: Write>(
     form: LogForm,
     output: &mut O,
 ) -> Result<(), Fault<'w>> {
-    let was = give_form(alloc, path, open(rt, path)?, form)?;
+    let disk = settle(path, find(rt, alloc, path)?)?;
+    let was = give_form(alloc, path, disk, form)?;
     let already = if was == form { " already" } else { "" };
     print_line(output, form.name(), already)
 }
 
-/// The disk in the file at the path, on which nothing is pending, and which no other program uses
-/// as long as it is open.
-pub fn open<'w, R: Files<File = File>>(rt: &R, path: &'w str) -> Result<FileDisk, Fault<'w>> {
-    match open_settled(rt, path) {
-        Ok(settled) => Ok(settled.disk()),
-        Err(why) => Err(Fault::File { path, why }),
+/// Looks at the disk in the file at the path, which no other program uses as long as it is open.
+/// Nothing is written to it.
+pub fn find<'w, R: Files<File = File>>(
+    rt: &R,
+    alloc: Global,
+    path: &'w str,
+) -> Result<FoundDisk, Fault<'w>> {
+    match find_disk(rt, alloc, path) {
+        Ok(found) => Ok(found),
+        Err(why) => Err(Fault::unopened(path, why)),
     }
 }
 
-/// Reads what the disk that was opened from the path is. Nothing is written to it. One of more than
-/// 33299 blocks has no files, whatever its blocks have.
-pub fn inspect_disk<'w>(
-    alloc: Global,
-    path: &'w str,
-    disk: FileDisk,
-) -> Result<Inspected<FileDisk>, Fault<'w>>
-    ensures { IfOk result (λ told. IsTrue told.has_files → told.disk.size ≤ MAX_BLOCKS) }
-{
-    let blocks = disk.size();
-    if !is_disk_size(blocks) {
-        return Err(Fault::NoDisk { path, blocks });
-    }
-    match inspect(alloc, disk) {
-        Ok(told) => {
-            let has_files = told.has_files && told.disk.size() <= MAX_BLOCKS;
-            Ok(Inspected { has_files, ..told })
-        }
-        Err(Refused { refusal, .. }) => Err(Fault::Refused { path, why: refusal }),
+/// The disk that was found in the file at the path, once what it reads is stable.
+pub fn settle<'w>(path: &'w str, found: FoundDisk) -> Result<SizedDisk, Fault<'w>> {
+    match found.settle() {
+        Ok(settled) => Ok(settled.disk()),
+        Err(why) => Err(Fault::File { path, why }),
     }
 }
 
@@ -139,32 +137,23 @@ pub fn print_line<'w, O: Write>(output: &mut O, word: &str, more: &str) -> Resul
 }
 
 // Opens the disk in the file at the path to be read, and reads what it is.
-fn inspect_file<'w, R: Files<File = File>, E: Write>(
+fn open_to_read<'w, R: Files<File = File>, E: Write>(
     rt: &R,
     alloc: Global,
     path: &'w str,
     faults: &mut E,
-) -> Result<Inspected<FileDisk>, Fault<'w>> {
-    let opened = match open_to_check(rt, path) {
-        Ok(opened) => opened,
-        Err(why) => return Err(Fault::File { path, why }),
-    };
-    opened.warn(path, faults);
-    inspect_disk(alloc, path, opened.disk.disk())
-}
-
-// Whether a disk of some layout has so many blocks.
-fn is_disk_size(blocks: u64) -> bool
-    ensures { IsTrue result ↔ ((MIN_BLOCKS ≤ blocks) × (blocks ≤ MAX_LAYOUT_BLOCKS)) }
-{
-    (MIN_BLOCKS..=MAX_LAYOUT_BLOCKS).contains(&blocks)
+) -> Result<ToCheck, Fault<'w>> {
+    match open_to_check(rt, alloc, path, faults) {
+        Ok(opened) => Ok(opened),
+        Err(why) => Err(Fault::unopened(path, why)),
+    }
 }
 
 // Gives the log of the disk this form, and answers the form that it had.
 fn give_form<'w>(
     alloc: Global,
     path: &'w str,
-    disk: FileDisk,
+    disk: SizedDisk,
     form: LogForm,
 ) -> Result<LogForm, Fault<'w>> {
     let blocks = disk.size();

@@ -1,9 +1,9 @@
 // The files of a disk are served so that clients mount them.
 
-use crate::disks::{inspect_disk, open};
+use crate::disks::find;
 use crate::fault::Fault;
+use crate::labels::refuse_other_regions;
 use journal_mount3::Exported;
-use journal_program::Settled;
 use journal_service::Endpoint;
 use std::alloc::Global;
 use std::fs::{File, Files};
@@ -38,10 +38,15 @@ pub fn export<
     output: &mut O,
     faults: &mut E,
 ) -> Result<(), Fault<'w>> {
-    let inspected = inspect_disk(alloc, path, open(rt, path)?)?;
-    if !inspected.has_files {
+    let found = find(rt, alloc, path)?;
+    if !found.facts.has_files {
         return Err(Fault::HasNoFiles { path });
     }
+    refuse_other_regions(path, &found.facts)?;
+    let disk = match found.settle() {
+        Ok(disk) => disk,
+        Err(why) => return Err(Fault::File { path, why }),
+    };
     if !endpoint.address.is_loopback() {
         // The service does not depend on whether the warning can be printed.
         let _ = writeln!(
@@ -50,7 +55,6 @@ pub fn export<
             endpoint.address
         );
     }
-    let disk = Settled::unwritten(inspected.disk);
     match journal_service::export::<Exported, R, O, E>(rt, alloc, disk, endpoint, output, faults) {
         Ok(()) => Ok(()),
         Err(why) => Err(Fault::unserved(path, why)),

@@ -1,6 +1,8 @@
 // Why the program fails.
 ghost use Rattle.std.specs.Prelude.{◌≤◌};
 
+use crate::regions::OtherRegions;
+use journal_program::{LabelFault, OpenFault};
 use journal_records::Refused as Answered;
 use journal_service::ServiceFault;
 use journal_world::{
@@ -18,33 +20,93 @@ pub enum Fault<'w> {
     /// The words are no command.
     NoCommand,
     /// This text is no address of version 4 of IP.
-    NoAddress { text: &'w str },
+    NoAddress {
+        text: &'w str,
+    },
     /// This text is no region.
-    NoRegion { text: &'w str },
+    NoRegion {
+        text: &'w str,
+    },
     /// There are more regions than a layout has.
     TooManyRegions,
     /// The regions do not begin at block 513, or do not rise.
     BadRegions,
     /// This number of slots is even, or too large.
-    BadSlots { slots: u16 },
+    BadSlots {
+        slots: u16,
+    },
     /// The file at the path cannot be used, for the system's reason.
-    File { path: &'w str, why: io::Error },
+    File {
+        path: &'w str,
+        why: io::Error,
+    },
     /// The file at the path has this number of blocks, which no disk has.
-    NoDisk { path: &'w str, blocks: u64 },
+    NoDisk {
+        path: &'w str,
+        blocks: u64,
+    },
     /// The disk in the file at the path has more blocks than one with the layout of files.
-    NeedsRegions { path: &'w str, blocks: u64 },
+    NeedsRegions {
+        path: &'w str,
+        blocks: u64,
+    },
+    /// The label of the disk in the file at the path is not that of the file.
+    Label {
+        path: &'w str,
+        why: LabelFault,
+    },
+    /// The disk in the file at the path has a label already.
+    HasLabel {
+        path: &'w str,
+    },
+    /// The label of the disk in the file at the path tells other regions than those that were
+    /// asked for.
+    OtherRegions {
+        path: &'w str,
+        regions: OtherRegions,
+    },
+    /// The disk in the file at the path has a label that tells no regions, and would have more
+    /// blocks than one with the layout of files.
+    TellsNoRegions {
+        path: &'w str,
+    },
+    /// The disk in the file at the path has this number of blocks, and fewer were asked for.
+    Smaller {
+        path: &'w str,
+        blocks: u64,
+    },
+    /// The disk in the file at the path is one of the file service, which tells its size itself.
+    CannotGrow {
+        path: &'w str,
+    },
     /// The disk in the file at the path was refused.
-    Refused { path: &'w str, why: Refusal<()> },
+    Refused {
+        path: &'w str,
+        why: Refusal<()>,
+    },
     /// The disk in the file at the path is one of the file service.
-    HasFiles { path: &'w str },
+    HasFiles {
+        path: &'w str,
+    },
     /// The disk in the file at the path is none of the file service.
-    HasNoFiles { path: &'w str },
+    HasNoFiles {
+        path: &'w str,
+    },
     /// The port cannot be had, or the system refuses connections.
     CannotListen,
     /// The service at the socket gave no answer, or one that is none to what it was asked.
-    NoAnswer { socket: &'w str },
+    NoAnswer {
+        socket: &'w str,
+    },
+    /// The service at the socket is to end, and has not ended yet.
+    NotEnded {
+        socket: &'w str,
+    },
     /// The service at the socket refused to end.
-    NotStopped { socket: &'w str, why: Answered },
+    NotStopped {
+        socket: &'w str,
+        why: Answered,
+    },
     /// Memory was refused, or a thread.
     NoMemory,
     /// Standard output failed.
@@ -60,6 +122,16 @@ impl<'w> Fault<'w> {
         }
     }
 
+    /// The disk in the file at the path was not opened.
+    pub fn unopened(path: &'w str, why: OpenFault) -> Fault<'w> {
+        match why {
+            OpenFault::File(why) => Fault::File { path, why },
+            OpenFault::NoDisk { blocks } => Fault::NoDisk { path, blocks },
+            OpenFault::Label(why) => Fault::Label { path, why },
+            OpenFault::Refused(why) => Fault::Refused { path, why },
+        }
+    }
+
     /// The disk in the file at the path was not served to the end.
     pub fn unserved(path: &'w str, why: ServiceFault) -> Fault<'w> {
         match why {
@@ -68,6 +140,7 @@ impl<'w> Fault<'w> {
                 why: io::Error::from(ErrorKind::Other),
             },
             ServiceFault::CannotListen => Fault::CannotListen,
+            ServiceFault::Label(why) => Fault::Label { path, why },
             ServiceFault::Refused(why) => Fault::Refused { path, why },
             ServiceFault::CannotWrite => Fault::CannotWrite,
         }
@@ -106,11 +179,18 @@ impl<'w> Fault<'w> {
             Fault::File { .. }
             | Fault::NoDisk { .. }
             | Fault::NeedsRegions { .. }
+            | Fault::Label { .. }
+            | Fault::HasLabel { .. }
+            | Fault::OtherRegions { .. }
+            | Fault::TellsNoRegions { .. }
+            | Fault::Smaller { .. }
+            | Fault::CannotGrow { .. }
             | Fault::Refused { .. }
             | Fault::HasFiles { .. }
             | Fault::HasNoFiles { .. }
             | Fault::CannotListen
             | Fault::NoAnswer { .. }
+            | Fault::NotEnded { .. }
             | Fault::NotStopped { .. }
             | Fault::NoMemory
             | Fault::CannotWrite => 1,
@@ -154,6 +234,26 @@ impl<'w> Fault<'w> {
                 faults,
                 "jnl: {path} has {blocks} blocks, and more than {MAX_BLOCKS} are served by --region alone"
             ),
+            Fault::Label { path, why } => writeln!(faults, "jnl: {path} {why}"),
+            Fault::HasLabel { path } => writeln!(
+                faults,
+                "jnl: {path} has a label already; with --again it gets another one"
+            ),
+            Fault::OtherRegions { path, regions } => {
+                writeln!(faults, "jnl: {path} has the regions {regions}")
+            }
+            Fault::TellsNoRegions { path } => writeln!(
+                faults,
+                "jnl: {path} has no regions in its label, without which a disk has at most {MAX_BLOCKS} blocks"
+            ),
+            Fault::Smaller { path, blocks } => writeln!(
+                faults,
+                "jnl: {path} has {blocks} blocks, and a disk never gets fewer"
+            ),
+            Fault::CannotGrow { path } => writeln!(
+                faults,
+                "jnl: {path} is a disk of the file service, which cannot grow"
+            ),
             Fault::Refused { path, why } => {
                 writeln!(faults, "jnl: {path} is refused: {}", why.name())
             }
@@ -168,6 +268,9 @@ impl<'w> Fault<'w> {
             Fault::CannotListen => writeln!(faults, "jnl: cannot listen"),
             Fault::NoAnswer { socket } => {
                 writeln!(faults, "jnl: the service at {socket} gave no answer")
+            }
+            Fault::NotEnded { socket } => {
+                writeln!(faults, "jnl: the service at {socket} has not ended yet")
             }
             Fault::NotStopped { socket, why } => {
                 writeln!(faults, "jnl: the service at {socket} goes on: {why:?}")

@@ -1,6 +1,7 @@
 //! The journal at the command line. `jnl create` makes an empty disk in a file, `jnl info` prints
 //! what a disk is, `jnl check` whether it is sound, and `jnl seal` gives its log the form with one
-//! barrier a group, or the plain form again. `jnl serve` serves a disk to programs in any language,
+//! barrier a group, or the plain form again. `jnl label` gives a disk its label, and `jnl grow` more
+//! blocks. `jnl serve` serves a disk to programs in any language,
 //! and `jnl stop` ends such a service. `jnl nfs` serves the files of a disk of the file service so
 //! that a Linux machine mounts them. `jnl --help` is the manual.
 #![tactic(auto)]
@@ -12,6 +13,7 @@ mod command;
 mod disks;
 mod exporting;
 mod fault;
+mod labels;
 mod listener;
 mod peer;
 mod queue;
@@ -19,8 +21,6 @@ mod regions;
 mod serving;
 mod socket;
 mod stopping;
-#[cfg(test)]
-mod tests;
 mod working;
 
 use command::Subcommand;
@@ -77,7 +77,17 @@ fn obey<
     faults: &mut E,
 ) -> Result<(), Fault<'w>> {
     match Subcommand::parse(alloc, words)? {
-        Subcommand::Create { path, blocks } => disks::create(rt, alloc, path, blocks),
+        Subcommand::Create {
+            path,
+            blocks,
+            regions,
+        } => disks::create(rt, alloc, path, blocks, regions),
+        Subcommand::Label {
+            path,
+            regions,
+            again,
+        } => labels::label(rt, alloc, path, regions, again, output),
+        Subcommand::Grow { path, blocks } => labels::grow(rt, alloc, path, blocks, output),
         Subcommand::Info { path } => disks::info(rt, alloc, path, output, faults),
         Subcommand::Check { path } => disks::check(rt, alloc, path, output, faults),
         Subcommand::Seal { path, form } => disks::seal(rt, alloc, path, form, output),

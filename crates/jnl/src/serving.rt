@@ -1,18 +1,18 @@
 // A disk is served to programs in any language.
 ghost use Rattle.std.specs.Prelude.{◌≡◌, IfOk};
 ghost use Rattle.journal_world.specs.Files.{shape};
-ghost use Rattle.jnl.specs.Layouts.{asked_shape};
+ghost use Rattle.jnl.specs.Layouts.{asked_shape, told_or, told_of};
 
-use crate::disks::{inspect_disk, open, print_line};
+use crate::disks::{find, print_line, settle};
 use crate::fault::Fault;
+use crate::labels::told;
 use crate::listener::Listener;
 use crate::regions::AskedLayout;
 use crate::socket;
 use crate::working::{FileJournal, Listeners, OpenDisk, Workers, WorkersFault};
-use journal_disk::{BlockDisk, FileDisk};
 use journal_history::{Book, Naming};
 use journal_lockmap::SlotCell;
-use journal_program::Daemon;
+use journal_program::{Daemon, DiskFacts, SizedDisk};
 use journal_twophase::{Journal, MAX_CACHED_BLOCKS};
 use journal_world::{AnyMap, Layout, Refused};
 use std::alloc::Global;
@@ -36,7 +36,7 @@ pub struct Service<'w> {
     pub port: Option<u16>,
     /// How many connections are served at once.
     pub connections: u64,
-    /// The layout of the disk, whatever number of blocks it has.
+    /// The layout that is asked for, whatever number of blocks the disk has.
     pub layout: AskedLayout,
 }
 
@@ -44,16 +44,17 @@ pub struct Service<'w> {
 #[derive(Drop)]
 struct LaidOut {
     layout: Layout,
-    disk: FileDisk,
+    disk: SizedDisk,
 }
 
 /// Serves the disk in the file until a client ends the service. Prints where it listens before the
 /// first connection is accepted, and that it has stopped once all commits are stable and the socket
 /// is gone.
 ///
-/// Refused where another program uses the disk, where the disk is one of the file service, whose
-/// files would not stay sound, where the layout is not one of so many blocks, and as the opening of
-/// the journal is. Nothing listens then.
+/// Refused where another program uses the disk, where its label is not that of the file or tells
+/// other regions, where the disk is one of the file service, whose files would not stay sound,
+/// where the layout is not one of so many blocks, and as the opening of the journal is. Nothing
+/// listens then.
 pub fn serve<
     'w,
     R: Files<File = File>
@@ -64,12 +65,13 @@ pub fn serve<
         + Sync,
     O: Write,
 >(rt: &R, alloc: Global, service: Service<'w>, output: &mut O) -> Result<(), Fault<'w>> {
-    let disk = open(rt, service.path)?;
-    let inspected = inspect_disk(alloc, service.path, disk)?;
-    if inspected.has_files {
+    let found = find(rt, alloc, service.path)?;
+    if found.facts.has_files {
         return Err(Fault::HasFiles { path: service.path });
     }
-    let disk = lay_out(inspected.disk, service)?;
+    let layout = lay_out(&found.facts, service)?;
+    let disk = settle(service.path, found)?;
+    let disk = LaidOut { layout, disk };
     let listeners = open_listeners(rt, alloc, service, output)?;
     let served = serve_disk(rt, alloc, disk, service, &listeners, output);
     socket::remove(rt, service.socket);
@@ -77,19 +79,21 @@ pub fn serve<
     print_line(output, "stopped", "")
 }
 
-// The disk with the layout that is asked for. One that is a disk has too many blocks where it is
-// refused.
-fn lay_out<'w>(disk: FileDisk, service: Service<'w>) -> Result<LaidOut, Fault<'w>>
-    ensures { IfOk result (λ laid. shape laid.layout
-        ≡ asked_shape service.entry.layout.regions service.entry.layout.slots disk.size) }
+// The layout of a disk: the regions that its label tells, or else those that are asked for, and the
+// slots that are asked for. Where there are neither and too many blocks for files, it is refused.
+fn lay_out<'w>(facts: &DiskFacts, service: Service<'w>) -> Result<Layout, Fault<'w>>
+    ensures { IfOk result (λ layout. shape layout ≡ asked_shape
+        (told_or (told_of facts.now.label) service.entry.layout.regions) service.entry.layout.slots facts.now.blocks) }
 {
-    let blocks = disk.size();
-    match service.layout.layout(blocks) {
-        Some(layout) => Ok(LaidOut { layout, disk }),
-        None => Err(Fault::NeedsRegions {
-            path: service.path,
-            blocks,
-        }),
+    let path = service.path;
+    let asked = match service.layout.with_told(told(facts)) {
+        Ok(asked) => asked,
+        Err(regions) => return Err(Fault::OtherRegions { path, regions }),
+    };
+    let blocks = facts.blocks;
+    match asked.layout(blocks) {
+        Some(layout) => Ok(layout),
+        None => Err(Fault::NeedsRegions { path, blocks }),
     }
 }
 

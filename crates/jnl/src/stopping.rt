@@ -3,17 +3,53 @@
 use crate::fault::Fault;
 use journal_records::{Answer, Input, Next, Request, VERSION, write_request};
 use std::alloc::Global;
+use std::fs::Files;
 use std::io::{Read, Write};
 use std::net::Net;
+use std::os::unix::fs::MetadataExt;
 use std::os::unix::net::UnixStream;
+use std::time::{Clock, Duration};
+use std::{fs, thread};
 
 // The most bytes that are read at once.
 const PIECE_BYTES: usize = 4096;
 
-/// Ends the service at the socket, and waits until all its commits are stable.
+// How often it is looked whether a service has ended, and how long the looks are apart: a minute in
+// all.
+const LOOKS: u64 = 6000;
+
+const PAUSE_MILLIS: u64 = 10;
+
+/// Ends the service at the socket, and waits until all its commits are stable, the disk is closed
+/// and unlocked, and the socket is gone.
 ///
-/// Refused where no service answers there, and where it refuses to end.
-pub fn stop<'w, R: Net>(rt: &R, alloc: Global, socket: &'w str) -> Result<(), Fault<'w>> {
+/// Refused where no service answers there, where it refuses to end, and where it has not ended
+/// within a minute.
+pub fn stop<'w, R: Files + Net + Clock>(
+    rt: &R,
+    alloc: Global,
+    socket: &'w str,
+) -> Result<(), Fault<'w>> {
+    let node = node_at(rt, socket);
+    ask_to_stop(rt, alloc, socket)?;
+    for _ in 0..LOOKS {
+        // A service removes its socket once its disk is closed. Another one may be there by then.
+        if node_at(rt, socket) != node {
+            return Ok(());
+        }
+        thread::sleep(rt, Duration::from_millis(PAUSE_MILLIS));
+    }
+    Err(Fault::NotEnded { socket })
+}
+
+// The number of the socket's node in its file system, where there is one.
+fn node_at<R: Files>(rt: &R, socket: &str) -> Option<u64> {
+    let found = fs::symlink_metadata(rt, socket).ok()?;
+    Some(found.ino())
+}
+
+// Asks the service at the socket to end, and waits until all its commits are stable.
+fn ask_to_stop<'w, R: Net>(rt: &R, alloc: Global, socket: &'w str) -> Result<(), Fault<'w>> {
     let mut stream = match UnixStream::connect(rt, socket) {
         Ok(stream) => stream,
         Err(why) => return Err(Fault::File { path: socket, why }),

@@ -4,9 +4,9 @@ ghost use Rattle.std.specs.Prelude.{◌≡◌};
 use crate::listener::{Closer, Listener};
 use crate::peer::{Incoming, Outgoing, Peer};
 use crate::queue::{Accepted, Queue};
-use journal_disk::FileDisk;
 use journal_history::Naming;
 use journal_port::{End, Terms, serve};
+use journal_program::SizedDisk;
 use journal_twophase::Journal;
 use journal_world::AnyMap;
 use std::alloc::Global;
@@ -17,7 +17,7 @@ use std::time::Clock;
 use std::{io, thread};
 
 /// A journal over a file that admits every map.
-pub type FileJournal<'b, J> = Journal<'b, FileDisk, AnyMap, J>;
+pub type FileJournal<'b, J> = Journal<'b, SizedDisk, AnyMap, J>;
 
 /// What is served.
 pub struct OpenDisk<'j, 'b, J: Naming> {

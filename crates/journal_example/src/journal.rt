@@ -4,9 +4,9 @@ ghost use Rattle.journal_world.specs.Files.{files};
 
 use crate::counter::{add_one, look};
 use journal_daemon::{OpenGate, start};
-use journal_disk::FileDisk;
 use journal_history::{Book, Naming, Session};
 use journal_lockmap::SlotCell;
+use journal_program::SizedDisk;
 use journal_twophase::{Journal, JournalRefusal};
 use journal_world::AnyMap;
 use std::alloc::Global;
@@ -19,14 +19,14 @@ use std::thread::{Threads, join};
 #[derive(Clone, Copy, Debug)]
 pub struct Refused;
 
-type Counters<'b, J> = Journal<'b, FileDisk, AnyMap, J>;
+type Counters<'b, J> = Journal<'b, SizedDisk, AnyMap, J>;
 
 /// Opens a journal over the disk, adds 1 so often in each of four threads, and gives the disk up.
 /// What the counter was before, and what it is then, all of it stable.
 pub fn count_in<R: Threads + Wait + Clock + Sync>(
     rt: &R,
     alloc: Global,
-    disk: FileDisk,
+    disk: SizedDisk,
     times: u32,
 ) -> Result<(u64, u64), Refused> {
     // The book has the history of one journal, and the cell its slots. The brand names all three,
@@ -45,7 +45,7 @@ fn count_in_book<J: Naming + Send + Sync, R: Threads + Wait + Clock + Sync>(
     alloc: Global,
     book: &Book<AnyMap>,
     cell: SlotCell,
-    disk: FileDisk,
+    disk: SizedDisk,
     times: u32,
 ) -> Result<(u64, u64), Refused>
     requires book { book.now ≡ J.book }

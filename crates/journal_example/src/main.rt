@@ -1,17 +1,19 @@
 //! A program over the journal: a counter in a file, to which four threads add, each in transactions
 //! of its own.
 //!
-//! It is what an author of a server starts from. A disk in a file, locked against other programs
-//! (`file`); a journal over it, with the logger and the installer beside the threads that commit
+//! It is what an author of a server starts from. A disk in a file, opened as each program opens it
+//! that writes to one (`file`); a journal over it, with the logger and the installer beside the threads that commit
 //! (`journal`); a session and transactions for each thread (`counter`). It prints what the counter
 //! was and what it is, and once more what it is after the disk was given up and opened again.
 #![tactic(auto)]
 
 mod counter;
+mod fault;
 mod file;
 mod journal;
 
-use journal::{Refused, count_in};
+use fault::Fault;
+use journal::count_in;
 use std::alloc::Global;
 use std::env::Env;
 use std::fs::{File, Files};
@@ -31,11 +33,12 @@ fn run<R: Files<File = File> + Threads + Wait + Clock + Sync, O: Write>(
     alloc: Global,
     path: &str,
     output: &mut O,
-) -> io::Result<()> {
+) -> Result<(), Fault> {
     let (before, after) = count(rt, alloc, path, TIMES)?;
     writeln!(output, "counted from {before} to {after}")?;
     let (found, _) = count(rt, alloc, path, 0)?;
-    writeln!(output, "found {found} on opening it again")
+    writeln!(output, "found {found} on opening it again")?;
+    Ok(())
 }
 
 /// Opens the disk, and adds 1 so often in each of four threads. What the counter was, and what it
@@ -45,31 +48,29 @@ fn count<R: Files<File = File> + Threads + Wait + Clock + Sync>(
     alloc: Global,
     path: &str,
     times: u32,
-) -> io::Result<(u64, u64)> {
-    let disk = file::open_or_make(rt, path)?;
-    match count_in(rt, alloc, disk, times) {
-        Ok(counted) => Ok(counted),
-        Err(Refused) => Err(io::Error::from(io::ErrorKind::Other)),
-    }
+) -> Result<(u64, u64), Fault> {
+    let disk = file::open_or_make(rt, alloc, path)?;
+    let counted = count_in(rt, alloc, disk, times)?;
+    Ok(counted)
 }
 
 /// Does that where the program was given one word, the path.
 fn start<R: Env + AllocGlobal + Files<File = File> + Threads + Wait + Clock + Sync, O: Write>(
     rt: &R,
     output: &mut O,
-) -> io::Result<()> {
+) -> Result<(), Fault> {
     let words: Vec<String> = env::args(rt)?.skip(1).collect(rt.alloc())?;
     match words.as_slice() {
         [path] => run(rt, rt.alloc(), path.as_str(), output),
-        _ => Err(io::Error::from(io::ErrorKind::InvalidInput)),
+        _ => Err(Fault::Stream(io::Error::from(io::ErrorKind::InvalidInput))),
     }
 }
 
 fn main(rt: HostRuntime) -> ExitCode {
     match start(&rt, &mut rt.stdout()) {
         Ok(()) => ExitCode::from(0),
-        Err(error) => {
-            let _ = writeln!(rt.stderr(), "{error}");
+        Err(fault) => {
+            let _ = writeln!(rt.stderr(), "{fault}");
             ExitCode::from(1)
         }
     }

@@ -3,20 +3,38 @@
 //! journal in threads of their own.
 //!
 //! All programs take one lock, so a disk has one program at a time. A disk is opened as a journal
-//! only once nothing is pending on it: `Settled`.
+//! only once nothing is pending on it: `Settled`. One that is to be written is looked at first, and
+//! then settled (`FoundDisk`): its log is written as it reads, and all writes are made stable. For
+//! where a sync failed before, reads give what the device lacks and no later sync keeps.
 //!
 //! No contract says anything of what a file holds, because no proof can say that a file keeps what
 //! was written to it.
 #![tactic(auto)]
 
+mod checking;
 mod daemon;
+mod disk;
+mod fault;
 mod file;
+mod inspecting;
+mod label;
+mod labeling;
+mod opening;
+mod relabeling;
+mod rewriting;
 mod room;
 mod settled;
 mod streams;
 mod system;
 
+pub use checking::{ToCheck, open_to_check};
 pub use daemon::Daemon;
-pub use file::{ToCheck, create_disk, create_new_disk, open_settled, open_to_check};
+pub use disk::SizedDisk;
+pub use fault::{LabelFault, OpenFault};
+pub use file::{create_disk, create_labeled_disk, create_new_disk};
+pub use inspecting::DiskFacts;
+pub use label::{BadLabel, Label, UNTOLD, is_disk_size};
+pub use opening::{FoundDisk, find_disk, open_settled};
+pub use relabeling::{DiskToLabel, find_disk_to_label};
 pub use settled::Settled;
 pub use streams::hold_closed_streams;

@@ -7,14 +7,14 @@ use std::io;
 use std::io::ErrorKind;
 use std::os::unix::fs::FileExt;
 
-/// Writes zeros over the log and over what describes the disk, and makes them stable. A commit that
-/// has to wait for room in the file system takes many times as long as one that overwrites.
+/// Writes zeros over the log and over what describes the disk. A commit that has to wait for room in
+/// the file system takes many times as long as one that overwrites.
 pub(crate) fn take_room(file: &File) -> io::Result<()> {
     let zeros = [0u8; BLOCK_BYTES];
     for block in 0..FIRST_DATA {
         file.write_all_at(&zeros, block * BLOCK_BYTES as u64)?;
     }
-    file.sync_all()
+    Ok(())
 }
 
 /// Makes the file's name stable. Where the system keeps no folder so, or does not let it be read,

@@ -6,12 +6,11 @@ use crate::fault::ServiceFault;
 use crate::mounting::{Tried, mount, slot_cell};
 use crate::printing::print_line;
 use crate::serving::close;
-use journal_disk::FileDisk;
 use journal_filestore::{Fault, FileStore, Handle};
 use journal_history::{Book, Naming, Session};
 use journal_inode::{INODES, SoundFiles, Version, VersionOne, VersionTwo};
 use journal_lockmap::SlotCell;
-use journal_program::{Settled, open_to_check};
+use journal_program::{Settled, SizedDisk, open_to_check};
 use std::alloc::Global;
 use std::fs::{File, Files};
 use std::io::Write;
@@ -27,8 +26,8 @@ const ROOT: u32 = 1;
 /// Where the file may only be read, and the system locks or syncs no such file, that is told as a
 /// fault, and the disk is checked all the same.
 ///
-/// Refused as a mount is: J7 `BadLog` where its log is not well formed, J8 `BadSuper` where its
-/// files are sound in no version.
+/// Refused where its label is not that of the file, and as a mount is: J7 `BadLog` where its log is
+/// not well formed, J8 `BadSuper` where its files are sound in no version.
 pub fn check<R: Files<File = File> + Wait, O: Write, E: Write>(
     rt: &R,
     alloc: Global,
@@ -36,10 +35,10 @@ pub fn check<R: Files<File = File> + Wait, O: Write, E: Write>(
     output: &mut O,
     faults: &mut E,
 ) -> Result<(), ServiceFault> {
-    let Ok(opened) = open_to_check(rt, path) else {
-        return Err(ServiceFault::BadFile);
+    let opened = match open_to_check(rt, alloc, path, faults) {
+        Ok(opened) => opened,
+        Err(why) => return Err(ServiceFault::unopened(why)),
     };
-    opened.warn(path, faults);
     match count_in::<VersionTwo, R>(rt, alloc, opened.disk)? {
         Tried::Sound(files) => print_line(output, "sound version 2 files", files),
         Tried::Other(disk) => {
@@ -66,13 +65,13 @@ fn files_of<J: Naming, V: Version, W: Wait>(
     alloc: Global,
     book: &Book<SoundFiles<V>>,
     cell: SlotCell,
-    disk: FileDisk,
+    disk: SizedDisk,
 ) -> Result<Tried<u64>, ServiceFault>
     requires book { book.now ≡ J.book }
     requires cell { cell ≡ J.cell }
     requires layout { J.layout ≡ files disk.size }
 {
-    let files: FileStore<FileDisk, J, V> = match mount(alloc, book, cell, disk)? {
+    let files: FileStore<SizedDisk, J, V> = match mount(alloc, book, cell, disk)? {
         Tried::Sound(files) => files,
         Tried::Other(disk) => return Ok(Tried::Other(disk)),
     };
@@ -84,7 +83,7 @@ fn files_of<J: Naming, V: Version, W: Wait>(
 // How many names are files.
 fn count<'b, J: Naming, V: Version, W: Wait>(
     rt: &W,
-    files: &FileStore<'b, FileDisk, J, V>,
+    files: &FileStore<'b, SizedDisk, J, V>,
 ) -> Result<u64, ServiceFault> {
     let mut session = match files.journal().session(rt) {
         Ok(session) => session,
@@ -102,7 +101,7 @@ fn count<'b, J: Naming, V: Version, W: Wait>(
 // Whether there is a file of the name of this number.
 fn is_file<'b, J: Naming, V: Version, W: Wait>(
     rt: &W,
-    files: &FileStore<'b, FileDisk, J, V>,
+    files: &FileStore<'b, SizedDisk, J, V>,
     session: &mut Session<'b, J, SoundFiles<V>>,
     number: u32,
 ) -> Result<bool, ServiceFault> {

@@ -1,5 +1,6 @@
 // Why a disk was not made in a file, or not served.
 
+use journal_program::{LabelFault, OpenFault};
 use journal_world::Refusal;
 
 /// Why a disk was not made in a file, or not served to the end.
@@ -9,6 +10,8 @@ pub enum ServiceFault {
     BadFile,
     /// The port is not to be had, or the system refused a connection.
     CannotListen,
+    /// The label of the disk is not that of the file.
+    Label(LabelFault),
     /// What the service needs was refused, or the mount, or the close.
     Refused(Refusal<()>),
     /// The output failed.
@@ -16,6 +19,17 @@ pub enum ServiceFault {
 }
 
 impl ServiceFault {
+    /// The disk in a file was not opened. Where no disk has so many blocks, that is a mount's
+    /// refusal.
+    pub(crate) fn unopened(why: OpenFault) -> ServiceFault {
+        match why {
+            OpenFault::File(_) => ServiceFault::BadFile,
+            OpenFault::NoDisk { .. } => ServiceFault::Refused(Refusal::BadSuper),
+            OpenFault::Label(why) => ServiceFault::Label(why),
+            OpenFault::Refused(why) => ServiceFault::Refused(why),
+        }
+    }
+
     /// It was refused.
     pub(crate) fn refused<C: Drop>(why: Refusal<C>) -> ServiceFault {
         ServiceFault::Refused(why.with_cause(()))

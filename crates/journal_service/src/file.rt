@@ -4,10 +4,9 @@ ghost use Rattle.journal_world.specs.declared.layout.TheConstants.{MIN_BLOCKS, M
 
 use crate::clock;
 use crate::fault::ServiceFault;
-use journal_disk::{BlockDisk, FileDisk};
 use journal_inode::FormatVersion;
-use journal_program::{Settled, create_disk, open_settled};
-use journal_world::Refused;
+use journal_program::{FoundDisk, Settled, SizedDisk, create_disk, find_disk};
+use journal_world::{Refusal, Refused};
 use std::alloc::Global;
 use std::fs::{File, Files};
 use std::time::Clock;
@@ -26,8 +25,8 @@ pub fn format<R: Files<File = File> + Clock>(
     requires { (MIN_BLOCKS ≤ blocks) × (blocks ≤ MAX_BLOCKS) }
 {
     let disk = match create_disk(rt, path, blocks) {
-        Ok(disk) if disk.size() == blocks => disk,
-        _ => return Err(ServiceFault::BadFile),
+        Ok(disk) => disk,
+        Err(_) => return Err(ServiceFault::BadFile),
     };
     match journal_inode::format(alloc, disk, clock::now(rt), FormatVersion::Two) {
         Ok(_) => Ok(()),
@@ -35,17 +34,33 @@ pub fn format<R: Files<File = File> + Clock>(
     }
 }
 
-/// The disk in the file at the path, which no other program uses as long as it is open. Nothing of
-/// it is pending.
-pub(crate) fn open<R: Files<File = File>>(rt: &R, path: &str) -> Result<Settled, ServiceFault> {
-    match open_settled(rt, path) {
+/// The disk of the file service in the file at the path, which no other program uses as long as it
+/// is open. Nothing of it is pending.
+///
+/// Refused, with no byte changed, as `find_disk` is, but by J8 `BadSuper` where no disk has so many
+/// blocks; and by J8 where it is none of the file service.
+pub(crate) fn open<R: Files<File = File>>(
+    rt: &R,
+    alloc: Global,
+    path: &str,
+) -> Result<Settled, ServiceFault> {
+    match find_disk(rt, alloc, path) {
+        Ok(found) if found.facts.has_files => settle(found),
+        Ok(_) => Err(ServiceFault::Refused(Refusal::BadSuper)),
+        Err(why) => Err(ServiceFault::unopened(why)),
+    }
+}
+
+// The disk that was found, once what it reads is stable.
+fn settle(found: FoundDisk) -> Result<Settled, ServiceFault> {
+    match found.settle() {
         Ok(disk) => Ok(disk),
         Err(_) => Err(ServiceFault::BadFile),
     }
 }
 
 /// The disk that was given back, once all that was written to it is stable.
-pub(crate) fn settled(disk: FileDisk) -> Result<Settled, ServiceFault> {
+pub(crate) fn settled(disk: SizedDisk) -> Result<Settled, ServiceFault> {
     match Settled::by_barrier(disk) {
         Ok(disk) => Ok(disk),
         Err(_) => Err(ServiceFault::BadFile),

@@ -6,11 +6,11 @@ use crate::fault::ServiceFault;
 use crate::file;
 use crate::mounting::slot_cell;
 use crate::printing::give_up;
-use journal_disk::FileDisk;
 use journal_history::{Book, Naming};
 use journal_inode::FormatVersion;
 use journal_lockmap::SlotCell;
 use journal_migrate::EitherVersion;
+use journal_program::SizedDisk;
 use journal_world::Refused;
 use std::alloc::Global;
 use std::fs::{File, Files};
@@ -30,7 +30,7 @@ pub fn migrate<R: Files<File = File> + Wait, O: Write>(
     path: &str,
     output: &mut O,
 ) -> Result<(), ServiceFault> {
-    let disk = file::open(rt, path)?;
+    let disk = file::open(rt, alloc, path)?;
     let book: Book<EitherVersion> = Book::open::<()>().unwrap();
     let cell = slot_cell(alloc)?;
     let disk = migrated::<Brand, R>(rt, alloc, &book, cell, disk.disk())?;
@@ -48,13 +48,13 @@ fn migrated<J: Naming, W: Wait>(
     alloc: Global,
     book: &Book<EitherVersion>,
     cell: SlotCell,
-    disk: FileDisk,
-) -> Result<FileDisk, ServiceFault>
+    disk: SizedDisk,
+) -> Result<SizedDisk, ServiceFault>
     requires book { book.now ≡ J.book }
     requires cell { cell ≡ J.cell }
     requires layout { J.layout ≡ files disk.size }
 {
-    match journal_migrate::migrate::<FileDisk, J, W>(rt, alloc, book, cell, disk) {
+    match journal_migrate::migrate::<SizedDisk, J, W>(rt, alloc, book, cell, disk) {
         Ok(disk) => Ok(disk),
         Err(Refused { refusal, .. }) => Err(ServiceFault::refused(refusal)),
     }

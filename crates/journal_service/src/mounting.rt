@@ -3,12 +3,11 @@ ghost use Rattle.std.specs.Prelude.{◌≡◌};
 ghost use Rattle.journal_world.specs.Files.{files};
 
 use crate::fault::ServiceFault;
-use journal_disk::FileDisk;
 use journal_filestore::FileStore;
 use journal_history::{Book, Naming};
 use journal_inode::{SoundFiles, Version};
 use journal_lockmap::SlotCell;
-use journal_program::Settled;
+use journal_program::{Settled, SizedDisk};
 use journal_world::{Refusal, Refused};
 use std::alloc::Global;
 
@@ -45,8 +44,8 @@ pub(crate) fn mount<'b, J: Naming, V: Version>(
     alloc: Global,
     book: &'b Book<SoundFiles<V>>,
     cell: SlotCell,
-    disk: FileDisk,
-) -> Result<Tried<FileStore<'b, FileDisk, J, V>>, ServiceFault>
+    disk: SizedDisk,
+) -> Result<Tried<FileStore<'b, SizedDisk, J, V>>, ServiceFault>
     requires book { book.now ≡ J.book }
     requires cell { cell ≡ J.cell }
     requires layout { J.layout ≡ files disk.size }

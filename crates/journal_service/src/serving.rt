@@ -8,12 +8,12 @@ use crate::mounting::{Tried, mount, slot_cell};
 use crate::printing::{give_up, print_line};
 use crate::{clock, file};
 use journal_daemon::OpenGate;
-use journal_disk::{BlockDisk, FileDisk};
+use journal_disk::BlockDisk;
 use journal_filestore::FileStore;
 use journal_history::{Book, Naming};
 use journal_inode::{SoundFiles, Version, VersionOne, VersionTwo};
 use journal_lockmap::SlotCell;
-use journal_program::{Daemon, Settled};
+use journal_program::{Daemon, Settled, SizedDisk};
 use journal_server::{
     Listening, NineProcedures, Programs, Protocol, WaitingConnections, serve_all_by,
 };
@@ -91,8 +91,8 @@ pub fn export<
 /// first connection is taken, and how many were taken once all is stable and the disk is given up.
 /// Where the clock cannot be read, that is told as a fault, and the disk is served all the same.
 ///
-/// Refused as a mount is: J7 `BadLog` where its log is not well formed, J8 `BadSuper` where its
-/// files are sound in no version.
+/// Refused where its label is not that of the file, and as a mount is: J7 `BadLog` where its log is
+/// not well formed, J8 `BadSuper` where its files are sound in no version.
 pub fn serve<
     R: Files<File = File>
         + Net<Listener = TcpListener, Stream = TcpStream>
@@ -119,7 +119,7 @@ pub fn serve<
         port,
         connections,
     };
-    let disk = file::open(rt, path)?;
+    let disk = file::open(rt, alloc, path)?;
     carry_out::<NineProcedures, R, O, E>(rt, alloc, disk, plan, output, faults)
 }
 
@@ -165,7 +165,7 @@ fn serve_in<
     plan: Plan,
     output: &mut O,
     faults: &mut E,
-) -> Result<Tried<FileDisk>, ServiceFault> {
+) -> Result<Tried<SizedDisk>, ServiceFault> {
     let book: Book<SoundFiles<V>> = Book::open::<()>().unwrap();
     let cell = slot_cell(alloc)?;
     serve_mounted::<P, Brand, V, R, O, E>(
@@ -194,11 +194,11 @@ fn serve_mounted<
     alloc: Global,
     book: &Book<SoundFiles<V>>,
     cell: SlotCell,
-    disk: FileDisk,
+    disk: SizedDisk,
     plan: Plan,
     output: &mut O,
     faults: &mut E,
-) -> Result<Tried<FileDisk>, ServiceFault>
+) -> Result<Tried<SizedDisk>, ServiceFault>
     requires book { book.now ≡ J.book }
     requires cell { cell ≡ J.cell }
     requires layout { J.layout ≡ files disk.size }
@@ -207,7 +207,7 @@ fn serve_mounted<
         // It is refused as a mount refuses it.
         return Ok(Tried::Other(Settled::unwritten(disk)));
     };
-    let files: FileStore<FileDisk, J, V> = match mount(alloc, book, cell, disk)? {
+    let files: FileStore<SizedDisk, J, V> = match mount(alloc, book, cell, disk)? {
         Tried::Sound(files) => files,
         Tried::Other(disk) => return Ok(Tried::Other(disk)),
     };
@@ -229,7 +229,7 @@ fn serve_beside_daemon<
 >(
     rt: &R,
     alloc: Global,
-    files: &FileStore<'b, FileDisk, J, V>,
+    files: &FileStore<'b, SizedDisk, J, V>,
     programs: &P,
     plan: Plan,
     output: &mut O,
@@ -265,7 +265,7 @@ fn listen<
 >(
     rt: &R,
     alloc: Global,
-    files: &FileStore<'b, FileDisk, J, V>,
+    files: &FileStore<'b, SizedDisk, J, V>,
     programs: &P,
     plan: Plan,
     output: &mut O,
@@ -296,7 +296,7 @@ fn listen<
 // Waits until all commits are stable.
 fn flush<'b, J: Naming, V: Version, W: Wait>(
     rt: &W,
-    files: &FileStore<'b, FileDisk, J, V>,
+    files: &FileStore<'b, SizedDisk, J, V>,
 ) -> Result<(), ServiceFault> {
     let mut session = match files.journal().session(rt) {
         Ok(session) => session,
@@ -311,8 +311,8 @@ fn flush<'b, J: Naming, V: Version, W: Wait>(
 /// Gives the disk up.
 pub(crate) fn close<'b, J: Naming, V: Version, W: Wait>(
     rt: &W,
-    files: FileStore<'b, FileDisk, J, V>,
-) -> Result<FileDisk, ServiceFault> {
+    files: FileStore<'b, SizedDisk, J, V>,
+) -> Result<SizedDisk, ServiceFault> {
     let mut session = match files.journal().session(rt) {
         Ok(session) => session,
         Err(why) => return Err(ServiceFault::refused(why)),

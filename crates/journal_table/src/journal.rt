@@ -8,9 +8,9 @@ use crate::rows::{OpenTable, Stored};
 use crate::table::Table;
 use crate::work::{read, write};
 use journal_daemon::{OpenGate, start};
-use journal_disk::FileDisk;
 use journal_history::{Book, Naming};
 use journal_lockmap::SlotCell;
+use journal_program::SizedDisk;
 use journal_twophase::{CACHED_BLOCKS, Journal};
 use journal_world::AnyMap;
 use std::alloc::Global;
@@ -33,7 +33,7 @@ pub enum Work {
 pub fn with_table<R: Threads + Wait + Clock + Sync>(
     rt: &R,
     alloc: Global,
-    disk: FileDisk,
+    disk: SizedDisk,
     table: Table,
     work: Work,
 ) -> Result<Vec<Stored>, Fault> {
@@ -53,7 +53,7 @@ fn with_book<J: Naming + Send + Sync, R: Threads + Wait + Clock + Sync>(
     alloc: Global,
     book: &Book<AnyMap>,
     cell: SlotCell,
-    disk: FileDisk,
+    disk: SizedDisk,
     table: Table,
     work: Work,
 ) -> Result<Vec<Stored>, Fault>
@@ -61,7 +61,7 @@ fn with_book<J: Naming + Send + Sync, R: Threads + Wait + Clock + Sync>(
     requires cell { cell ≡ J.cell }
     requires layout { J.layout ≡ shape table.layout }
 {
-    let journal: Journal<'_, FileDisk, AnyMap, J> = match Journal::open_layout(
+    let journal: Journal<'_, SizedDisk, AnyMap, J> = match Journal::open_layout(
         alloc,
         book,
         cell,
@@ -83,7 +83,7 @@ fn with_book<J: Naming + Send + Sync, R: Threads + Wait + Clock + Sync>(
 fn beside_daemon<J: Naming + Send + Sync, R: Threads + Wait + Clock + Sync>(
     rt: &R,
     alloc: Global,
-    journal: &Journal<'_, FileDisk, AnyMap, J>,
+    journal: &Journal<'_, SizedDisk, AnyMap, J>,
     table: Table,
     work: Work,
 ) -> Result<Vec<Stored>, Fault> {
@@ -104,7 +104,7 @@ fn beside_daemon<J: Naming + Send + Sync, R: Threads + Wait + Clock + Sync>(
 // Does the work where the disk has this table.
 fn do_work<J: Naming + Send + Sync, R: Threads + Wait + Sync>(
     rt: &R,
-    open: &OpenTable<'_, '_, FileDisk, J>,
+    open: &OpenTable<'_, '_, SizedDisk, J>,
     work: Work,
 ) -> Result<Vec<Stored>, Fault> {
     if !has_head(rt, open)? {

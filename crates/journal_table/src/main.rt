@@ -28,6 +28,7 @@ use journal_program::open_settled;
 use rows::Stored;
 use std::alloc::Global;
 use std::env::Env;
+use std::fmt::Display;
 use std::fs::{File, Files};
 use std::io::{Error, ErrorKind, Write};
 use std::process::ExitCode;
@@ -88,19 +89,25 @@ fn open<R: Files<File = File> + Threads + Wait + Clock + Sync, E: Write>(
     work: Work,
     faults: &mut E,
 ) -> io::Result<Vec<Stored>> {
-    let disk = open_settled(rt, path)?.disk();
+    let disk = match open_settled(rt, alloc, path) {
+        Ok(settled) => settled.disk(),
+        Err(why) => return refuse(path, &why, faults),
+    };
     let done = match Table::new(disk.size()) {
         Some(table) => with_table(rt, alloc, disk, table, work),
         None => Err(Fault::OtherTable),
     };
     match done {
         Ok(rows) => Ok(rows),
-        Err(fault) => {
-            // Where it cannot be printed, the status says that the program failed.
-            let _ = writeln!(faults, "{path}: {fault}");
-            Err(Error::from(ErrorKind::Other))
-        }
+        Err(fault) => refuse(path, &fault, faults),
     }
+}
+
+/// Prints why the table in the file at the path is not used.
+fn refuse<F: Display, E: Write, T>(path: &str, fault: &F, faults: &mut E) -> io::Result<T> {
+    // Where it cannot be printed, the status says that the program failed.
+    let _ = writeln!(faults, "{path}: {fault}");
+    Err(Error::from(ErrorKind::Other))
 }
 
 /// Does that where the program was given one word, the path.

@@ -3,6 +3,7 @@ ghost use Rattle.std.specs.Prelude.{◌≡◌};
 ghost use Rattle.jtool.specs.Programs.{status_of};
 
 use journal_command::AskFault;
+use journal_program::LabelFault;
 use journal_script::ScriptFault;
 use journal_service::ServiceFault;
 use journal_world::Refusal;
@@ -24,6 +25,8 @@ pub enum Fault<'w> {
     BadLine,
     /// The file at this path could not be made, opened, read to its end, or made stable.
     BadFile(&'w str),
+    /// The label of the disk in the file at this path is not that of the file.
+    Label(&'w str, LabelFault),
     /// The port is not to be had, or the system refused a connection.
     CannotListen,
     /// What comes before the first line was refused, or what the service needs, or the close.
@@ -41,6 +44,7 @@ impl<'w> Fault<'w> {
     {
         match fault {
             ServiceFault::BadFile => Fault::BadFile(path),
+            ServiceFault::Label(why) => Fault::Label(path, why),
             ServiceFault::CannotListen => Fault::CannotListen,
             ServiceFault::Refused(why) => Fault::Refused(why),
             ServiceFault::CannotWrite => Fault::CannotWrite,
@@ -56,6 +60,7 @@ impl<'w> Fault<'w> {
         match self {
             Fault::Usage | Fault::BadSize | Fault::BadLine => 2,
             Fault::BadFile(_)
+            | Fault::Label(_, _)
             | Fault::CannotListen
             | Fault::Refused(_)
             | Fault::CannotRead
@@ -69,6 +74,7 @@ impl<'w> Fault<'w> {
             Fault::BadSize => writeln!(faults, "bad size"),
             Fault::BadLine => Ok(()),
             Fault::BadFile(path) => writeln!(faults, "cannot use {path}"),
+            Fault::Label(path, why) => writeln!(faults, "{path} {why}"),
             Fault::CannotListen => writeln!(faults, "cannot listen"),
             Fault::Refused(why) => writeln!(faults, "refused {}", why.name()),
             Fault::CannotRead => writeln!(faults, "cannot read standard input"),

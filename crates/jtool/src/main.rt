@@ -13,8 +13,6 @@ ghost use Rattle.jtool.specs.Programs.{EndsScript, status_of};
 
 mod fault;
 mod migrating;
-#[cfg(test)]
-mod tests;
 
 use fault::Fault;
 use journal_command::Ask;

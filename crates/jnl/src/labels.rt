@@ -1,0 +1,179 @@
+// The labels of disks are written, and the number of their blocks is raised.
+ghost use Rattle.std.specs.Prelude.{◌≡◌, IsTrue, IfSome};
+ghost use Rattle.std.specs.Option.{ForSome};
+ghost use Rattle.journal_world.specs.Addresses.{are_regions};
+ghost use Rattle.journal_program.specs.Labels.{IsLabel};
+ghost use Rattle.jnl.specs.Layouts.{told_of};
+
+use crate::fault::Fault;
+use crate::regions::{OtherRegions, RegionWords, Regions};
+use journal_program::{
+    DiskFacts, DiskToLabel, Label, LabelFault, OpenFault, UNTOLD, find_disk_to_label,
+};
+use journal_world::Layout;
+use std::alloc::Global;
+use std::fs::{File, Files};
+use std::io::Write;
+
+/// The label of a disk of so many blocks, with the regions that were named. Where none were, these
+/// are those of files if so few blocks have them, and else the label has none.
+///
+/// `None` where no disk has so many blocks, or no layout such regions.
+pub fn label_of(blocks: u64, regions: Option<Regions>) -> Option<Label>
+    ensures label { IfSome result IsLabel }
+    ensures blocks { IfSome result (λ label. label.blocks ≡ blocks) }
+{
+    let regions = regions.or(regions_of_files(blocks));
+    Label::new(blocks, regions.unwrap_or(UNTOLD))
+}
+
+// The regions of files, on a disk of so few blocks that it may have them.
+fn regions_of_files(blocks: u64) -> Option<Regions> {
+    Some(Layout::new(blocks)?.regions)
+}
+
+/// The regions that the label of a disk tells, where it has one that tells any.
+pub fn told(facts: &DiskFacts) -> Option<Regions>
+    ensures told { result ≡ told_of facts.now.label }
+    ensures rise { ForSome result (λ regions. IsTrue (are_regions regions)) }
+{
+    facts.label?.told()
+}
+
+/// Gives the disk in the file at the path a label with these regions, and prints them. Where none
+/// are named, it has those of the label before it, or those of a new disk.
+///
+/// Refused as a disk is that is opened to be written, where it has a label unless it is to have one
+/// again, and where it is a disk of the file service and the regions are not those of files.
+pub fn label<'w, R: Files<File = File>, O: Write>(
+    rt: &R,
+    alloc: Global,
+    path: &'w str,
+    regions: Option<Regions>,
+    again: bool,
+    output: &mut O,
+) -> Result<(), Fault<'w>> {
+    let found = find_to_label(rt, alloc, path)?;
+    let facts = found.facts;
+    if !again && found.has_bad_label {
+        return Err(Fault::Label {
+            path,
+            why: LabelFault::Bad,
+        });
+    }
+    if !again && facts.label.is_some() {
+        return Err(Fault::HasLabel { path });
+    }
+    let Some(label) = label_of(facts.blocks, regions.or(told(&facts))) else {
+        return Err(Fault::NoDisk {
+            path,
+            blocks: facts.blocks,
+        });
+    };
+    refuse_other_files(path, &facts, &label)?;
+    done(path, found.put(alloc, &label))?;
+    print_label(&label, output)
+}
+
+/// Gives the disk in the file at the path so many blocks, and prints its label. The new blocks are
+/// zeros. A disk without a label gets one, with the regions of files.
+///
+/// Refused as a disk is that is opened to be written, where it has more blocks, where it is a disk
+/// of the file service, and where it would have more than 33299 blocks and no label names its
+/// regions.
+pub fn grow<'w, R: Files<File = File>, O: Write>(
+    rt: &R,
+    alloc: Global,
+    path: &'w str,
+    blocks: u64,
+    output: &mut O,
+) -> Result<(), Fault<'w>> {
+    let found = find_to_label(rt, alloc, path)?;
+    let facts = found.facts;
+    if found.has_bad_label {
+        return Err(Fault::Label {
+            path,
+            why: LabelFault::Bad,
+        });
+    }
+    if facts.has_files {
+        return Err(Fault::CannotGrow { path });
+    }
+    if blocks < facts.blocks {
+        return Err(Fault::Smaller {
+            path,
+            blocks: facts.blocks,
+        });
+    }
+    let Some(label) = grown_label(&facts, blocks) else {
+        return Err(Fault::TellsNoRegions { path });
+    };
+    done(path, found.grow(alloc, &label))?;
+    print_label(&label, output)
+}
+
+// The label of a disk that is to have so many blocks. A disk without a label has the regions of
+// files. `None` where the regions are not known.
+fn grown_label(facts: &DiskFacts, blocks: u64) -> Option<Label>
+    ensures label { IfSome result IsLabel }
+    ensures blocks { IfSome result (λ label. label.blocks ≡ blocks) }
+{
+    let regions = match facts.label {
+        Some(label) => label.told(),
+        None => regions_of_files(facts.blocks),
+    };
+    Label::new(blocks, regions?)
+}
+
+/// Refuses a disk of the file service whose label tells other regions than those of files.
+pub fn refuse_other_regions<'w>(path: &'w str, facts: &DiskFacts) -> Result<(), Fault<'w>> {
+    match (told(facts), regions_of_files(facts.blocks)) {
+        (Some(told), Some(asked)) if told != asked => {
+            let regions = OtherRegions { told, asked };
+            Err(Fault::OtherRegions { path, regions })
+        }
+        _ => Ok(()),
+    }
+}
+
+// Refuses a label by which a disk of the file service would have other objects.
+fn refuse_other_files<'w>(
+    path: &'w str,
+    facts: &DiskFacts,
+    label: &Label,
+) -> Result<(), Fault<'w>> {
+    if facts.has_files && label.told() != regions_of_files(facts.blocks) {
+        return Err(Fault::HasFiles { path });
+    }
+    Ok(())
+}
+
+// Looks at the disk in the file at the path, whose label is to be written.
+fn find_to_label<'w, R: Files<File = File>>(
+    rt: &R,
+    alloc: Global,
+    path: &'w str,
+) -> Result<DiskToLabel, Fault<'w>> {
+    match find_disk_to_label(rt, alloc, path) {
+        Ok(found) => Ok(found),
+        Err(why) => Err(Fault::unopened(path, why)),
+    }
+}
+
+// Whether the label was written.
+fn done<'w>(path: &'w str, written: Result<(), OpenFault>) -> Result<(), Fault<'w>> {
+    match written {
+        Ok(()) => Ok(()),
+        Err(why) => Err(Fault::unopened(path, why)),
+    }
+}
+
+// Prints the number of blocks and the regions of a label.
+fn print_label<'w, O: Write>(label: &Label, output: &mut O) -> Result<(), Fault<'w>> {
+    let regions = RegionWords(label.told());
+    let printed = writeln!(output, "blocks {}\nregions {regions}", label.blocks);
+    match printed.and_then(|()| output.flush()) {
+        Ok(()) => Ok(()),
+        Err(_) => Err(Fault::CannotWrite),
+    }
+}

@@ -1,0 +1,76 @@
+// Disks that are opened to be checked.
+
+use crate::disk::SizedDisk;
+use crate::fault::OpenFault;
+use crate::file::{lock, open_file, open_to_write};
+use crate::inspecting::{DiskFacts, inspect_file};
+use crate::settled::Settled;
+use crate::system::{KEEPS_NO_LOCKS, TAKES_NO_SYNC, is_done, may_only_be_read};
+use os::RangeLock;
+use std::alloc::Global;
+use std::fs::{File, Files, OpenFile, OpenOptions};
+use std::io;
+use std::io::Write;
+
+/// A disk that is to be checked.
+#[derive(Drop)]
+pub struct ToCheck {
+    /// The disk. Nothing is written to it.
+    pub disk: Settled,
+    /// What its blocks tell of it.
+    pub facts: DiskFacts,
+}
+
+/// The disk in the file at the path, to be checked. A file that may only be read is locked together
+/// with others that read it, unless its file system keeps no locks. A warning is printed for each
+/// thing that the system refuses of such a file.
+///
+/// Refused where a program that writes to it has its lock, for the system's reason, and as
+/// `find_disk` refuses what the file has.
+pub fn open_to_check<R: Files<File = File>, E: Write>(
+    rt: &R,
+    alloc: Global,
+    path: &str,
+    faults: &mut E,
+) -> Result<ToCheck, OpenFault> {
+    let file = open_file_to_check(rt, path, faults)?;
+    let facts = inspect_file(alloc, &file)?;
+    let disk = SizedDisk::over(file, facts.blocks)?;
+    Ok(ToCheck {
+        disk: Settled::unwritten(disk),
+        facts,
+    })
+}
+
+// Opens and locks the file, and makes stable what earlier programs wrote to it, as far as the
+// system lets.
+fn open_file_to_check<R: Files<File = File>, E: Write>(
+    rt: &R,
+    path: &str,
+    faults: &mut E,
+) -> io::Result<File> {
+    match open_to_write(rt, path) {
+        Ok(file) => {
+            file.sync_data()?;
+            Ok(file)
+        }
+        Err(e) if may_only_be_read(&e) => open_to_read(rt, path, faults),
+        Err(e) => Err(e),
+    }
+}
+
+// Opens a file that may only be read. Where a warning cannot be printed, nobody can be warned.
+fn open_to_read<R: Files<File = File>, E: Write>(
+    rt: &R,
+    path: &str,
+    faults: &mut E,
+) -> io::Result<File> {
+    let file = open_file(rt, &mut OpenOptions::new(), path)?;
+    if !is_done(lock(&file, RangeLock::Shared), KEEPS_NO_LOCKS)? {
+        let _ = writeln!(faults, "{path} is checked without a lock");
+    }
+    if !is_done(file.sync_data(), TAKES_NO_SYNC)? {
+        let _ = writeln!(faults, "{path} is checked without a sync");
+    }
+    Ok(file)
+}

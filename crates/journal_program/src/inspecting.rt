@@ -1,0 +1,104 @@
+// What the blocks of a disk in a file tell of it.
+ghost use Rattle.std.specs.Prelude.{◌≡◌, ◌≤◌, IsTrue, IfOk};
+ghost use Rattle.std.specs.Option.{ForSome};
+ghost use Rattle.journal_world.specs.declared.layout.TheConstants.{MIN_BLOCKS, MAX_BLOCKS, MAX_LAYOUT_BLOCKS};
+ghost use Rattle.journal_program.specs.Labels.{IsLabel};
+
+use crate::disk::SizedDisk;
+use crate::fault::{LabelFault, OpenFault};
+use crate::label::{Label, is_disk_size};
+use crate::labeling::read_label;
+use journal_disk::{BlockDisk, FileDisk};
+use journal_form::{Inspected, LogForm, inspect};
+use journal_world::{MAX_BLOCKS, Refused};
+use std::alloc::Global;
+use std::fs::{File, OpenFile};
+use std::io;
+
+/// What the blocks of a disk in a file tell of it.
+#[derive(Clone, Copy, Debug)]
+pub struct DiskFacts {
+    /// How many blocks it has: as its label says, or where it has none, all whole ones of the file.
+    pub blocks: u64,
+    /// Its label.
+    pub label: Option<Label>,
+    /// The form of its log.
+    pub form: LogForm,
+    /// Whether it is a disk of the file service. One of more than 33299 blocks is none, whatever
+    /// its blocks have.
+    pub has_files: bool,
+    pub ghost in_range: { (MIN_BLOCKS ≤ blocks) × (blocks ≤ MAX_LAYOUT_BLOCKS) },
+    pub ghost labeled: { ForSome label IsLabel },
+}
+
+/// Reads what the disk in a file is. Nothing is written.
+///
+/// The first that applies of these refuses it: the system's reason, where it does not let the file
+/// be read; a label that is not well formed, or that says more blocks than the file has; a number
+/// of blocks that no disk has; J1 `NoMemory` where memory is refused, J6 `DeviceFailed` where the
+/// device fails, and J7 `BadLog` where the log is not well formed.
+pub(crate) fn inspect_file(alloc: Global, file: &File) -> Result<DiskFacts, OpenFault>
+    ensures files { IfOk result (λ facts. IsTrue facts.has_files → facts.blocks ≤ MAX_BLOCKS) }
+    ensures label { IfOk result (λ facts. ForSome facts.label (λ label. label.blocks ≡ facts.blocks)) }
+{
+    let in_file = blocks_in(file)?;
+    let label = read_label(alloc, file, in_file)?;
+    inspect_labeled(alloc, file, label, in_file)
+}
+
+/// The same of a file of so many blocks, which has this label.
+pub(crate) fn inspect_labeled(
+    alloc: Global,
+    file: &File,
+    label: Option<Label>,
+    in_file: u64,
+) -> Result<DiskFacts, OpenFault>
+    requires { ForSome label IsLabel }
+    ensures files { IfOk result (λ facts. IsTrue facts.has_files → facts.blocks ≤ MAX_BLOCKS) }
+    ensures label { IfOk result (λ facts. ForSome facts.label (λ label. label.blocks ≡ facts.blocks)) }
+{
+    let blocks = blocks_by(label, in_file)?;
+    let disk = SizedDisk::over(file.try_clone()?, blocks)?;
+    match inspect(alloc, disk) {
+        Ok(
+            Inspected {
+                form,
+                has_files,
+                ..
+            },
+        ) => Ok(DiskFacts {
+            blocks,
+            label,
+            form,
+            has_files: has_files && blocks <= MAX_BLOCKS,
+        }),
+        Err(Refused { refusal, .. }) => Err(OpenFault::Refused(refusal)),
+    }
+}
+
+/// How many whole blocks there are up to the file's end.
+pub(crate) fn blocks_in(file: &File) -> io::Result<u64> {
+    Ok(FileDisk::over(file.try_clone()?)?.size())
+}
+
+/// How many blocks a disk has with this label in a file of so many.
+pub(crate) fn blocks_by(label: Option<Label>, in_file: u64) -> Result<u64, OpenFault>
+    ensures blocks { IfOk result (λ blocks. (MIN_BLOCKS ≤ blocks) × (blocks ≤ MAX_LAYOUT_BLOCKS)) }
+    ensures inside { IfOk result (λ blocks. blocks ≤ in_file) }
+    ensures label { IfOk result (λ blocks. ForSome label (λ label. label.blocks ≡ blocks)) }
+{
+    let blocks = match label {
+        Some(label) if label.blocks > in_file => {
+            return Err(OpenFault::Label(LabelFault::Cut {
+                blocks: in_file,
+                labeled: label.blocks,
+            }));
+        }
+        Some(label) => label.blocks,
+        None => in_file,
+    };
+    if !is_disk_size(blocks) {
+        return Err(OpenFault::NoDisk { blocks });
+    }
+    Ok(blocks)
+}

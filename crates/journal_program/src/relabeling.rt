@@ -1,0 +1,111 @@
+// Disks whose label is written.
+ghost use Rattle.std.specs.Prelude.{◌≤◌, IfOk};
+ghost use Rattle.std.specs.Option.{ForSome};
+ghost use Rattle.journal_program.specs.Labels.{IsLabel};
+
+use crate::fault::{LabelFault, OpenFault};
+use crate::file::open_to_write;
+use crate::inspecting::{DiskFacts, blocks_in, inspect_labeled};
+use crate::label::Label;
+use crate::labeling::{read_label, write_label};
+use crate::rewriting::rewrite_log;
+use journal_world::BLOCK_BYTES;
+use std::alloc::Global;
+use std::fs::{File, Files, OpenFile};
+
+/// A disk in a file that no other program uses as long as it is open, and that is to have another
+/// label. Its log is well formed, and nothing was written to it.
+#[derive(Drop)]
+pub struct DiskToLabel {
+    /// What its blocks tell of it. It counts as one without a label where that is not well formed.
+    pub facts: DiskFacts,
+    /// Whether it has a label that is not well formed.
+    pub has_bad_label: bool,
+    // The file of the disk.
+    file: File,
+}
+
+impl DiskToLabel {
+    /// Writes the label, stable. The log is written as it reads before.
+    ///
+    /// Refused for the system's reason, and by J1 `NoMemory`. The disk has the label or not then.
+    pub fn put(self, alloc: Global, label: &Label) -> Result<(), OpenFault> {
+        self.settle()?;
+        self.label(alloc, label)
+    }
+
+    /// Gives the disk as many blocks as the label says, zeros at first, and the label. The log is
+    /// written as it reads before. The label is written once the longer file is stable, so that no
+    /// moment leaves a label of more blocks than the file has.
+    ///
+    /// Refused for the system's reason, and by J1 `NoMemory`. The disk has the label or not then.
+    pub fn grow(self, alloc: Global, label: &Label) -> Result<(), OpenFault>
+        requires label { IsLabel label.now }
+        requires longer { self.facts.blocks ≤ label.now.blocks }
+    {
+        self.settle()?;
+        // What lies behind the disk in the file is no object of it, and new objects are zeros.
+        self.file.set_len(self.facts.blocks * BLOCK_BYTES as u64)?;
+        self.file.set_len(label.blocks * BLOCK_BYTES as u64)?;
+        self.file.sync_all()?;
+        self.label(alloc, label)
+    }
+
+    // Makes stable what the disk reads.
+    fn settle(&self) -> Result<(), OpenFault> {
+        rewrite_log(&self.file)?;
+        self.file.sync_data()?;
+        Ok(())
+    }
+
+    // Writes the label, stable.
+    fn label(&self, alloc: Global, label: &Label) -> Result<(), OpenFault> {
+        write_label(alloc, &self.file, label)?;
+        self.file.sync_data()?;
+        Ok(())
+    }
+}
+
+/// Looks at the disk in the file at the path, which no other program uses as long as it is open,
+/// and whose label is to be written. Nothing is written.
+///
+/// Refused as `find_disk` is, but not for a label that is not well formed.
+pub fn find_disk_to_label<R: Files<File = File>>(
+    rt: &R,
+    alloc: Global,
+    path: &str,
+) -> Result<DiskToLabel, OpenFault> {
+    let file = open_to_write(rt, path)?;
+    let in_file = blocks_in(&file)?;
+    let OldLabel { label, is_bad } = read_old_label(alloc, &file, in_file)?;
+    let facts = inspect_labeled(alloc, &file, label, in_file)?;
+    Ok(DiskToLabel {
+        facts,
+        has_bad_label: is_bad,
+        file,
+    })
+}
+
+// A label that another one may stand for.
+#[derive(Clone, Copy)]
+struct OldLabel {
+    label: Option<Label>,
+    is_bad: bool,
+}
+
+// Reads the label of a file of so many blocks. One that is not well formed counts as none.
+fn read_old_label(alloc: Global, file: &File, in_file: u64) -> Result<OldLabel, OpenFault>
+    ensures { IfOk result (λ old. ForSome old.label IsLabel) }
+{
+    match read_label(alloc, file, in_file) {
+        Ok(label) => Ok(OldLabel {
+            label,
+            is_bad: false,
+        }),
+        Err(OpenFault::Label(LabelFault::Bad)) => Ok(OldLabel {
+            label: None,
+            is_bad: true,
+        }),
+        Err(why) => Err(why),
+    }
+}
