@@ -1,11 +1,17 @@
 // Preloaded under a program, this appends to the file TRACE what the program does to the file DISK: each
 // write (its offset and bytes) before it is made, and each sync once it has succeeded, with the number of
 // records that were there when it began.
+//
+// With FAIL_SYNC=N the process's N-th sync of DISK fails by EIO. It is not made, and is noted as failed.
+// With FAIL_SYNC=N:F-L only those syncs count that come after a write of a block from F to L.
 #define _GNU_SOURCE
 #include <dlfcn.h>
+#include <errno.h>
 #include <fcntl.h>
+#include <limits.h>
 #include <pthread.h>
 #include <stdint.h>
+#include <stdio.h>
 #include <stdlib.h>
 #include <string.h>
 #include <sys/stat.h>
@@ -13,13 +19,22 @@
 #include <unistd.h>
 
 struct record {
-    uint32_t kind; // 1 a write, 2 a sync, 3 (of the client) an answer
+    uint32_t kind; // 1 a write, 2 a sync, 5 a sync that failed; others are the tool's own
     uint32_t size; // of the bytes that follow
     uint64_t at;   // a write: its offset; a sync: how many writes had begun before it
 };
 
+// Which sync fails. A range that is not there has each block.
+struct choice {
+    long number; // counted from 1; 0 where none fails
+    unsigned long first, last;
+};
+
+static const size_t BLOCK = 4096;
 static pthread_mutex_t lock = PTHREAD_MUTEX_INITIALIZER;
 static uint64_t writes;
+static long syncs;       // that count
+static int is_in_range;  // a block of the range was written since the last sync
 
 static int trace_file(void) {
     static int file = -2;
@@ -44,13 +59,37 @@ static void append(struct record head, const void *bytes) {
         abort();
 }
 
+static struct choice chosen(void) {
+    struct choice of = {0, 0, ULONG_MAX};
+    const char *words = getenv("FAIL_SYNC");
+    if (words)
+        sscanf(words, "%ld:%lu-%lu", &of.number, &of.first, &of.last);
+    return of;
+}
+
+// Notes which blocks are written. The lock is held.
+static void count_write(off_t at, size_t size) {
+    struct choice of = chosen();
+    unsigned long first = at / BLOCK, last = (at + size - 1) / BLOCK;
+    is_in_range |= of.first <= last && first <= of.last;
+    writes++;
+}
+
+// Whether the sync that begins is the one that fails. The lock is held.
+static int is_refused(void) {
+    struct choice of = chosen();
+    int counts = is_in_range || of.last == ULONG_MAX;
+    is_in_range = 0;
+    return counts && ++syncs == of.number;
+}
+
 static ssize_t traced_write(ssize_t (*next)(int, const void *, size_t, off_t), int file,
                             const void *bytes, size_t size, off_t at) {
     if (!is_disk(file))
         return next(file, bytes, size, at);
     pthread_mutex_lock(&lock);
     append((struct record){1, size, at}, bytes);
-    writes++;
+    count_write(at, size);
     ssize_t done = next(file, bytes, size, at);
     pthread_mutex_unlock(&lock);
     return done;
@@ -69,7 +108,14 @@ static int traced_sync(int (*next)(int), int file) {
         return next(file);
     pthread_mutex_lock(&lock);
     uint64_t begun = writes;
+    int refused = is_refused();
+    if (refused)
+        append((struct record){5, 0, begun}, "");
     pthread_mutex_unlock(&lock);
+    if (refused) {
+        errno = EIO;
+        return -1;
+    }
     int failed = next(file);
     if (!failed) {
         pthread_mutex_lock(&lock);
