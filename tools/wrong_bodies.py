@@ -1,0 +1,237 @@
+"""The wrong bodies of the crates and the records of what refused them: for check-tried and try-wrong-bodies.
+
+A wrong body is an edit in crates/CRATE/must-fail or in wrong-bodies/CRATE. The file wrong-bodies/CRATE/TRIED says for which
+text of the crate its wrong bodies were tried, and what the prover said of each:
+
+    text SUM                    of src, specs, proofs and the crate's line of crates.txt, without comments and blank lines
+    kit WORDS                   the kit that tried the last of them
+    below CRATE SUM             of what this crate may cite of a crate below it, as it was then
+    edit NAME SUM FUNCTION GOAL the sum of that text and the edit's own, and the function and the goal that the prover named first
+"""
+import hashlib
+import importlib.machinery
+import importlib.util
+import pathlib
+import re
+import subprocess
+import sys
+
+TOP = pathlib.Path(__file__).resolve().parent.parent
+OWN_CLAUSE = re.compile(r"^(?:# )?clause: (\S+) (\S+)$", re.M)
+NO_GOAL = "-"
+
+# What begins a comment stands also in strings, and `--` within words of antt.
+RUST = re.compile(r"""(?P<comment>//[^\n]*)|[bc]?r(?P<hash>#*)".*?"(?P=hash)|[bc]?"(?:[^"\\]|\\.)*"|'(?:\\[^\n]|[^\n\\])'""", re.S)
+ANTT = re.compile(r"""(?P<comment>(?<![^ \n(){}.;,@"»])--[^\n]*)|"(?:[^"\\\n]|\\[^\n])*\"""")
+COMMENTS = {".rt": (RUST, "/*"), ".antt": (ANTT, "{-")}
+LEMMAS_OF = re.compile(r"\bRattle\.(\w+)\.proofs((?:\.\w+)+)")
+
+
+def tool(name):
+    """The module of a tool beside this one."""
+    sys.dont_write_bytecode = True
+    loader = importlib.machinery.SourceFileLoader(name.replace("-", "_"), str(TOP / "tools" / name))
+    module = importlib.util.module_from_spec(importlib.util.spec_from_loader(loader.name, loader))
+    loader.exec_module(module)
+    return module
+
+
+claims = tool("check-claims")
+
+
+def kit():
+    """The name of the kit, or nothing where there is none."""
+    try:
+        return subprocess.run(["rt", "version"], capture_output=True, text=True, check=True).stdout.strip()
+    except (OSError, subprocess.CalledProcessError):
+        return ""
+
+
+def sum_of(*texts):
+    return hashlib.sha256("\0".join(texts).encode()).hexdigest()[:16]
+
+
+def plain(text, suffix):
+    """A text without comments and blank lines. One that has a comment of several lines is taken as it is."""
+    if suffix not in COMMENTS or COMMENTS[suffix][1] in text:
+        return text
+    text = COMMENTS[suffix][0].sub(lambda it: "" if it["comment"] else it[0], text)
+    return "\n".join(line.rstrip() for line in text.split("\n") if line.strip())
+
+
+def rows():
+    """The line of crates.txt of each crate, lowest first, without its comment."""
+    lines = (it.split("#")[0].strip() for it in (TOP / "crates.txt").read_text().splitlines())
+    return {re.split(r"[\s:]", it)[0]: it for it in lines if it}
+
+
+ROWS = rows()
+
+
+def below(crate):
+    """The crates below one, lowest first."""
+    found = set()
+    waiting = [crate]
+    while waiting:
+        for it in ROWS[waiting.pop()].partition(":")[2].split():
+            if it in ROWS and it not in found:
+                found.add(it)
+                waiting.append(it)
+    return [it for it in ROWS if it in found]
+
+
+def files_of(crate, *parts):
+    folder = TOP / "crates" / crate
+    return [it for part in parts for it in sorted((folder / part).rglob("*")) if it.is_file()]
+
+
+def text_of(crate):
+    """The sum of what a crate is, but for comments and blank lines."""
+    texts = [ROWS[crate]]
+    for path in files_of(crate, "src", "specs", "proofs"):
+        texts += [str(path.relative_to(TOP)), plain(path.read_text(), path.suffix)]
+    return sum_of(*texts)
+
+
+def outside(path):
+    """A source without its tests, its private functions, and the bodies of the others."""
+    text, kept, at = path.read_text(), [], 0
+    for function in claims.functions_in(text, path):
+        is_seen = (function.public or function.of_trait) and not function.test
+        kept.append(text[at : function.body if is_seen else function.start])
+        at = function.end
+    return plain("".join(kept) + text[at:], path.suffix)
+
+
+class Cited:
+    """What the crates above may cite of each crate: contracts and types, definitions, and lemmas by their files."""
+
+    def __init__(self):
+        self.stated = {}
+
+    def of(self, crate):
+        """The sum of a crate's sources without bodies, and of its definitions."""
+        if crate not in self.stated:
+            texts = [ROWS[crate]]
+            for path in files_of(crate, "src", "specs"):
+                said = outside(path) if path.suffix == ".rt" else plain(path.read_text(), path.suffix)
+                texts += [str(path.relative_to(TOP)), said]
+            self.stated[crate] = sum_of(*texts)
+        return self.stated[crate]
+
+    def below(self, crate):
+        """The sums of all that a crate may cite of those below it."""
+        lemmas = lemmas_below(crate)
+        return {it: sum_of(self.of(it), *[plain(path.read_text(), path.suffix) for path in lemmas.get(it, ())]) for it in below(crate)}
+
+
+def lemma_file(crate, words):
+    """The file of lemmas that a name begins with, or nothing where it is what the prover makes of a function."""
+    path = TOP / "crates" / crate / "proofs"
+    for word in words:
+        path /= word
+        if path.with_suffix(".antt").is_file():
+            return path.with_suffix(".antt")
+    return None
+
+
+def lemmas_below(crate):
+    """The files of lemmas that a crate cites of each crate below it, and those that these cite."""
+    found, seen = {}, set()
+    waiting = files_of(crate, "src", "specs", "proofs")
+    while waiting:
+        for other, words in LEMMAS_OF.findall(waiting.pop().read_text()):
+            path = lemma_file(other, words.split(".")[1:]) if other != crate and other in ROWS else None
+            if path and path not in seen:
+                seen.add(path)
+                waiting.append(path)
+                found.setdefault(other, []).append(path)
+    return {other: sorted(paths) for other, paths in found.items()}
+
+
+class Edit:
+    """A wrong body: the texts that it replaces, and the clause that has to refuse it."""
+
+    def __init__(self, path, crate):
+        self.path, self.crate, self.name = path, crate, path.stem
+        text = path.read_text()
+        said = OWN_CLAUSE.search(text)
+        self.function, self.clause = said.groups() if said else ("", "")
+        self.pairs = list(self.read(text))
+
+    @staticmethod
+    def read(text):
+        file = old = ""
+        for line in text.split("\n"):
+            if line.startswith("file: "):
+                file = line[6:].strip()
+            elif line.startswith("old: "):
+                old = line[5:]
+            elif line.startswith("new:"):
+                yield file, old, line[4:].removeprefix(" ")
+
+    def sum(self, text):
+        """The sum of the wrong body over a text of its crate."""
+        return sum_of(text, *[it for pair in self.pairs for it in pair])
+
+    def is_named(self, function, goal):
+        """Whether these are its function, and its clause or none."""
+        return bool(self.function) and function.split("::")[-1] == self.function.split("::")[-1] and clause_of(goal) in ("", "only", self.clause)
+
+
+def clause_of(goal):
+    """The clause that a goal is about: nothing where it names none, or one that another function requires."""
+    found = re.search(r"clause-(\w+)", goal)
+    if "requires" in goal:
+        return ""
+    return found[1] if found else "only" if goal == "returns" else ""
+
+
+def edits_of(crate):
+    return [Edit(path, crate) for path in claims.edit_files(crate)]
+
+
+def crates_with_edits():
+    """The crates that have wrong bodies or a record of some, lowest first. Folders of no crate stand at the end."""
+    there = {it.parts[-3] for it in (TOP / "crates").glob("*/must-fail/*.edit")}
+    there |= {it.parent.name for it in (TOP / "wrong-bodies").glob("*/*")}
+    return [it for it in ROWS if it in there] + sorted(there - set(ROWS))
+
+
+class Record:
+    """The file wrong-bodies/CRATE/TRIED."""
+
+    def __init__(self, crate):
+        self.crate, self.path = crate, TOP / "wrong-bodies" / crate / "TRIED"
+        self.text, self.kit = "", ""
+        self.below, self.edits, self.odd = {}, {}, []
+        for line in self.path.read_text().splitlines() if self.path.is_file() else ():
+            if not line.startswith("#"):
+                self.take(line)
+
+    def take(self, line):
+        kind, *words = line.split()
+        if kind == "text" and len(words) == 1 and not self.text:
+            self.text = words[0]
+        elif kind == "kit" and words and not self.kit:
+            self.kit = " ".join(words)
+        elif kind == "below" and len(words) == 2 and words[0] not in self.below:
+            self.below[words[0]] = words[1]
+        elif kind == "edit" and len(words) == 4 and words[0] not in self.edits:
+            self.edits[words[0]] = tuple(words[1:])
+        else:
+            self.odd.append(line)
+
+    def write(self):
+        if not self.edits:
+            self.path.unlink(missing_ok=True)
+            return
+        lines = ["# Written by tools/try-wrong-bodies.", f"text {self.text}", f"kit {self.kit}"]
+        lines += [f"below {name} {made}" for name, made in self.below.items()]
+        lines += [f"edit {name} {' '.join(told)}" for name, told in sorted(self.edits.items())]
+        self.path.parent.mkdir(parents=True, exist_ok=True)
+        self.path.write_text("\n".join(lines) + "\n")
+
+    def has(self, edit):
+        """Whether it says what refused an edit as the edit is, over the text that it names."""
+        return edit.name in self.edits and self.edits[edit.name][0] == edit.sum(self.text)
