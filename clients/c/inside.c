@@ -218,6 +218,7 @@ static int hand_over(struct jnl_line *l)
     take_back(l);
     l->is_closed = 1;
     disown(l);
+    errno = ECONNREFUSED;
     return JNL_NO_PORT;
 }
 
@@ -235,14 +236,15 @@ static int free_number(void)
     }
 }
 
-int jnl_line_open(struct jnl_port *p, struct jnl_line **out)
+int jnl_line_open(struct jnl_port *p, uint64_t ends, struct jnl_line **out)
 {
     int s = JNL_NO_PORT;
-    (void)p;
+    (void)p, (void)ends;
     *out = NULL;
     if (has_forked) return JNL_FORKED;
     pthread_mutex_lock(&lock);
     int fd = free_number();
+    errno = fd < 0 ? EMFILE : ECONNREFUSED;
     if (fd >= 0 && !has_ended && !is_shut) {
         struct jnl_line *l = new_line(fd);
         s = l ? hand_over(l) : JNL_NO_MEMORY;
@@ -269,14 +271,16 @@ int jnl_line_is_quiet(struct jnl_line *l)
     return !has_forked && !l->is_ended && seconds() - l->last < MOST_SILENCE;
 }
 
-void jnl_line_set_timeout(struct jnl_line *l, unsigned milliseconds)
+/* A call does not wait for another process. */
+void jnl_line_set_end(struct jnl_line *l, uint64_t ends)
 {
-    (void)l, (void)milliseconds;
+    (void)l, (void)ends;
 }
 
 int jnl_line_send(struct jnl_line *l, const uint8_t *p, size_t n)
 {
     enum state expected = PARKED;
+    errno = ECONNRESET;
     if (has_forked || l->is_ended) return -1;
     if (!atomic_compare_exchange_strong(&l->state, &expected, LENT)) return -1;
     l->in = p;
@@ -305,7 +309,7 @@ int jnl_line_await(struct jnl_line *l)
 
 int jnl_line_receive(struct jnl_line *l, uint8_t *p, size_t n)
 {
-    if (l->out_used - l->out_read < n) return -1;
+    if (l->out_used - l->out_read < n) return errno = ECONNRESET, -1;
     memcpy(p, l->out + l->out_read, n);
     l->out_read += n;
     return 0;
@@ -373,6 +377,7 @@ static int begin_program(const char *path)
         s = JNL_NO_PORT;
     }
     if (s) free(copy);
+    errno = EIO;
     return s;
 }
 
@@ -407,6 +412,7 @@ int jnl_port_enter_tcp(uint16_t number, struct jnl_port **out)
 {
     (void)number;
     *out = NULL;
+    errno = EOPNOTSUPP;
     return has_forked ? JNL_FORKED : JNL_NO_PORT;
 }
 
@@ -427,7 +433,7 @@ static void end_program(void)
 {
     static const uint8_t stop[8] = {0, 0, 0, 4, 0, 0, 0, 5};
     struct jnl_line *l;
-    if (!jnl_line_open(&port, &l)) {
+    if (!jnl_line_open(&port, 0, &l)) {
         jnl_line_send(l, stop, sizeof stop);
         jnl_line_close(l);
     }

@@ -1,29 +1,29 @@
 /* How records come to the port and answers come back. A library has one of two carriers: socket.c
  * connects to a port in another process, and inside.c has the port in this process. */
-#ifndef JOURNAL_LINE_H
-#define JOURNAL_LINE_H
-#include "journal.h"
+#ifndef JNL_LINE_H
+#define JNL_LINE_H
+#include "jnl.h"
 
 /* What stands at a path or a TCP port, and one connection to it. */
 struct jnl_port;
 struct jnl_line;
 
-/* Answers a jnl_status; at JNL_OK the port is to be left. */
+/* Answers a jnl_status, and at JNL_NO_PORT sets errno; at JNL_OK the port is to be left. */
 int jnl_port_enter(const char *path, struct jnl_port **out);
 int jnl_port_enter_tcp(uint16_t number, struct jnl_port **out);
 void jnl_port_leave(struct jnl_port *);
 
-/* Answers a jnl_status; at JNL_OK the line is to be closed. */
-int jnl_line_open(struct jnl_port *, struct jnl_line **out);
+/* Answers a jnl_status; at JNL_OK the line is to be closed. A wait of the line ends at a moment, in
+ * milliseconds of the monotonic clock; 0 is never. */
+int jnl_line_open(struct jnl_port *, uint64_t ends, struct jnl_line **out);
 void jnl_line_close(struct jnl_line *);
+void jnl_line_set_end(struct jnl_line *, uint64_t ends);
 
 /* Whether the port has neither ended the line nor sent what nobody asked for. */
 int jnl_line_is_quiet(struct jnl_line *);
 
-/* The most that a send or a receive waits, in milliseconds; 0 is for ever. */
-void jnl_line_set_timeout(struct jnl_line *, unsigned milliseconds);
-
-/* Waits until an answer begins to come: 0; or -1, and the line is of no more use. */
+/* Waits until an answer begins to come: 0; or -1, and the line is of no more use. This call and the
+ * next two then set errno, as those above do at JNL_NO_PORT. */
 int jnl_line_await(struct jnl_line *);
 
 /* All n bytes: 0; or -1, and the line is of no more use. */

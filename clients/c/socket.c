@@ -12,6 +12,7 @@
 #include <sys/socket.h>
 #include <sys/time.h>
 #include <sys/un.h>
+#include <time.h>
 #include <unistd.h>
 
 struct jnl_port {
@@ -25,7 +26,7 @@ struct jnl_port {
 
 struct jnl_line {
     int fd;
-    unsigned timeout;
+    uint64_t ends;
 };
 
 int jnl_port_enter(const char *path, struct jnl_port **out)
@@ -35,6 +36,7 @@ int jnl_port_enter(const char *path, struct jnl_port **out)
     if (!p) return JNL_NO_MEMORY;
     if (strlen(path) >= sizeof p->at.path.sun_path) {
         free(p);
+        errno = ENAMETOOLONG;
         return JNL_NO_PORT;
     }
     p->at.path.sun_family = AF_UNIX;
@@ -61,37 +63,69 @@ void jnl_port_leave(struct jnl_port *p)
     free(p);
 }
 
-static int connect_to(const struct jnl_port *p, int fd)
+/* How many milliseconds there are until a moment; 0 after it, and -1 where it never comes. */
+static int left_until(uint64_t ends)
+{
+    struct timespec t;
+    if (!ends) return -1;
+    clock_gettime(CLOCK_MONOTONIC, &t);
+    uint64_t now = (uint64_t)t.tv_sec * 1000 + (uint64_t)t.tv_nsec / 1000000;
+    if (ends <= now) return 0;
+    return ends - now < INT_MAX ? (int)(ends - now) : INT_MAX;
+}
+
+/* Limits how long a connect waits for room at the port; 0 is for ever. */
+static void limit_connect(int fd, int milliseconds)
+{
+    struct timeval t = {milliseconds / 1000, 1000 * (milliseconds % 1000)};
+    setsockopt(fd, SOL_SOCKET, SO_SNDTIMEO, &t, sizeof t);
+}
+
+static int connect_to(const struct jnl_port *p, int fd, uint64_t ends)
 {
     int s;
     do {
+        int left = left_until(ends);
+        if (ends) limit_connect(fd, left ? left : 1);
         s = connect(fd, &p->at.any, p->size);
     } while (s && errno == EINTR);
+    if (s && (errno == EAGAIN || errno == EINPROGRESS)) errno = ETIMEDOUT;
+    if (!s && ends) limit_connect(fd, 0);
     return s;
 }
 
-int jnl_line_open(struct jnl_port *p, struct jnl_line **out)
+/* A connection, or -1. */
+static int connected(const struct jnl_port *p, uint64_t ends)
 {
     const int on = 1;
-    struct jnl_line *l = calloc(1, sizeof *l);
-    *out = NULL;
-    if (!l) return JNL_NO_MEMORY;
-    l->fd = socket(p->at.any.sa_family, SOCK_STREAM, 0);
-    if (l->fd < 0) {
-        free(l);
-        return JNL_NO_PORT;
-    }
+    int fd = socket(p->at.any.sa_family, SOCK_STREAM, 0);
+    if (fd < 0) return -1;
     /* A program that this one begins has no part in the connection. */
-    fcntl(l->fd, F_SETFD, FD_CLOEXEC);
-    if (connect_to(p, l->fd)) {
-        jnl_line_close(l);
-        return JNL_NO_PORT;
+    fcntl(fd, F_SETFD, FD_CLOEXEC);
+    if (connect_to(p, fd, ends)) {
+        int why = errno;
+        close(fd);
+        errno = why;
+        return -1;
     }
     /* A request is one record, which TCP would hold back for more. */
     if (p->at.any.sa_family == AF_INET) {
-        setsockopt(l->fd, IPPROTO_TCP, TCP_NODELAY, &on, sizeof on);
+        setsockopt(fd, IPPROTO_TCP, TCP_NODELAY, &on, sizeof on);
     }
-    *out = l;
+    return fd;
+}
+
+int jnl_line_open(struct jnl_port *p, uint64_t ends, struct jnl_line **out)
+{
+    *out = NULL;
+    int fd = connected(p, ends);
+    if (fd < 0) return JNL_NO_PORT;
+    *out = calloc(1, sizeof **out);
+    if (!*out) {
+        close(fd);
+        return JNL_NO_MEMORY;
+    }
+    **out = (struct jnl_line){fd, ends};
     return JNL_OK;
 }
 
@@ -101,6 +135,11 @@ void jnl_line_close(struct jnl_line *l)
     free(l);
 }
 
+void jnl_line_set_end(struct jnl_line *l, uint64_t ends)
+{
+    l->ends = ends;
+}
+
 int jnl_line_is_quiet(struct jnl_line *l)
 {
     char byte;
@@ -108,20 +147,33 @@ int jnl_line_is_quiet(struct jnl_line *l)
         && (errno == EAGAIN || errno == EWOULDBLOCK || errno == EINTR);
 }
 
-void jnl_line_set_timeout(struct jnl_line *l, unsigned milliseconds)
+/* Waits until the socket takes bytes or has some. */
+static int wait_for(struct jnl_line *l, short event)
 {
-    struct timeval t = {milliseconds / 1000, 1000 * (milliseconds % 1000)};
-    l->timeout = milliseconds;
-    setsockopt(l->fd, SOL_SOCKET, SO_RCVTIMEO, &t, sizeof t);
-    setsockopt(l->fd, SOL_SOCKET, SO_SNDTIMEO, &t, sizeof t);
+    struct pollfd wanted = {l->fd, event, 0};
+    int s;
+    do {
+        s = poll(&wanted, 1, left_until(l->ends));
+    } while (s < 0 && errno == EINTR);
+    if (!s) errno = ETIMEDOUT;
+    return s > 0 ? 0 : -1;
+}
+
+/* Whether a send or a receive that moved n bytes is to be made again: after a signal, or where it
+ * would wait, which poll does, since it knows when to end. */
+static int is_to_be_made_again(struct jnl_line *l, ssize_t n, short event)
+{
+    if (n >= 0) return 0;
+    if (errno == EAGAIN || errno == EWOULDBLOCK) return !wait_for(l, event);
+    return errno == EINTR;
 }
 
 int jnl_line_send(struct jnl_line *l, const uint8_t *p, size_t n)
 {
     while (n) {
         /* A port that is gone is told by the answer, and by no signal. */
-        ssize_t k = send(l->fd, p, n, MSG_NOSIGNAL);
-        if (k < 0 && errno == EINTR) continue;
+        ssize_t k = send(l->fd, p, n, MSG_NOSIGNAL | (l->ends ? MSG_DONTWAIT : 0));
+        if (is_to_be_made_again(l, k, POLLOUT)) continue;
         if (k <= 0) return -1;
         p += k;
         n -= (size_t)k;
@@ -129,24 +181,19 @@ int jnl_line_send(struct jnl_line *l, const uint8_t *p, size_t n)
     return 0;
 }
 
-/* A thread that sleeps in recv is also woken where the port takes its request, since the socket then
- * has room again. One that sleeps in poll for input is not. */
+/* A thread that sleeps in recv is also woken where the port takes its request, since the socket
+ * then has room again. One that sleeps in poll for input is not. */
 int jnl_line_await(struct jnl_line *l)
 {
-    struct pollfd input = {l->fd, POLLIN, 0};
-    int most = l->timeout ? (int)(l->timeout < INT_MAX ? l->timeout : INT_MAX) : -1;
-    int s;
-    do {
-        s = poll(&input, 1, most);
-    } while (s < 0 && errno == EINTR);
-    return s > 0 ? 0 : -1;
+    return wait_for(l, POLLIN);
 }
 
 int jnl_line_receive(struct jnl_line *l, uint8_t *p, size_t n)
 {
     while (n) {
-        ssize_t k = recv(l->fd, p, n, 0);
-        if (k < 0 && errno == EINTR) continue;
+        ssize_t k = recv(l->fd, p, n, l->ends ? MSG_DONTWAIT : 0);
+        if (is_to_be_made_again(l, k, POLLIN)) continue;
+        if (!k) errno = ECONNRESET;
         if (k <= 0) return -1;
         p += k;
         n -= (size_t)k;

@@ -1,4 +1,4 @@
-package journal
+package jnl
 
 import (
 	"encoding/binary"
@@ -6,24 +6,20 @@ import (
 	"fmt"
 	"io"
 	"net"
+	"os"
 	"syscall"
 	"time"
 )
 
 // dial makes a connection and greets. Nothing was asked over it yet.
-func (j *Journal) dial() error {
-	conn, err := net.Dial(j.network, j.address)
-	for begin := time.Now(); errors.Is(err, syscall.EAGAIN) && !j.isOver(begin); {
-		// A socket has no room where many connect. Others are taken from there soon.
-		time.Sleep(firstPause)
-		conn, err = net.Dial(j.network, j.address)
-	}
+func (j *Journal) dial(deadline time.Time) error {
+	conn, err := connect(j.network, j.address, deadline)
 	if err != nil {
-		return fmt.Errorf("%w: %v", ErrNoPort, err)
+		return &failure{ErrNoPort, err}
 	}
 	j.conn = conn
 	var spoken uint32
-	err = j.askConnected(newRequest(opHello).word(version), func(a *answer) {
+	err = j.askConnected(newRequest(opHello).word(version), deadline, func(a *answer) {
 		spoken, j.blocks = a.word(), a.hyper()
 	})
 	if err == nil && spoken != version {
@@ -32,15 +28,41 @@ func (j *Journal) dial() error {
 	if err != nil {
 		j.Close()
 	}
-	if errors.Is(err, ErrLost) && !errors.Is(err, ErrProtocol) {
-		return fmt.Errorf("%w: %v", ErrNoPort, err)
+	var lost *failure
+	if errors.As(err, &lost) {
+		return &failure{ErrNoPort, lost.cause}
 	}
 	return err
 }
 
-// isOver says whether a call that began then has waited in vain.
-func (j *Journal) isOver(begin time.Time) bool {
-	return j.Timeout > 0 && time.Since(begin) > j.Timeout
+// connect makes a connection. A socket has no room where many connect, but others are taken from
+// there soon.
+func connect(network, address string, deadline time.Time) (net.Conn, error) {
+	dialer := net.Dialer{Deadline: deadline}
+	for {
+		conn, err := dialer.Dial(network, address)
+		switch {
+		case err == nil:
+			return conn, nil
+		case isOver(deadline):
+			return nil, os.ErrDeadlineExceeded
+		case !errors.Is(err, syscall.EAGAIN):
+			return nil, err
+		}
+		time.Sleep(firstPause)
+	}
+}
+
+// deadline returns when a call that begins now has waited enough; zero is never.
+func (j *Journal) deadline() time.Time {
+	if j.Timeout <= 0 {
+		return time.Time{}
+	}
+	return time.Now().Add(j.Timeout)
+}
+
+func isOver(deadline time.Time) bool {
+	return !deadline.IsZero() && time.Now().After(deadline)
 }
 
 // ask asks the port, and reads what stands behind the operation of its answer by decode. A
@@ -48,21 +70,22 @@ func (j *Journal) isOver(begin time.Time) bool {
 // nothing is sent twice.
 func (j *Journal) ask(r request, decode func(*answer)) error {
 	if len(r) > maxRecord+4 {
-		return TooLong
+		return TooLarge
 	}
+	deadline := j.deadline()
 	if j.conn != nil && !isQuiet(j.conn) {
 		j.Close()
 	}
 	if j.conn == nil {
-		if err := j.dial(); err != nil {
+		if err := j.dial(deadline); err != nil {
 			return err
 		}
 	}
-	return j.askConnected(r, decode)
+	return j.askConnected(r, deadline, decode)
 }
 
-func (j *Journal) askConnected(r request, decode func(*answer)) error {
-	record, err := j.exchange(r)
+func (j *Journal) askConnected(r request, deadline time.Time, decode func(*answer)) error {
+	record, err := j.exchange(r, deadline)
 	if err == nil {
 		err = (&answer{rest: record}).judge(r.operation(), decode)
 	}
@@ -74,19 +97,15 @@ func (j *Journal) askConnected(r request, decode func(*answer)) error {
 }
 
 // exchange sends a record and returns its answer.
-func (j *Journal) exchange(r request) ([]byte, error) {
+func (j *Journal) exchange(r request, deadline time.Time) ([]byte, error) {
 	binary.BigEndian.PutUint32(r, uint32(len(r)-4))
-	var deadline time.Time
-	if j.Timeout > 0 {
-		deadline = time.Now().Add(j.Timeout)
-	}
 	j.conn.SetDeadline(deadline)
 	if _, err := j.conn.Write(r); err != nil {
-		return nil, lost(err)
+		return nil, &failure{ErrLost, err}
 	}
 	var length [4]byte
 	if _, err := io.ReadFull(j.conn, length[:]); err != nil {
-		return nil, lost(err)
+		return nil, &failure{ErrLost, err}
 	}
 	size := binary.BigEndian.Uint32(length[:])
 	if size > maxRecord {
@@ -94,13 +113,9 @@ func (j *Journal) exchange(r request) ([]byte, error) {
 	}
 	record := make([]byte, size)
 	if _, err := io.ReadFull(j.conn, record); err != nil {
-		return nil, lost(err)
+		return nil, &failure{ErrLost, err}
 	}
 	return record, nil
-}
-
-func lost(err error) error {
-	return fmt.Errorf("%w: %v", ErrLost, err)
 }
 
 // isQuiet says whether the port has neither ended the connection nor sent what nobody asked for.

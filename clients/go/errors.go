@@ -1,4 +1,4 @@
-package journal
+package jnl
 
 import (
 	"errors"
@@ -6,6 +6,10 @@ import (
 )
 
 // Refusal is a reason for which nothing was done, and nothing will be. It is the protocol's number.
+//
+// What no record can hold is refused before anything is sent: by BadSize a value of more than 4096
+// bytes, and by TooLarge a read of more than 256 objects, and a commit of more than 4096 parts or
+// 2 MiB.
 type Refusal uint32
 
 const (
@@ -34,7 +38,7 @@ var reasons = map[Refusal]string{
 	NoMemory:         "memory was refused",
 	BadAddress:       "an address names no object",
 	BadSize:          "a value's length is not its object's, or a bit's byte exceeds 1",
-	TooLarge:         "more than 128 distinct blocks are written",
+	TooLarge:         "too many blocks, parts or objects",
 	DeviceFailed:     "the disk failed",
 	Stale:            "the session has ended",
 	Stranger:         "the session has ended",
@@ -50,7 +54,7 @@ var reasons = map[Refusal]string{
 }
 
 func (r Refusal) Error() string {
-	return fmt.Sprintf("journal: refused by %d: %s", uint32(r), reasons[r])
+	return fmt.Sprintf("jnl: refused by %d: %s", uint32(r), reasons[r])
 }
 
 func (r Refusal) endsSession() bool {
@@ -64,15 +68,45 @@ type Unsure struct {
 }
 
 func (*Unsure) Error() string {
-	return "journal: the transaction is not known to be stable"
+	return "jnl: the transaction is not known to be stable"
 }
 
 var (
-	// ErrNoPort says that no port answers. Nothing was done.
-	ErrNoPort = errors.New("journal: no port answers")
+	// ErrNoPort says that no port answers. Nothing was done. errors.Is tells why too, as by
+	// fs.ErrNotExist, fs.ErrPermission and os.ErrDeadlineExceeded.
+	ErrNoPort = errors.New("jnl: no port answers")
 	// ErrLost says that no answer came. A commit was done whole, or not at all: read to find out.
-	// Nothing sends it again but the caller. The next call makes a new connection.
-	ErrLost = errors.New("journal: no answer came")
+	// Nothing sends it again but the caller. The next call makes a new connection. errors.Is tells
+	// why too, as by os.ErrDeadlineExceeded.
+	ErrLost = errors.New("jnl: no answer came")
 	// ErrProtocol says that the port answered what the protocol does not have. It is an ErrLost too.
 	ErrProtocol = fmt.Errorf("%w that the protocol has", ErrLost)
 )
+
+// failure is ErrNoPort or ErrLost, with what has caused it.
+type failure struct {
+	what, cause error
+}
+
+func (f *failure) Error() string {
+	return f.what.Error() + ": " + f.cause.Error()
+}
+
+func (f *failure) Is(target error) bool {
+	return f.what == target
+}
+
+func (f *failure) Unwrap() error {
+	return f.cause
+}
+
+// saysThatThePortFailed tells an error of the port, and a conflict, from an error of the work and
+// from a refusal of what the work asked for. Reads of two moments may have caused the latter two.
+func saysThatThePortFailed(err error) bool {
+	var refusal Refusal
+	var unsure *Unsure
+	if errors.As(err, &refusal) {
+		return refusal != BadAddress && refusal != BadSize && refusal != TooLarge
+	}
+	return errors.Is(err, ErrLost) || errors.Is(err, ErrNoPort) || errors.As(err, &unsure)
+}

@@ -1,20 +1,24 @@
-package journal
+package jnl
 
 import (
 	"errors"
+	"fmt"
+	"io/fs"
 	"os"
+	"strings"
+	"syscall"
 	"testing"
 	"time"
 )
 
-// The tests of this file are against a port with faults: JOURNAL_FAULTY_SOCKET names the socket of
+// The tests of this file are against a port with faults: JNL_FAULTY_SOCKET names the socket of
 // clients/tests/faulty_port.py, which lists the faults.
 
 func dialFaulty(t *testing.T) *Journal {
 	t.Helper()
-	path := os.Getenv("JOURNAL_FAULTY_SOCKET")
+	path := os.Getenv("JNL_FAULTY_SOCKET")
 	if path == "" {
-		t.Skip("JOURNAL_FAULTY_SOCKET names no socket")
+		t.Skip("JNL_FAULTY_SOCKET names no socket")
 	}
 	return dialOrFail(t, path)
 }
@@ -73,7 +77,7 @@ func TestRunTriesAgainOnlyAtConflicts(t *testing.T) {
 		times int
 	}{{1, ErrLost, 1}, {10, nil, 4}} {
 		before, times := commits(t, j), 0
-		err := j.Run(Stable, func(tx *Tx) error {
+		_, err := j.Run(Stable, func(tx *Tx) error {
 			times++
 			tx.Write(Address{514, row.bit}, []byte{1})
 			return nil
@@ -81,6 +85,85 @@ func TestRunTriesAgainOnlyAtConflicts(t *testing.T) {
 		if !errors.Is(err, row.want) || times != row.times || commits(t, j) != before+1 {
 			t.Errorf("bit %d: %v after %d runs", row.bit, err, times)
 		}
+	}
+}
+
+var errOfWork = errors.New("not as it should be")
+
+// failAfter runs work that reads objects, one by one or all at once, waits and fails. It returns
+// what Run returns, and how often the work was run.
+func failAfter(j *Journal, atOnce bool, reads ...Address) (err error, times int) {
+	_, err = j.Run(Lazy, func(tx *Tx) error {
+		times++
+		if atOnce {
+			if _, err := tx.ReadMany(reads...); err != nil {
+				return err
+			}
+		}
+		for _, a := range reads {
+			if _, err := tx.Read(a); err != nil {
+				return fmt.Errorf("within the work: %w", err)
+			}
+			if a == (Address{514, 32}) {
+				// The port ends the connection behind its answer.
+				time.Sleep(200 * time.Millisecond)
+			}
+		}
+		return errOfWork
+	})
+	return err, times
+}
+
+func TestErrorsOfWork(t *testing.T) {
+	j, before := dialFaulty(t), uint64(0)
+	first, log := Address{514, 100}, Address{0, 0}
+	for _, row := range []struct {
+		what   string
+		atOnce bool
+		reads  []Address
+		want   error
+		times  int
+		more   uint64
+	}{
+		{"what was read still holds", false, []Address{first, {514, 30}}, errOfWork, 3, 1},
+		{"a refused address", false, []Address{first, {514, 30}, log}, BadAddress, 3, 1},
+		{"no answer", false, []Address{first, {514, 31}}, ErrLost, 1, 0},
+		{"no port", false, []Address{first, {514, 32}}, ErrNoPort, 1, 0},
+		{"the session has ended", false, []Address{first, {514, 33}}, Fenced, 1, 0},
+		{"one request", true, []Address{first, {514, 31}}, errOfWork, 1, 0},
+		{"one object", false, []Address{{514, 31}}, errOfWork, 1, 0},
+		{"the port has failed", false, []Address{first, {514, 31}, {514, 20}}, ErrProtocol, 1, 1},
+	} {
+		before = commits(t, j)
+		if errors.Is(row.want, ErrProtocol) {
+			if err := setBit(j, 20); err != nil {
+				t.Fatal(err)
+			}
+		}
+		err, times := failAfter(j, row.atOnce, row.reads...)
+		if !errors.Is(err, row.want) || times != row.times {
+			t.Errorf("%s: %v after %d runs", row.what, err, times)
+		}
+		if more := commits(t, j) - before; more != row.more {
+			t.Errorf("%s: %d commits, not %d", row.what, more, row.more)
+		}
+	}
+}
+
+func TestARefusedCommitIsJudgedAsAnErrorOfWork(t *testing.T) {
+	j, times := dialFaulty(t), 0
+	before := commits(t, j)
+	_, err := j.Run(Lazy, func(tx *Tx) error {
+		times++
+		tx.Write(Address{0, 0}, make([]byte, 4096))
+		_, err := tx.Read(Address{514, 100})
+		if err == nil {
+			_, err = tx.Read(Address{514, 30})
+		}
+		return err
+	})
+	if !errors.Is(err, BadAddress) || times != 3 || commits(t, j) != before+1 {
+		t.Errorf("a write to the log: %v after %d runs", err, times)
 	}
 }
 
@@ -122,8 +205,41 @@ func TestNoAnswerInTime(t *testing.T) {
 	}
 }
 
+func TestALimitIsOfTheWholeCall(t *testing.T) {
+	j, begin := dialFaulty(t), time.Now()
+	j.Timeout = 500 * time.Millisecond
+	err := setBit(j, 15)
+	if !errors.Is(err, ErrLost) || !errors.Is(err, os.ErrDeadlineExceeded) {
+		t.Errorf("an answer in pieces: %v", err)
+	}
+	if took := time.Since(begin); took > 4*time.Second {
+		t.Errorf("it took %v", took)
+	}
+}
+
 func TestNoPort(t *testing.T) {
-	if _, err := Dial("unix", "/nowhere/at/all"); !errors.Is(err, ErrNoPort) {
-		t.Errorf("no port: %v", err)
+	for path, why := range map[string]error{
+		"/nowhere/at/all":        fs.ErrNotExist,
+		"/dev/null":              syscall.ECONNREFUSED,
+		strings.Repeat("/a", 99): syscall.EINVAL,
+	} {
+		_, err := Dial("unix", path)
+		if !errors.Is(err, ErrNoPort) || errors.Is(err, ErrLost) || !errors.Is(err, why) {
+			t.Errorf("no port at %s: %v", path, err)
+		}
+	}
+}
+
+func TestNoPortInTime(t *testing.T) {
+	dialFaulty(t)
+	for _, kind := range []string{".silent", ".full"} {
+		begin := time.Now()
+		_, err := DialTimeout("unix", os.Getenv("JNL_FAULTY_SOCKET")+kind, 200*time.Millisecond)
+		if !errors.Is(err, ErrNoPort) || !errors.Is(err, os.ErrDeadlineExceeded) {
+			t.Errorf("%s: %v", kind, err)
+		}
+		if took := time.Since(begin); took < 200*time.Millisecond || took > 5*time.Second {
+			t.Errorf("%s: it took %v", kind, took)
+		}
 	}
 }

@@ -1,16 +1,19 @@
-package journal
+package jnl
 
 import (
 	"bytes"
 	"encoding/binary"
 	"errors"
+	"fmt"
+	"math/rand"
 	"os"
 	"sync"
 	"testing"
+	"time"
 )
 
-// The tests of this file are against a running port: JOURNAL_SOCKET names its socket, and
-// JOURNAL_TCP_PORT its TCP port, if it has one.
+// The tests of this file are against a running port: JNL_SOCKET names its socket, and
+// JNL_TCP_PORT its TCP port, if it has one.
 
 const (
 	accounts   = 8
@@ -29,9 +32,9 @@ func dialOrFail(t *testing.T, path string) *Journal {
 
 func dial(t *testing.T) *Journal {
 	t.Helper()
-	path := os.Getenv("JOURNAL_SOCKET")
+	path := os.Getenv("JNL_SOCKET")
 	if path == "" {
-		t.Skip("JOURNAL_SOCKET names no socket")
+		t.Skip("JNL_SOCKET names no socket")
 	}
 	return dialOrFail(t, path)
 }
@@ -47,10 +50,11 @@ func valueOf(n uint64) []byte {
 }
 
 func writeOne(j *Journal, a Address, value []byte) error {
-	return j.Run(Lazy, func(tx *Tx) error {
+	_, err := j.Run(Lazy, func(tx *Tx) error {
 		tx.Write(a, value)
 		return nil
 	})
+	return err
 }
 
 func readOne(t *testing.T, j *Journal, a Address) []byte {
@@ -88,6 +92,36 @@ func TestAValueIsReadAsItWasWritten(t *testing.T) {
 	}
 }
 
+func TestManyAreReadAtOnce(t *testing.T) {
+	j, one, other, written := dial(t), Address{526, 4096}, Address{526, 5120}, Address{526, 6144}
+	if err := writeOne(j, one, valueOf(1)); err != nil {
+		t.Fatal(err)
+	}
+	tx := j.Begin()
+	tx.Write(written, valueOf(3))
+	if found, err := tx.ReadMany(); len(found) != 0 || err != nil {
+		t.Errorf("no objects: %v %v", found, err)
+	}
+	if _, err := tx.ReadMany(one, Address{3, 0}); !errors.Is(err, BadAddress) {
+		t.Errorf("a block of the log: %v", err)
+	}
+	found, err := tx.ReadMany(other, one, written, one)
+	for i, want := range [][]byte{readOne(t, j, other), valueOf(1), valueOf(3), valueOf(1)} {
+		if err != nil || !bytes.Equal(found[i], want) {
+			t.Errorf("object %d: %v %v", i, found, err)
+		}
+	}
+	if err := writeOne(j, one, valueOf(2)); err != nil {
+		t.Fatal(err)
+	}
+	if again, err := tx.ReadMany(one); err != nil || !bytes.Equal(again[0], valueOf(1)) {
+		t.Errorf("what was read before: %v %v", again, err)
+	}
+	if _, err := tx.Commit(Lazy); !errors.Is(err, Conflict) {
+		t.Errorf("a commit that read many: %v", err)
+	}
+}
+
 func TestAConflictChangesNothing(t *testing.T) {
 	j, place := dial(t), Address{526, 2048}
 	late := j.Begin()
@@ -108,6 +142,18 @@ func TestAConflictChangesNothing(t *testing.T) {
 	}
 }
 
+func TestRunReturnsItsReceipt(t *testing.T) {
+	j := dial(t)
+	receipt, err := j.Run(Stable, func(tx *Tx) error {
+		tx.Write(Address{526, 7168}, valueOf(1))
+		return nil
+	})
+	stat, faultOfStat := j.Stat()
+	if err != nil || faultOfStat != nil || receipt.Commits == 0 || receipt.Commits > stat.Stable {
+		t.Errorf("a run: %v %v, then %v %v", receipt, err, stat, faultOfStat)
+	}
+}
+
 func TestRefusals(t *testing.T) {
 	j := dial(t)
 	for _, row := range []struct {
@@ -125,10 +171,52 @@ func TestRefusals(t *testing.T) {
 	}
 }
 
+// commitOf returns what a commit of objects of one value is answered.
+func commitOf(j *Journal, addresses []Address, value []byte) error {
+	tx := j.Begin()
+	for _, a := range addresses {
+		tx.Write(a, value)
+	}
+	_, err := tx.Commit(Lazy)
+	return err
+}
+
+func TestWhatNoRecordHolds(t *testing.T) {
+	j := dial(t)
+	many, blocks := make([]Address, 4097), make([]Address, 512)
+	for i := range many {
+		many[i] = Address{514, 8192 + uint32(i)}
+	}
+	for i := range blocks {
+		blocks[i] = Address{531 + uint64(i), 0}
+	}
+	before, err := j.Stat()
+	if err != nil {
+		t.Fatal(err)
+	}
+	_, err = j.Read(many[:257]...)
+	_, ofMany := j.Begin().ReadMany(many[:257]...)
+	for _, err := range []error{err, ofMany, commitOf(j, many, []byte{1}),
+		commitOf(j, blocks, make([]byte, 4096))} {
+		if !errors.Is(err, TooLarge) {
+			t.Errorf("too many: %v", err)
+		}
+	}
+	if err := commitOf(j, blocks[:1], make([]byte, 4097)); !errors.Is(err, BadSize) {
+		t.Errorf("a value of 4097 bytes: %v", err)
+	}
+	if after, err := j.Stat(); err != nil || after.Commits != before.Commits {
+		t.Errorf("commits: %v %v, before %v", after, err, before)
+	}
+	if found, err := j.Read(many[:256]...); err != nil || len(found) != 256 {
+		t.Errorf("a read of 256: %d %v", len(found), err)
+	}
+}
+
 func TestTCP(t *testing.T) {
-	port, place := os.Getenv("JOURNAL_TCP_PORT"), Address{527, 0}
+	port, place := os.Getenv("JNL_TCP_PORT"), Address{527, 0}
 	if port == "" {
-		t.Skip("JOURNAL_TCP_PORT names no port")
+		t.Skip("JNL_TCP_PORT names no port")
 	}
 	byTCP, err := Dial("tcp", "127.0.0.1:"+port)
 	if err != nil {
@@ -149,7 +237,12 @@ func TestTCP(t *testing.T) {
 func TestWorkThatGivesUpChangesNothing(t *testing.T) {
 	j, place, givesUp := dial(t), Address{526, 3072}, errors.New("gives up")
 	before := readOne(t, j, place)
-	err := j.Run(Stable, func(tx *Tx) error {
+	_, err := j.Run(Stable, func(tx *Tx) error {
+		for _, a := range []Address{place, {526, 4096}} {
+			if _, err := tx.Read(a); err != nil {
+				return err
+			}
+		}
 		tx.Write(place, valueOf(99))
 		return givesUp
 	})
@@ -190,7 +283,7 @@ func TestTransfersKeepTheSum(t *testing.T) {
 			defer group.Done()
 			for i := uint32(0); i < 50; i++ {
 				from, to := account((seed+i)%accounts), account((seed+3*i+1)%accounts)
-				if err := own.Run(Lazy, func(tx *Tx) error { return transfer(tx, from, to) }); err != nil {
+				if _, err := own.Run(Lazy, func(tx *Tx) error { return transfer(tx, from, to) }); err != nil {
 					t.Error(err)
 				}
 			}
@@ -207,4 +300,71 @@ func TestTransfersKeepTheSum(t *testing.T) {
 	if _, err := j.Flush(); err != nil {
 		t.Error(err)
 	}
+}
+
+// move moves some of the sum of two objects again and again, until it is told to end.
+func move(j *Journal, places [2]Address, isOver <-chan struct{}) error {
+	for {
+		select {
+		case <-isOver:
+			return nil
+		case <-time.After(500 * time.Microsecond):
+		}
+		_, err := j.Run(Lazy, func(tx *Tx) error {
+			values, err := tx.ReadMany(places[:]...)
+			if err != nil {
+				return err
+			}
+			step := byte(rand.Intn(int(values[0][0]) + 1))
+			if values[0][0] == 0 {
+				step = -values[1][0]
+			}
+			tx.Write(places[0], valueOf(uint64(values[0][0]-step)))
+			tx.Write(places[1], valueOf(uint64(values[1][0]+step)))
+			return nil
+		})
+		if err != nil {
+			return err
+		}
+	}
+}
+
+func TestRunReturnsNoErrorThatTwoMomentsCaused(t *testing.T) {
+	j, places := dial(t), [2]Address{{527, 2048}, {527, 3072}}
+	for _, place := range places {
+		if err := writeOne(j, place, valueOf(50)); err != nil {
+			t.Fatal(err)
+		}
+	}
+	var group sync.WaitGroup
+	isOver, ends := make(chan struct{}), time.Now().Add(30*time.Second)
+	for i := 0; i < 2; i++ {
+		group.Add(1)
+		go func(own *Journal) {
+			defer group.Done()
+			if err := move(own, places, isOver); err != nil {
+				t.Error(err)
+			}
+		}(dial(t))
+	}
+	wantTheSum := func(tx *Tx) error {
+		a, err := tx.Read(places[0])
+		if err != nil {
+			return err
+		}
+		b, err := tx.Read(places[1])
+		if err == nil && a[0]+b[0] != 100 {
+			err = fmt.Errorf("%d + %d", a[0], b[0])
+		}
+		return err
+	}
+	runs := 0
+	for ; runs < 5000 && time.Now().Before(ends); runs++ {
+		if _, err := j.Run(Lazy, wantTheSum); err != nil {
+			t.Errorf("run %d: %v", runs, err)
+		}
+	}
+	t.Logf("%d runs", runs)
+	close(isOver)
+	group.Wait()
 }

@@ -1,4 +1,4 @@
-package journal
+package jnl
 
 import (
 	"encoding/binary"
@@ -8,8 +8,10 @@ import (
 // Records as they are spelled. All numbers have their highest byte first.
 
 const (
-	maxRecord = 2097152
-	maxValue  = 4096
+	maxRecord    = 2097152
+	maxValue     = 4096
+	maxParts     = 4096
+	maxAddresses = 256
 )
 
 const (

@@ -1,4 +1,9 @@
-package journal
+package jnl
+
+import "errors"
+
+// objects are values by their addresses.
+type objects map[Address][]byte
 
 // Tx has reads and writes that are committed as one.
 //
@@ -6,24 +11,73 @@ package journal
 // another by then. A Tx that is dropped has done nothing.
 type Tx struct {
 	journal       *Journal
-	reads, writes map[Address][]byte
+	reads, writes objects
+	requests      int // how many have read
 }
 
 // Read returns the object's value: what the transaction wrote there, or else what it read before,
 // or else what the journal has now. The caller may change the bytes.
 func (t *Tx) Read(a Address) ([]byte, error) {
-	if own, ok := t.writes[a]; ok {
-		return clone(own), nil
-	}
-	if own, ok := t.reads[a]; ok {
-		return clone(own), nil
-	}
-	values, err := t.journal.Read(a)
+	values, err := t.ReadMany(a)
 	if err != nil {
 		return nil, err
 	}
-	t.reads[a] = values[0]
-	return clone(values[0]), nil
+	return values[0], nil
+}
+
+// ReadMany returns the values of at most 256 objects, each as Read returns it. One request reads
+// those that the transaction does not have yet, as they are at one moment.
+func (t *Tx) ReadMany(addresses ...Address) ([][]byte, error) {
+	if len(addresses) > maxAddresses {
+		return nil, TooLarge
+	}
+	if err := t.fetch(t.missing(addresses)); err != nil {
+		return nil, err
+	}
+	values := make([][]byte, len(addresses))
+	for i, a := range addresses {
+		value, _ := t.own(a)
+		values[i] = clone(value)
+	}
+	return values, nil
+}
+
+// own returns what the transaction has of an object, if it has it.
+func (t *Tx) own(a Address) ([]byte, bool) {
+	if value, ok := t.writes[a]; ok {
+		return value, true
+	}
+	value, ok := t.reads[a]
+	return value, ok
+}
+
+// missing returns the addresses of which the transaction has nothing, each once.
+func (t *Tx) missing(addresses []Address) []Address {
+	var missing []Address
+	seen := map[Address]bool{}
+	for _, a := range addresses {
+		if _, ok := t.own(a); !ok && !seen[a] {
+			seen[a] = true
+			missing = append(missing, a)
+		}
+	}
+	return missing
+}
+
+// fetch reads objects into the transaction, by one request.
+func (t *Tx) fetch(missing []Address) error {
+	if len(missing) == 0 {
+		return nil
+	}
+	values, err := t.journal.Read(missing...)
+	if err != nil {
+		return err
+	}
+	for i, a := range missing {
+		t.reads[a] = values[i]
+	}
+	t.requests++
+	return nil
 }
 
 // Write has the object overwritten by the commit, which finds a wrong address or size.
@@ -34,14 +88,36 @@ func (t *Tx) Write(a Address, value []byte) {
 // Commit commits: where each object that was read still has its value, all writes are done at one
 // place of the history, else nothing. ErrLost leaves open whether it was done.
 func (t *Tx) Commit(durability Durability) (Receipt, error) {
-	r := newRequest(opCommit).boolean(bool(durability)).word(uint32(len(t.reads) + len(t.writes)))
-	for a, value := range t.reads {
-		r = r.part(compare, a, value)
+	return t.journal.commit(durability, t.reads, t.writes)
+}
+
+// run runs the work and commits it. The boolean says that the work is to be run again, because what
+// it read has changed.
+func (t *Tx) run(durability Durability, work func(*Tx) error) (Receipt, bool, error) {
+	var receipt Receipt
+	failure := work(t)
+	isConflict := false
+	if failure == nil {
+		receipt, failure = t.Commit(durability)
+		isConflict = errors.Is(failure, Conflict)
 	}
-	for a, value := range t.writes {
-		r = r.part(write, a, value)
+	if failure == nil || saysThatThePortFailed(failure) {
+		return receipt, isConflict, failure
 	}
-	return t.journal.commit(r)
+	if err := t.compareAlone(); err != nil {
+		return Receipt{}, errors.Is(err, Conflict), err
+	}
+	return Receipt{}, false, failure
+}
+
+// compareAlone returns nil where all that was read was so at one moment, Conflict where it was not,
+// or why that is not known. What one request has read was so.
+func (t *Tx) compareAlone() error {
+	if t.requests < 2 {
+		return nil
+	}
+	_, err := t.journal.commit(Lazy, t.reads, nil)
+	return err
 }
 
 func clone(bytes []byte) []byte {

@@ -19,19 +19,33 @@ is after a pause, as a client cannot see that a connection ends before it does.
     12  the answer, and one more that nobody asked for           done
     13  the next connection is answered another version          done; then refused; then done
     14  the commit is not answered, the connection stays         lost, by the client's timeout
+    15  committed, and answered by a byte each fifth of a second lost, by the client's timeout
 
 The first read of one of these bits after a commit that writes it:
 
     20  is answered with a byte behind its value that is no zero  protocol
     21  is answered with a value more than was asked              protocol
     22  is answered with a value of 5000 bytes                    protocol
+
+A commit that writes nothing and compares one of these bits:
+
+    30  status 64 at each first two of three                      conflict; done after two more
+    31  is not answered, and the connection ended                 lost
+    33  the session has ended: all that follows is status 14      refused by 14
+
+A read of this bit, after a pause:
+
+    32  is answered, and this connection and the next one ended   done; then there is no port
+
+SOCKET.silent takes connections and answers nothing. SOCKET.full has no room for a connection.
 """
 
 import socket
 import struct
 import sys
+import time
 
-from port_in_memory import COMMIT, HELLO, READ, Port, listen, word
+from port_in_memory import COMMIT, HELLO, MAX_PARTS, READ, WRITE, Port, Reader, listen, word
 
 BLOCK_OF_BITS = 514
 
@@ -73,13 +87,31 @@ class Connection:
             return self.read(record)
         self.send(self.port.answer(record))
 
+    def end_session(self) -> None:
+        self.is_fenced = True
+        self.send(word(14))
+
+    def refuses_compares(self, bits: set) -> bool:
+        """Whether a commit that compares these bits, and writes nothing, has met its fault."""
+        if 31 in bits:
+            self.end()
+        if 33 in bits:
+            self.end_session()
+        if 30 in bits:
+            self.port.compares += 1
+            if self.port.compares % 3 != 0:
+                self.send(word(64))
+                return True
+        return self.is_fenced
+
     def commit(self, record: bytes) -> None:
+        if self.refuses_compares(bits_compared_alone(record)):
+            return None
         fault = fault_of(record)
         if fault == 2:
             self.end()
         if fault == 7:
-            self.is_fenced = True
-            return self.send(word(14))
+            return self.end_session()
         if fault == 10:
             self.port.conflicts += 1
             if self.port.conflicts % 4 != 0:
@@ -93,9 +125,10 @@ class Connection:
             self.end()
         if fault == 3:
             self.end(framed(done)[:13])
-        if fault == 11:
+        if fault in (11, 15):
             for byte in framed(done):
                 self.peer.sendall(bytes([byte]))
+                time.sleep(0.2 if fault == 15 else 0)
             return None
         if fault == 13:
             self.port.speaks_other = True
@@ -121,6 +154,9 @@ class Connection:
     def read(self, record: bytes) -> None:
         asked, bit = (int.from_bytes(record[i : i + 4], "big") for i in (4, 16))
         answer = self.port.answer(record)
+        if record[8:16] == struct.pack(">Q", BLOCK_OF_BITS) and bit == 32:
+            self.port.ends_next = True
+            self.end(framed(answer))
         if record[8:16] == struct.pack(">Q", BLOCK_OF_BITS) and bit in self.port.to_read:
             self.port.to_read.remove(bit)
             value = word(1) + b"\1\0\0\0"
@@ -139,10 +175,21 @@ def fault_of(record: bytes) -> int:
     return int.from_bytes(last[12:16], "big") if has_bit else -1
 
 
+def bits_compared_alone(record: bytes) -> set:
+    """The bits of block 514 that a commit compares, where it writes nothing; else none."""
+    reader = Reader(record[8:])
+    parts = [reader.part() for _ in range(reader.word(MAX_PARTS))]
+    if any(action == WRITE for action, _, _ in parts):
+        return set()
+    return {bit for _, (block, bit), _ in parts if block == BLOCK_OF_BITS}
+
+
 class FaultyPort(Port):
     def __init__(self) -> None:
         super().__init__()
         self.conflicts = 0
+        self.compares = 0
+        self.ends_next = False
         self.speaks_other = False
         self.to_read: set = set()
 
@@ -150,6 +197,9 @@ class FaultyPort(Port):
         met = Connection(self, connection)
         came = b""
         with connection:
+            if self.ends_next:
+                self.ends_next = False
+                return
             while piece := connection.recv(65536):
                 came += piece
                 while len(came) >= 4 and len(came) >= 4 + int.from_bytes(came[:4], "big"):
@@ -161,5 +211,28 @@ class FaultyPort(Port):
                         return
 
 
+def listener_without_a_port(path: str, room: int) -> socket.socket:
+    listener = socket.socket(socket.AF_UNIX)
+    listener.bind(path)
+    listener.listen(room)
+    return listener
+
+
+def fill(path: str) -> list:
+    """Connections that take all the room of a socket."""
+    made = []
+    while True:
+        made.append(socket.socket(socket.AF_UNIX))
+        made[-1].setblocking(False)
+        try:
+            made[-1].connect(path)
+        except BlockingIOError:
+            return made
+
+
 if __name__ == "__main__":
-    listen(FaultyPort(), sys.argv[1])
+    path = sys.argv[1]
+    silent = listener_without_a_port(f"{path}.silent", 64)
+    full = listener_without_a_port(f"{path}.full", 0)
+    filling = fill(f"{path}.full")
+    listen(FaultyPort(), path)

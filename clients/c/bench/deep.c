@@ -1,4 +1,4 @@
-/* The journal over the socket that JOURNAL_PATH names, DEPTH transactions at a time: a thread sends
+/* The journal over the socket that JNL_PATH names, DEPTH transactions at a time: a thread sends
  * so many records in one call and then reads their answers. See engines.h. */
 #include "deep.h"
 #include <stdlib.h>
@@ -63,8 +63,8 @@ void *deep_session(void)
     struct sockaddr_un to = {.sun_family = AF_UNIX};
     struct line *l = calloc(1, sizeof *l);
     uint8_t hello[HELLO_BYTES];
-    const char *path = getenv("JOURNAL_PATH");
-    if (!l || !path || strlen(path) >= sizeof to.sun_path) fail("deep", "JOURNAL_PATH");
+    const char *path = getenv("JNL_PATH");
+    if (!l || !path || strlen(path) >= sizeof to.sun_path) fail("deep", "JNL_PATH");
     strcpy(to.sun_path, path);
     l->fd = socket(AF_UNIX, SOCK_STREAM, 0);
     if (connect(l->fd, (struct sockaddr *)&to, sizeof to)) fail(path, "no port answers");

@@ -1,6 +1,6 @@
 /* See engines.h. An engine is there where its HAVE_ is defined. */
 #include "engines.h"
-#include "../journal.h"
+#include "../jnl.h"
 #include "deep.h"
 #include <stdio.h>
 #include <stdlib.h>
@@ -17,7 +17,7 @@ static void spell_key(uint32_t key, char bytes[4])
 }
 #endif
 
-/* ---- the journal: at the path that JOURNAL_PATH names, which is a disk or a socket as the library
+/* ---- the journal: at the path that JNL_PATH names, which is a disk or a socket as the library
  * has it; or on a new disk in this process */
 
 static char journal_path[600];
@@ -47,7 +47,7 @@ static void journal_make(const char *path)
 
 static void journal_open(const char *folder, int durable)
 {
-    const char *at = getenv("JOURNAL_PATH");
+    const char *at = getenv("JNL_PATH");
     snprintf(journal_path, sizeof journal_path, "%s%s", at ? at : folder, at ? "" : "/disk");
     if (!at) journal_make(journal_path);
     is_durable = durable;

@@ -2,7 +2,7 @@
  * one transaction that waits, for ever or COUNT times. It prints its own count once each is
  * answered. Where a call is refused it prints the status and ends. What it has told is to be there
  * after whatever ends it or the port. */
-#include "../journal.h"
+#include "../jnl.h"
 #include <stdio.h>
 #include <stdlib.h>
 #include <string.h>
@@ -44,7 +44,7 @@ int main(int argc, char **argv)
     long left = argc > 3 ? atol(argv[3]) : -1;
     int s = jnl_open(argv[1], &j);
     while (!s && left--) {
-        s = jnl_run(j, add_to_each, &number, JNL_WAIT);
+        s = jnl_run(j, add_to_each, &number, JNL_WAIT, NULL);
         if (!s) printf("%llu\n", (unsigned long long)own), fflush(stdout);
     }
     if (s) printf("status %d\n", s), fflush(stdout);

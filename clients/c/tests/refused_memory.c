@@ -2,7 +2,7 @@
  * A call that is refused is made again, and must then do well. With the journal in this process a
  * call may also lose its line, or find no journal. It prints how many calls were refused, or the
  * first thing that is wrong. */
-#include "../journal.h"
+#include "../jnl.h"
 #include <stdio.h>
 #include <stdlib.h>
 #include <string.h>
@@ -62,7 +62,7 @@ int main(int argc, char **argv)
     is_inside = argc == 3;
     MAKE(jnl_open(argv[1], &j));
     for (int byte = 1; byte < 4; byte++) {
-        MAKE(jnl_run(j, write_all, &byte, byte == 3 ? JNL_WAIT : 0));
+        MAKE(jnl_run(j, write_all, &byte, byte == 3 ? JNL_WAIT : 0, NULL));
         look(j, byte);
     }
     MAKE(jnl_flush(j, &stable));

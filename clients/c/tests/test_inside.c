@@ -1,6 +1,7 @@
 /* Tests of the carrier in the process: test_inside DISK OTHER, two disks. It prints `ok`, or the
  * first thing that is wrong. */
-#include "../journal.h"
+#include "../jnl.h"
+#include <errno.h>
 #include <stdio.h>
 #include <stdlib.h>
 #include <string.h>
@@ -30,7 +31,7 @@ static int add_one(jnl_txn *t, void *count)
 static void count_to(jnl *j, int wanted, const char *what)
 {
     int count;
-    want(jnl_run(j, add_one, &count, JNL_WAIT), JNL_OK, what);
+    want(jnl_run(j, add_one, &count, JNL_WAIT, NULL), JNL_OK, what);
     want(count, wanted, what);
 }
 
@@ -55,6 +56,7 @@ static void as_many_as_can_be(jnl *first, const char *disk)
     jnl *all[MOST], *more;
     for (int i = 1; i < MOST; i++) want(jnl_open(disk, &all[i]), JNL_OK, "one more");
     want(jnl_open(disk, &more), JNL_NO_PORT, "one too many");
+    want(errno, EMFILE, "why it is one too many");
     for (int i = 1; i < MOST; i++) count_to(all[i], 2 + i, "one of many");
     for (int i = 1; i < MOST; i++) jnl_close(all[i]);
     count_to(first, 2 + MOST, "the first again");
@@ -86,7 +88,9 @@ int main(int argc, char **argv)
     jnl *j, *other;
     if (argc != 3) return fprintf(stderr, "usage: test_inside DISK OTHER\n"), 2;
     want(jnl_open("/nowhere/at/all", &j), JNL_NO_PORT, "no file");
+    want(errno, ENOENT, "why there is no file");
     want(jnl_open("/dev/null", &j), JNL_NO_PORT, "no disk");
+    want(errno, EIO, "that the reason is said");
     want(strlen(jnl_reason()) > 0, 1, "why there is no disk");
     want(jnl_open(argv[1], &j), JNL_OK, "open");
     count_to(j, 1, "the first");

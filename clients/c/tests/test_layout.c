@@ -1,7 +1,7 @@
 /* A test of the client against a running port of a disk with a layout of its own: test_layout
  * SOCKET. Its regions are 513:block, 514:bit and 515:record64. It prints `ok`, or the first thing
  * that is wrong. */
-#include "../journal.h"
+#include "../jnl.h"
 #include <stdio.h>
 #include <stdlib.h>
 #include <string.h>
@@ -58,8 +58,8 @@ int main(int argc, char **argv)
     if (argc < 2) return fprintf(stderr, "usage: test_layout SOCKET\n"), 2;
     want(jnl_open(argv[1], &j), JNL_OK, "open");
     uint64_t last = jnl_blocks(j) - 1;
-    want(jnl_run(j, write_each_kind, &last, JNL_WAIT), JNL_OK, "writes");
-    want(jnl_run(j, read_each_kind, &last, 0), JNL_OK, "reads");
+    want(jnl_run(j, write_each_kind, &last, JNL_WAIT, NULL), JNL_OK, "writes");
+    want(jnl_run(j, read_each_kind, &last, 0, NULL), JNL_OK, "reads");
     refuse(j, (jnl_addr){last + 1, 0}, RECORD, JNL_BAD_ADDRESS, "a block that the disk has not");
     refuse(j, (jnl_addr){515, RECORD_BITS / 2}, RECORD, JNL_BAD_ADDRESS, "half a record's bits");
     refuse(j, (jnl_addr){515, 0}, 2 * RECORD, JNL_BAD_SIZE, "two records");

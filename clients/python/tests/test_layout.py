@@ -1,5 +1,5 @@
 """A test of the client against a running port of a disk with a layout of its own:
-JOURNAL_LAYOUT_SOCKET names its socket. Its regions are 513:block, 514:bit and 515:record64.
+JNL_LAYOUT_SOCKET names its socket. Its regions are 513:block, 514:bit and 515:record64.
 """
 
 import os
@@ -8,18 +8,18 @@ import unittest
 
 sys.path.insert(0, os.path.join(os.path.dirname(__file__), ".."))
 
-import journal  # noqa: E402
+import jnl  # noqa: E402
 
-PATH = os.environ.get("JOURNAL_LAYOUT_SOCKET", "")
+PATH = os.environ.get("JNL_LAYOUT_SOCKET", "")
 
 HEAD = b"TEST 513:block 514:bit 515:record64".ljust(4096, b"\0")
 RECORD_BITS = 512
 
 
-@unittest.skipUnless(PATH, "JOURNAL_LAYOUT_SOCKET names no socket")
+@unittest.skipUnless(PATH, "JNL_LAYOUT_SOCKET names no socket")
 class Layout(unittest.TestCase):
     def setUp(self) -> None:
-        self.journal = journal.connect(PATH, timeout=30)
+        self.journal = jnl.connect(PATH, timeout=30)
         self.addCleanup(self.journal.close)
         self.last = self.journal.blocks - 1
 
@@ -27,7 +27,7 @@ class Layout(unittest.TestCase):
         bit, record = (514, 32767), (self.last, 63 * RECORD_BITS)
         value = bytes(range(64))
 
-        def work(t: journal.Transaction) -> None:
+        def work(t: jnl.Transaction) -> None:
             self.assertIn(t.read(513, 0), (bytes(4096), HEAD))
             t.write(513, 0, HEAD)
             t.write(*bit, b"\1")
@@ -46,7 +46,7 @@ class Layout(unittest.TestCase):
         ]:
             t = self.journal.begin()
             t.write(block, bit, value)
-            with self.assertRaises(journal.Refused) as caught:
+            with self.assertRaises(jnl.Refused) as caught:
                 t.commit()
             self.assertEqual(caught.exception.status, status)
 

@@ -20,13 +20,17 @@ pub enum Error {
 }
 
 /// A reason for which nothing was done. Each has the protocol's number.
+///
+/// What no record can hold is refused before anything is sent: by [`Refusal::BadSize`] a value of
+/// more than 4096 bytes, and by [`Refusal::TooLarge`] a read of more than 256 objects, and a commit
+/// of more than 4096 parts or 2 MiB.
 #[derive(Clone, Copy, Debug, PartialEq, Eq)]
 #[allow(missing_docs)]
 pub enum Refusal {
     NoMemory = 1,
     BadAddress = 2,
     BadSize = 3,
-    /// More than 128 distinct blocks are written.
+    /// More than 128 distinct blocks are written, or more than a record can hold.
     TooLarge = 4,
     DeviceFailed = 6,
     /// This one, the next two and `Fenced`: the session has ended; the next call begins another.
@@ -76,7 +80,7 @@ impl Refusal {
             Refusal::NoMemory => "memory was refused",
             Refusal::BadAddress => "an address names no object",
             Refusal::BadSize => "a value's length is not its object's, or a bit's byte exceeds 1",
-            Refusal::TooLarge => "more than 128 distinct blocks are written",
+            Refusal::TooLarge => "too many blocks, parts or objects",
             Refusal::DeviceFailed => "the disk failed",
             Refusal::Stale | Refusal::Stranger | Refusal::Worn | Refusal::Fenced => {
                 "the session has ended"
@@ -99,6 +103,12 @@ impl Error {
             Error::Lost(_) | Error::Protocol(_) | Error::NoPort(_) => true,
             Error::Conflict | Error::Unsure(_) => false,
         }
+    }
+
+    /// Whether what was asked for is wrong, and the port has not failed.
+    pub(crate) fn is_of_arguments(&self) -> bool {
+        use Refusal::{BadAddress, BadSize, TooLarge};
+        matches!(self, Error::Refused(BadAddress | BadSize | TooLarge))
     }
 
     /// The same error of the first exchange of a connection, before anything was asked.

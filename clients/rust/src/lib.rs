@@ -1,7 +1,7 @@
 //! A client of the journal, over its port. `docs/PROTOCOL.md` has the bytes.
 //!
 //! ```no_run
-//! use journal::{Address, Durability, Error, Journal, Transaction};
+//! use jnl::{Address, Durability, Error, Journal, Transaction};
 //!
 //! const FROM: Address = Address { block: 515, bit: 0 };
 //! const TO: Address = Address { block: 515, bit: 1024 };
@@ -40,7 +40,7 @@ use std::hash::{BuildHasher, Hasher};
 use std::path::Path;
 use std::thread;
 use std::time::Duration;
-use stream::{Place, Stream};
+use stream::{Deadline, Place, Stream};
 
 const VERSION: u32 = 1;
 /// How often a transaction that meets conflicts is run.
@@ -96,6 +96,7 @@ pub struct Journal {
     stream: Option<Stream>,
     timeout: Option<Duration>,
     blocks: u64,
+    last_receipt: Option<Receipt>,
 }
 
 impl Journal {
@@ -104,7 +105,16 @@ impl Journal {
     /// # Errors
     /// [`Error::NoPort`], [`Error::Protocol`], and [`Error::Refused`] by a version.
     pub fn connect(path: impl AsRef<Path>) -> Result<Journal, Error> {
-        Journal::at(Place::Socket(path.as_ref().into()))
+        Journal::at(Place::Socket(path.as_ref().into()), None)
+    }
+
+    /// Connects to the socket at a path, with the limit of [`Journal::set_timeout`] from the first
+    /// on.
+    ///
+    /// # Errors
+    /// As [`Journal::connect`]. A port that does not answer in time is [`Error::NoPort`].
+    pub fn connect_within(path: impl AsRef<Path>, limit: Duration) -> Result<Journal, Error> {
+        Journal::at(Place::Socket(path.as_ref().into()), Some(limit))
     }
 
     /// Connects to a TCP port of this machine.
@@ -112,12 +122,20 @@ impl Journal {
     /// # Errors
     /// As [`Journal::connect`].
     pub fn connect_port(port: u16) -> Result<Journal, Error> {
-        Journal::at(Place::Port(port))
+        Journal::at(Place::Port(port), None)
     }
 
-    fn at(place: Place) -> Result<Journal, Error> {
-        let mut journal = Journal { place, stream: None, timeout: None, blocks: 0 };
-        journal.stream = Some(journal.dial()?);
+    /// Connects to a TCP port of this machine, as [`Journal::connect_within`] does.
+    ///
+    /// # Errors
+    /// As [`Journal::connect_within`].
+    pub fn connect_port_within(port: u16, limit: Duration) -> Result<Journal, Error> {
+        Journal::at(Place::Port(port), Some(limit))
+    }
+
+    fn at(place: Place, timeout: Option<Duration>) -> Result<Journal, Error> {
+        let mut journal = Journal { place, stream: None, timeout, blocks: 0, last_receipt: None };
+        journal.stream = Some(journal.dial(Deadline::after(timeout))?);
         Ok(journal)
     }
 
@@ -126,13 +144,17 @@ impl Journal {
         self.blocks
     }
 
-    /// Sets the most that a call waits for the port to take or send bytes; `None`, as at the
-    /// beginning, is for ever. A call that waited in vain answers [`Error::Lost`].
+    /// The receipt of the last commit that was done over this connection, as by [`Journal::run`].
+    pub fn last_receipt(&self) -> Option<Receipt> {
+        self.last_receipt
+    }
+
+    /// Sets the most that a call waits for the port in all; `None`, as after [`Journal::connect`],
+    /// and zero are for ever. A call that waited in vain answers [`Error::Lost`], or
+    /// [`Error::NoPort`] where it had to connect again. The error in it is then of the kind
+    /// `TimedOut`.
     pub fn set_timeout(&mut self, timeout: Option<Duration>) {
-        self.timeout = timeout.filter(|t| !t.is_zero());
-        let timeout = self.timeout;
-        // A stream that refuses it is of no use; the next call makes another.
-        self.stream = self.stream.take().filter(|s| s.set_timeout(timeout).is_ok());
+        self.timeout = timeout;
     }
 
     /// A transaction that has done nothing.
@@ -145,7 +167,7 @@ impl Journal {
     /// # Errors
     /// Each that says that nothing was done, and [`Error::Lost`].
     pub fn read(&mut self, addresses: &[Address]) -> Result<Vec<Vec<u8>>, Error> {
-        self.ask(Record::read(addresses), |answer| {
+        self.ask(Record::read(addresses)?, |answer| {
             if answer.word()? as usize != addresses.len() {
                 return Err(Error::Protocol("there are not as many values as addresses"));
             }
@@ -155,6 +177,17 @@ impl Journal {
 
     /// Runs the work in a transaction and commits it, again after a pause where it meets a
     /// conflict, up to a hundred times.
+    ///
+    /// Work that reads by more than one request may see two moments, and so objects that do not fit
+    /// together. Where it answers an error, or its commit is refused by [`Refusal::BadAddress`],
+    /// [`Refusal::BadSize`] or [`Refusal::TooLarge`], `run` asks the port whether all that it read
+    /// was so at one moment, by a commit that only compares. If not, the work is run again. If that
+    /// request fails, `run` answers its error, and not that of the work. Nothing was done then.
+    /// Where the port has failed the last call of the transaction, as by [`Error::Lost`], the error
+    /// of the work is answered at once.
+    ///
+    /// The work must end, and not panic, whatever it reads. [`Transaction::read_many`] reads
+    /// objects of one moment.
     ///
     /// # Errors
     /// What the work answers, with nothing done; and each error of a commit.
@@ -166,9 +199,11 @@ impl Journal {
         for attempt in 0..TRIES {
             pause_before(attempt);
             let mut transaction = self.begin();
-            let found = work(&mut transaction)?;
-            match transaction.commit(durability) {
-                Ok(_) => return Ok(found),
+            let found = work(&mut transaction)
+                .and_then(|found| Ok(transaction.commit_parts(durability).map(|_| found)?));
+            let Err(failure) = found else { return found };
+            match transaction.look_at_failure() {
+                Ok(()) => return Err(failure),
                 Err(Error::Conflict) => {}
                 Err(error) => return Err(error.into()),
             }
@@ -176,7 +211,9 @@ impl Journal {
         Err(Error::Conflict.into())
     }
 
-    /// Makes all commits stable that were answered before. Answers how many are stable.
+    /// Makes all commits stable that were answered before, since the service was started. Answers
+    /// how many are stable. It does not tell that the service was killed and started again, which
+    /// has lost commits that did not wait.
     ///
     /// # Errors
     /// Each that says that nothing was done, and [`Error::Lost`].
@@ -207,10 +244,10 @@ impl Journal {
     }
 
     /// A connection that was greeted. Nothing was asked over it yet.
-    fn dial(&mut self) -> Result<Stream, Error> {
-        let mut stream = Stream::connect(&self.place, self.timeout).map_err(Error::NoPort)?;
+    fn dial(&mut self, ends: Deadline) -> Result<Stream, Error> {
+        let mut stream = Stream::connect(&self.place, ends).map_err(Error::NoPort)?;
         let hello = Record::hello(VERSION);
-        let (version, blocks) = exchange(&mut stream, hello, |a| Ok((a.word()?, a.hyper()?)))
+        let (version, blocks) = exchange(&mut stream, hello, ends, |a| Ok((a.word()?, a.hyper()?)))
             .map_err(Error::of_a_greeting)?;
         if version != VERSION {
             return Err(Error::Protocol("the port speaks another version"));
@@ -226,11 +263,12 @@ impl Journal {
         record: Record,
         decode: impl FnOnce(&mut Reader<'_>) -> Result<T, Error>,
     ) -> Result<T, Error> {
+        let ends = Deadline::after(self.timeout);
         let mut stream = match self.stream.take().filter(Stream::is_quiet) {
             Some(stream) => stream,
-            None => self.dial()?,
+            None => self.dial(ends)?,
         };
-        let found = exchange(&mut stream, record, decode);
+        let found = exchange(&mut stream, record, ends, decode);
         if !matches!(&found, Err(error) if error.ends_connection()) {
             self.stream = Some(stream);
         }
@@ -242,11 +280,12 @@ impl Journal {
 fn exchange<T>(
     stream: &mut Stream,
     record: Record,
+    ends: Deadline,
     decode: impl FnOnce(&mut Reader<'_>) -> Result<T, Error>,
 ) -> Result<T, Error> {
     let operation = record.operation();
-    stream.send(&record.finish()?).map_err(Error::Lost)?;
-    let answer = stream.receive()?;
+    stream.send(&record.finish()?, ends).map_err(Error::Lost)?;
+    let answer = stream.receive(ends)?;
     let mut reader = Reader::of_answer(&answer, operation)?;
     let found = decode(&mut reader)?;
     reader.end()?;

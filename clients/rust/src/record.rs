@@ -6,6 +6,8 @@ use crate::{Address, Durability, Error, Receipt, Refusal};
 /// A record's longest, its length not counted.
 pub(crate) const MAX_RECORD: usize = 2_097_152;
 const MAX_VALUE: usize = 4096;
+const MAX_PARTS: usize = 4096;
+pub(crate) const MAX_ADDRESSES: usize = 256;
 const LENGTH_BYTES: usize = 4;
 const UNSURE: u32 = 65;
 const CONFLICT: u32 = 64;
@@ -46,26 +48,30 @@ impl Record {
     }
 
     /// A transaction of so many parts, which are to be added.
-    pub fn commit(durability: Durability, parts: usize) -> Record {
+    pub fn commit(durability: Durability, parts: usize) -> Result<Record, Error> {
         let mut record = Record::new(Operation::Commit);
         record.word((durability == Durability::Stable) as u32);
-        record.word(parts as u32);
-        record
+        record.number_of(parts, MAX_PARTS)?;
+        Ok(record)
     }
 
-    pub fn part(&mut self, action: Action, address: Address, value: &[u8]) {
+    pub fn part(&mut self, action: Action, address: Address, value: &[u8]) -> Result<(), Error> {
+        if value.len() > MAX_VALUE {
+            return Err(Error::Refused(Refusal::BadSize));
+        }
         self.word(action as u32);
         self.address(address);
         self.word(value.len() as u32);
         self.bytes.extend_from_slice(value);
         self.bytes.resize(self.bytes.len() + padding(value.len()), 0);
+        Ok(())
     }
 
-    pub fn read(addresses: &[Address]) -> Record {
+    pub fn read(addresses: &[Address]) -> Result<Record, Error> {
         let mut record = Record::new(Operation::Read);
-        record.word(addresses.len() as u32);
+        record.number_of(addresses.len(), MAX_ADDRESSES)?;
         addresses.iter().for_each(|address| record.address(*address));
-        record
+        Ok(record)
     }
 
     pub fn flush() -> Record {
@@ -88,7 +94,7 @@ impl Record {
     pub fn finish(mut self) -> Result<Vec<u8>, Error> {
         let length = self.bytes.len() - LENGTH_BYTES;
         if length > MAX_RECORD {
-            return Err(Error::Refused(Refusal::TooLong));
+            return Err(Error::Refused(Refusal::TooLarge));
         }
         self.bytes[..LENGTH_BYTES].copy_from_slice(&(length as u32).to_be_bytes());
         Ok(self.bytes)
@@ -96,6 +102,15 @@ impl Record {
 
     fn word(&mut self, number: u32) {
         self.bytes.extend_from_slice(&number.to_be_bytes());
+    }
+
+    /// How many items follow, where a record may have so many.
+    fn number_of(&mut self, items: usize, most: usize) -> Result<(), Error> {
+        if items > most {
+            return Err(Error::Refused(Refusal::TooLarge));
+        }
+        self.word(items as u32);
+        Ok(())
     }
 
     fn address(&mut self, address: Address) {

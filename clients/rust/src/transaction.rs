@@ -1,6 +1,6 @@
-use crate::record::{Action, Record};
-use crate::{Address, Durability, Error, Journal, Receipt};
-use std::collections::BTreeMap;
+use crate::record::{Action, Record, MAX_ADDRESSES};
+use crate::{Address, Durability, Error, Journal, Receipt, Refusal};
+use std::collections::{BTreeMap, BTreeSet};
 
 /// Reads and writes that are committed as one.
 ///
@@ -11,11 +11,26 @@ pub struct Transaction<'j> {
     journal: &'j mut Journal,
     reads: BTreeMap<Address, Vec<u8>>,
     writes: BTreeMap<Address, Vec<u8>>,
+    /// How many requests have read.
+    requests: u32,
+    /// How the last one ended, and the commit.
+    end: End,
+}
+
+/// How a request has ended.
+#[derive(Clone, Copy, Debug)]
+enum End {
+    /// Done, or refused for what it asked for.
+    Answered,
+    Conflict,
+    /// The port has failed it.
+    Failed,
 }
 
 impl<'j> Transaction<'j> {
     pub(crate) fn new(journal: &'j mut Journal) -> Self {
-        Transaction { journal, reads: BTreeMap::new(), writes: BTreeMap::new() }
+        let (reads, writes) = (BTreeMap::new(), BTreeMap::new());
+        Transaction { journal, reads, writes, requests: 0, end: End::Answered }
     }
 
     /// The object's value: what the transaction wrote there, or else what it read before, or else
@@ -24,12 +39,38 @@ impl<'j> Transaction<'j> {
     /// # Errors
     /// Each that says that nothing was done, and [`Error::Lost`]. The transaction is as it was.
     pub fn read(&mut self, address: Address) -> Result<Vec<u8>, Error> {
-        if let Some(own) = self.writes.get(&address).or_else(|| self.reads.get(&address)) {
-            return Ok(own.clone());
+        Ok(self.read_many(&[address])?.remove(0))
+    }
+
+    /// The values of at most 256 objects, each as [`Transaction::read`] gives it. One request reads
+    /// those that the transaction does not have yet, as they are at one moment.
+    ///
+    /// # Errors
+    /// As [`Transaction::read`].
+    pub fn read_many(&mut self, addresses: &[Address]) -> Result<Vec<Vec<u8>>, Error> {
+        if addresses.len() > MAX_ADDRESSES {
+            return Err(Error::Refused(Refusal::TooLarge));
         }
-        let value = self.journal.read(&[address])?.remove(0);
-        self.reads.insert(address, value.clone());
-        Ok(value)
+        let missing: BTreeSet<Address> =
+            addresses.iter().copied().filter(|a| self.own(a).is_none()).collect();
+        self.fetch(&missing.into_iter().collect::<Vec<_>>())?;
+        Ok(addresses.iter().filter_map(|a| self.own(a)).cloned().collect())
+    }
+
+    /// What the transaction has of an object.
+    fn own(&self, address: &Address) -> Option<&Vec<u8>> {
+        self.writes.get(address).or_else(|| self.reads.get(address))
+    }
+
+    /// Reads objects into the transaction, by one request.
+    fn fetch(&mut self, missing: &[Address]) -> Result<(), Error> {
+        if !missing.is_empty() {
+            let values = self.journal.read(missing);
+            let values = self.note(values)?;
+            self.reads.extend(missing.iter().copied().zip(values));
+            self.requests += 1;
+        }
+        Ok(())
     }
 
     /// Has the object overwritten by the commit, which finds a wrong address or size.
@@ -43,10 +84,58 @@ impl<'j> Transaction<'j> {
     /// # Errors
     /// [`Error::Conflict`] and the others. [`Error::Lost`] and [`Error::Protocol`] leave open
     /// whether it was done.
-    pub fn commit(self, durability: Durability) -> Result<Receipt, Error> {
-        let mut record = Record::commit(durability, self.reads.len() + self.writes.len());
-        self.reads.iter().for_each(|(a, value)| record.part(Action::Compare, *a, value));
-        self.writes.iter().for_each(|(a, value)| record.part(Action::Write, *a, value));
-        self.journal.commit(record)
+    pub fn commit(mut self, durability: Durability) -> Result<Receipt, Error> {
+        self.commit_parts(durability)
     }
+
+    pub(crate) fn commit_parts(&mut self, durability: Durability) -> Result<Receipt, Error> {
+        let written = self.writes.iter().map(|(a, value)| (Action::Write, a, value));
+        let record = spell(durability, self.compared().chain(written));
+        let found = record.and_then(|record| self.journal.commit(record));
+        let receipt = self.note(found)?;
+        self.journal.last_receipt = Some(receipt);
+        Ok(receipt)
+    }
+
+    fn compared(&self) -> impl Iterator<Item = (Action, &Address, &Vec<u8>)> + Clone {
+        self.reads.iter().map(|(a, value)| (Action::Compare, a, value))
+    }
+
+    fn note<T>(&mut self, found: Result<T, Error>) -> Result<T, Error> {
+        self.end = match &found {
+            Err(Error::Conflict) => End::Conflict,
+            Err(error) if !error.is_of_arguments() => End::Failed,
+            _ => End::Answered,
+        };
+        found
+    }
+
+    /// After work that has failed, or a commit that was not done: whether the failure follows from
+    /// what was so at one moment. What one request has read was so, and a port that has failed is
+    /// asked nothing.
+    ///
+    /// # Errors
+    /// [`Error::Conflict`] where it does not; and the others, where that is not known.
+    pub(crate) fn look_at_failure(self) -> Result<(), Error> {
+        match self.end {
+            End::Conflict => Err(Error::Conflict),
+            End::Answered if self.requests > 1 => {
+                let record = spell(Durability::Lazy, self.compared())?;
+                self.journal.commit(record).map(|_| ())
+            }
+            End::Answered | End::Failed => Ok(()),
+        }
+    }
+}
+
+/// The record of a transaction of these parts.
+fn spell<'a>(
+    durability: Durability,
+    parts: impl Iterator<Item = (Action, &'a Address, &'a Vec<u8>)> + Clone,
+) -> Result<Record, Error> {
+    let mut record = Record::commit(durability, parts.clone().count())?;
+    for (action, address, value) in parts {
+        record.part(action, *address, value)?;
+    }
+    Ok(record)
 }

@@ -1,9 +1,10 @@
-//! Tests of the client against a port with faults. `JOURNAL_FAULTY_SOCKET` names the socket of
+//! Tests of the client against a port with faults. `JNL_FAULTY_SOCKET` names the socket of
 //! `clients/tests/faulty_port.py`, which lists the faults; nothing is tried without it.
 
-use journal::{Address, Durability, Error, Journal, Receipt, Refusal};
+use jnl::{Address, Durability, Error, Journal, Receipt, Refusal};
+use std::io::ErrorKind;
 use std::thread;
-use std::time::Duration;
+use std::time::{Duration, Instant};
 
 fn bit(number: u32) -> Address {
     Address { block: 514, bit: number }
@@ -54,10 +55,81 @@ fn look_at_run(
     assert_eq!((tries, commits(journal)), (times, before + 1), "bit {number}");
 }
 
+#[derive(Debug)]
+enum OfWork {
+    /// What the work itself answers.
+    NotAsItShouldBe,
+    Journal(Error),
+}
+
+impl From<Error> for OfWork {
+    fn from(error: Error) -> Self {
+        OfWork::Journal(error)
+    }
+}
+
+/// Work that reads objects, one by one or all at once, waits and fails. What `run` answers, and how
+/// often the work was run.
+fn fail_after(journal: &mut Journal, at_once: bool, reads: &[Address]) -> (OfWork, u32) {
+    let mut times = 0;
+    let found = journal.run(Durability::Lazy, |t| {
+        times += 1;
+        if at_once {
+            t.read_many(reads)?;
+        }
+        for address in reads {
+            t.read(*address)?;
+            if *address == bit(32) {
+                // The port ends the connection behind its answer.
+                thread::sleep(Duration::from_millis(200));
+            }
+        }
+        Err::<(), _>(OfWork::NotAsItShouldBe)
+    });
+    (found.expect_err("the work fails"), times)
+}
+
+fn errors_of_work(j: &mut Journal) {
+    use Error::{Lost, NoPort, Protocol, Refused};
+    use OfWork::{Journal, NotAsItShouldBe};
+    let (first, before) = (bit(100), commits(j));
+    let found = fail_after(j, false, &[first, bit(30)]);
+    assert!(matches!(found, (NotAsItShouldBe, 3)), "what was read still holds: {found:?}");
+    let found = fail_after(j, false, &[first, bit(30), Address { block: 0, bit: 0 }]);
+    let is_refused = matches!(found, (Journal(Refused(Refusal::BadAddress)), 3));
+    assert!(is_refused, "a refused address: {found:?}");
+    let found = fail_after(j, false, &[first, bit(31)]);
+    assert!(matches!(found, (Journal(Lost(_)), 1)), "no answer: {found:?}");
+    let found = fail_after(j, false, &[first, bit(32)]);
+    assert!(matches!(found, (Journal(NoPort(_)), 1)), "no port: {found:?}");
+    let found = fail_after(j, false, &[first, bit(33)]);
+    let is_ended = matches!(found, (Journal(Refused(Refusal::Fenced)), 1));
+    assert!(is_ended, "the session has ended: {found:?}");
+    let found = fail_after(j, true, &[first, bit(31)]);
+    assert!(matches!(found, (NotAsItShouldBe, 1)), "one request: {found:?}");
+    let found = fail_after(j, false, &[bit(31)]);
+    assert!(matches!(found, (NotAsItShouldBe, 1)), "one object: {found:?}");
+    commit(j, 20).expect("a commit");
+    let found = fail_after(j, false, &[first, bit(31), bit(20)]);
+    assert!(matches!(found, (Journal(Protocol(_)), 1)), "the port has failed: {found:?}");
+    assert_eq!(commits(j), before + 3);
+}
+
+fn a_refused_commit_is_judged_as_an_error_of_work(j: &mut Journal) {
+    let (mut times, before) = (0, commits(j));
+    let found = j.run(Durability::Lazy, |t| -> Result<(), Error> {
+        times += 1;
+        t.write(Address { block: 0, bit: 0 }, [0; 4096]);
+        t.read(bit(100)).and(t.read(bit(30))).map(|_| ())
+    });
+    assert!(matches!(found, Err(Error::Refused(Refusal::BadAddress))), "{found:?}");
+    assert_eq!((times, commits(j)), (3, before + 1));
+}
+
 #[test]
 fn each_fault_is_told_and_the_next_call_does_well() {
-    let Ok(path) = std::env::var("JOURNAL_FAULTY_SOCKET") else {
-        return println!("not tried: JOURNAL_FAULTY_SOCKET names no socket");
+    let Ok(path) = std::env::var("JNL_FAULTY_SOCKET") else {
+        return println!("not tried: JNL_FAULTY_SOCKET names no socket");
     };
     let mut j = Journal::connect(path).expect("connect");
     j.set_timeout(Some(Duration::from_secs(30)));
@@ -79,13 +151,50 @@ fn each_fault_is_told_and_the_next_call_does_well() {
         assert!(matches!(j.read(&[bit(number)]), Err(Error::Protocol(_))), "bit {number}");
         assert_eq!(j.read(&[bit(number)]).expect("a read"), [[1]]);
     }
+    errors_of_work(&mut j);
+    a_refused_commit_is_judged_as_an_error_of_work(&mut j);
     commit(&mut j, 13).expect("a commit");
     assert!(matches!(j.flush(), Err(Error::Protocol(_))));
     j.set_timeout(Some(Duration::from_millis(200)));
     look_at(&mut j, 14, |r| matches!(r, Err(Error::Lost(_))), 1);
+    a_limit_is_of_the_whole_call(&mut j);
+}
+
+fn a_limit_is_of_the_whole_call(j: &mut Journal) {
+    let begin = Instant::now();
+    j.set_timeout(Some(Duration::from_millis(500)));
+    match commit(j, 15) {
+        Err(Error::Lost(error)) => assert_eq!(error.kind(), ErrorKind::TimedOut),
+        other => panic!("an answer in pieces: {other:?}"),
+    }
+    assert!(begin.elapsed() < Duration::from_secs(4));
+}
+
+/// Why there is no port.
+fn kind_of_no_port(found: Result<Journal, Error>) -> ErrorKind {
+    match found {
+        Err(Error::NoPort(error)) => error.kind(),
+        other => panic!("{other:?}"),
+    }
 }
 
 #[test]
-fn nothing_listens() {
-    assert!(matches!(Journal::connect("/nowhere/at/all"), Err(Error::NoPort(_))));
+fn no_port() {
+    let kind = |path: &str| kind_of_no_port(Journal::connect(path));
+    assert_eq!(kind("/nowhere/at/all"), ErrorKind::NotFound);
+    assert_eq!(kind("/dev/null"), ErrorKind::ConnectionRefused);
+    assert_eq!(kind(&"/a".repeat(99)), ErrorKind::InvalidInput);
+}
+
+#[test]
+fn no_port_in_time() {
+    let Ok(path) = std::env::var("JNL_FAULTY_SOCKET") else {
+        return println!("not tried: JNL_FAULTY_SOCKET names no socket");
+    };
+    for kind in ["silent", "full"] {
+        let (begin, limit) = (Instant::now(), Duration::from_millis(200));
+        let found = Journal::connect_within(format!("{path}.{kind}"), limit);
+        assert_eq!(kind_of_no_port(found), ErrorKind::TimedOut, "{kind}");
+        assert!(limit <= begin.elapsed() && begin.elapsed() < 25 * limit, "{kind}");
+    }
 }

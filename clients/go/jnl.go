@@ -1,23 +1,24 @@
-// Package journal is a client of the journal, over its port. docs/PROTOCOL.md has the bytes.
+// Package jnl is a client of the journal, over its port. docs/PROTOCOL.md has the bytes.
 //
-//	j, err := journal.Dial("unix", "/run/disk.sock")
+//	j, err := jnl.Dial("unix", "/run/disk.sock")
 //	...
-//	err = j.Run(journal.Stable, func(t *journal.Tx) error {
-//		from, err := t.Read(journal.Address{Block: 515})
+//	receipt, err := j.Run(jnl.Stable, func(t *jnl.Tx) error {
+//		from, err := t.Read(jnl.Address{Block: 515})
 //		if err != nil {
 //			return err
 //		}
 //		...
-//		t.Write(journal.Address{Block: 515}, from)
+//		t.Write(jnl.Address{Block: 515}, from)
 //		return nil
 //	})
 //
 // A Journal is one connection, for one goroutine at a time. One that the port has ended, for its
 // silence or with the service, is made again by the next call.
-package journal
+//
+// No host serves this module: its go.mod says how a program uses it.
+package jnl
 
 import (
-	"errors"
 	"math/rand"
 	"net"
 	"time"
@@ -65,8 +66,8 @@ type Stat struct {
 
 // Journal is a connection to the port.
 type Journal struct {
-	// Timeout is the most that a call waits for its answer; 0 is for ever. A call that waited in
-	// vain returns ErrLost.
+	// Timeout is the most that a call waits for the port in all; 0 is for ever. A call that waited
+	// in vain returns ErrLost, or ErrNoPort where it had to connect again.
 	Timeout time.Duration
 
 	network, address string
@@ -77,8 +78,14 @@ type Journal struct {
 // Dial connects to a port: the network is "unix" or "tcp", and the address as net.Dial has it.
 // It returns ErrNoPort, ErrProtocol, or a Refusal of the version.
 func Dial(network, address string) (*Journal, error) {
-	j := &Journal{network: network, address: address}
-	if err := j.dial(); err != nil {
+	return DialTimeout(network, address, 0)
+}
+
+// DialTimeout connects as Dial does, with a Timeout from the first on. It returns ErrNoPort where
+// the port does not answer in time.
+func DialTimeout(network, address string, timeout time.Duration) (*Journal, error) {
+	j := &Journal{Timeout: timeout, network: network, address: address}
+	if err := j.dial(j.deadline()); err != nil {
 		return nil, err
 	}
 	return j, nil
@@ -101,20 +108,26 @@ func (j *Journal) Blocks() uint64 {
 
 // Begin returns a transaction that has done nothing.
 func (j *Journal) Begin() *Tx {
-	return &Tx{journal: j, reads: map[Address][]byte{}, writes: map[Address][]byte{}}
+	return &Tx{journal: j, reads: objects{}, writes: objects{}}
 }
 
 // Run runs the work in a transaction and commits it, again after a pause where it meets a conflict,
 // up to a hundred times. An error of the work ends it, with nothing done.
-func (j *Journal) Run(durability Durability, work func(*Tx) error) error {
+//
+// Work that reads by more than one request may see two moments, and so objects that do not fit
+// together. Where it returns an error, or its commit is refused by BadAddress, BadSize or TooLarge,
+// Run asks the port whether all that it read was so at one moment, by a commit that only compares.
+// If not, the work is run again. If that request fails, Run returns its error, and not that of the
+// work. Nothing was done then. ErrLost, ErrNoPort and what else says that the port failed is
+// returned at once.
+//
+// The work must end, and not panic, whatever it reads. Tx.ReadMany reads objects of one moment.
+func (j *Journal) Run(durability Durability, work func(*Tx) error) (Receipt, error) {
 	for attempt := 0; ; attempt++ {
 		t := j.Begin()
-		if err := work(t); err != nil {
-			return err
-		}
-		_, err := t.Commit(durability)
-		if !errors.Is(err, Conflict) || attempt+1 == tries {
-			return err
+		receipt, isConflict, err := t.run(durability, work)
+		if !isConflict || attempt+1 == tries {
+			return receipt, err
 		}
 		pauseAfter(attempt)
 	}
@@ -134,6 +147,9 @@ func pauseAfter(attempt int) {
 
 // Read returns the values of at most 256 objects, all at one place of the history.
 func (j *Journal) Read(addresses ...Address) ([][]byte, error) {
+	if len(addresses) > maxAddresses {
+		return nil, TooLarge
+	}
 	r := newRequest(opRead).word(uint32(len(addresses)))
 	for _, a := range addresses {
 		r = r.address(a)
@@ -153,7 +169,9 @@ func (j *Journal) Read(addresses ...Address) ([][]byte, error) {
 	return values, nil
 }
 
-// Flush makes all commits stable that were answered before. It returns how many are stable.
+// Flush makes all commits stable that were answered before, since the service was started. It
+// returns how many are stable. It does not tell that the service was killed and started again,
+// which has lost commits that did not wait.
 func (j *Journal) Flush() (stable uint64, err error) {
 	err = j.ask(newRequest(opFlush), func(a *answer) { stable = a.hyper() })
 	return stable, err
@@ -170,7 +188,21 @@ func (j *Journal) Stop() error {
 	return j.ask(newRequest(opStop), func(*answer) {})
 }
 
-func (j *Journal) commit(r request) (receipt Receipt, err error) {
-	err = j.ask(r, func(a *answer) { receipt = a.receipt() })
+func (j *Journal) commit(durability Durability, compared, written objects) (Receipt, error) {
+	if len(compared)+len(written) > maxParts {
+		return Receipt{}, TooLarge
+	}
+	r := newRequest(opCommit).boolean(bool(durability)).word(uint32(len(compared) + len(written)))
+	for a, value := range compared {
+		r = r.part(compare, a, value)
+	}
+	for a, value := range written {
+		if len(value) > maxValue {
+			return Receipt{}, BadSize
+		}
+		r = r.part(write, a, value)
+	}
+	var receipt Receipt
+	err := j.ask(r, func(a *answer) { receipt = a.receipt() })
 	return receipt, err
 }

@@ -1,6 +1,7 @@
-/* See journal.h. */
+/* See jnl.h. */
 #define _POSIX_C_SOURCE 200809L
 #include "line.h"
+#include <errno.h>
 #include <stdlib.h>
 #include <string.h>
 #include <time.h>
@@ -11,8 +12,11 @@ enum { MAX_TRIES = 100 };
 enum { HELLO, COMMIT, READ, FLUSH, STAT, STOP };
 enum { COMPARE, WRITE };
 /* A transaction: its length, its operation, whether it waits, how many parts; then the parts. A
- * part: its action, its address, its value's length; then the value. */
-enum { TRANSACTION_HEAD = 16, PART_HEAD = 20 };
+ * part: its action and its address, which are its key, its value's length; then the value. */
+enum { TRANSACTION_HEAD = 16, PART_HEAD = 20, KEY = 16 };
+/* The parts are looked up by a table of their hashes, where there are more than a few. It has a
+ * power of two of places, twice as many as there may be parts. */
+enum { FEW_PARTS = 16, HASH_BITS = 13, TABLE = 1 << HASH_BITS };
 /* A read: its length, its operation, how many addresses; then the addresses. What it is answered:
  * the status, the operation, how many values; then the values, each behind its length. */
 enum { READ_HEAD = 12, ADDRESS = 12, VALUE_HEAD = 4 };
@@ -30,6 +34,9 @@ struct jnl_txn {
     uint8_t *record;
     size_t used, room;
     uint32_t parts;
+    uint32_t *table; /* where each part begins, or 0 for none; NULL while there are few */
+    unsigned reads; /* how many requests have read */
+    int failed;     /* how the port, or the memory, has failed a call last; or JNL_OK */
 };
 
 /* ---- numbers, their highest byte first */
@@ -67,10 +74,20 @@ static size_t padded(size_t size)
 
 /* ---- the connection */
 
+/* errno says why a call was lost or found no port, whatever is released after it. */
+static void discard(void *memory)
+{
+    int why = errno;
+    free(memory);
+    errno = why;
+}
+
 static int hang_up(jnl *j, int status)
 {
+    int why = errno;
     if (j->line) jnl_line_close(j->line);
     j->line = NULL;
+    errno = why;
     return status;
 }
 
@@ -123,16 +140,25 @@ static int ask_connected(jnl *j, uint32_t operation, uint8_t *record, size_t n, 
     return s == JNL_LOST || s == JNL_PROTOCOL || ends_session((uint32_t)s) ? hang_up(j, s) : s;
 }
 
-static int dial(jnl *j)
+/* When a call that begins now has waited enough; 0: never. */
+static uint64_t end_of_call(const jnl *j)
+{
+    struct timespec t;
+    if (!j->timeout) return 0;
+    clock_gettime(CLOCK_MONOTONIC, &t);
+    return (uint64_t)t.tv_sec * 1000 + (uint64_t)t.tv_nsec / 1000000 + j->timeout;
+}
+
+/* Makes a connection. One that is lost before its greeting was answered is none. */
+static int dial(jnl *j, uint64_t ends)
 {
     uint8_t record[12], answer[20];
     size_t size;
-    int s = jnl_line_open(j->port, &j->line);
+    int s = jnl_line_open(j->port, ends, &j->line);
     if (s) return s;
-    jnl_line_set_timeout(j->line, j->timeout);
     put32(record + 8, VERSION);
     s = ask_connected(j, HELLO, record, sizeof record, answer, sizeof answer, 12, &size);
-    if (s) return hang_up(j, s);
+    if (s) return hang_up(j, s == JNL_LOST ? JNL_NO_PORT : s);
     if (get32(answer + 8) != VERSION) return hang_up(j, JNL_OTHER_VERSION);
     j->blocks = get64(answer + 12);
     return JNL_OK;
@@ -143,20 +169,21 @@ static int dial(jnl *j)
 static int ask(jnl *j, uint32_t operation, uint8_t *record, size_t n, uint8_t *answer,
                size_t room, size_t wanted, size_t *size)
 {
+    uint64_t ends = end_of_call(j);
     if (j->line && !jnl_line_is_quiet(j->line)) hang_up(j, JNL_LOST);
-    int s = j->line ? JNL_OK : dial(j);
-    /* Of this call nothing was sent. */
-    if (s == JNL_LOST) return JNL_NO_PORT;
+    if (j->line) jnl_line_set_end(j->line, ends);
+    int s = j->line ? JNL_OK : dial(j, ends);
     return s ? s : ask_connected(j, operation, record, n, answer, room, wanted, size);
 }
 
-static int open_at(const char *path, uint16_t number, jnl **out)
+static int open_at(const char *path, uint16_t number, unsigned milliseconds, jnl **out)
 {
     *out = NULL;
     jnl *j = calloc(1, sizeof *j);
     if (!j) return JNL_NO_MEMORY;
+    j->timeout = milliseconds;
     int s = path ? jnl_port_enter(path, &j->port) : jnl_port_enter_tcp(number, &j->port);
-    if (!s) s = dial(j);
+    if (!s) s = dial(j, end_of_call(j));
     if (s) {
         jnl_close(j);
         return s;
@@ -165,29 +192,39 @@ static int open_at(const char *path, uint16_t number, jnl **out)
     return JNL_OK;
 }
 
+int jnl_open_within(const char *path, unsigned milliseconds, jnl **out)
+{
+    return path && out ? open_at(path, 0, milliseconds, out) : JNL_MISUSE;
+}
+
 int jnl_open(const char *path, jnl **out)
 {
-    return path && out ? open_at(path, 0, out) : JNL_MISUSE;
+    return jnl_open_within(path, 0, out);
+}
+
+int jnl_open_tcp_within(uint16_t port, unsigned milliseconds, jnl **out)
+{
+    return out ? open_at(NULL, port, milliseconds, out) : JNL_MISUSE;
 }
 
 int jnl_open_tcp(uint16_t port, jnl **out)
 {
-    return out ? open_at(NULL, port, out) : JNL_MISUSE;
+    return jnl_open_tcp_within(port, 0, out);
 }
 
 void jnl_close(jnl *j)
 {
+    int why = errno;
     if (!j) return;
     hang_up(j, JNL_OK);
     if (j->port) jnl_port_leave(j->port);
     free(j);
+    errno = why;
 }
 
 void jnl_set_timeout(jnl *j, unsigned milliseconds)
 {
-    if (!j) return;
-    j->timeout = milliseconds;
-    if (j->line) jnl_line_set_timeout(j->line, milliseconds);
+    if (j) j->timeout = milliseconds;
 }
 
 uint64_t jnl_blocks(const jnl *j)
@@ -211,8 +248,9 @@ int jnl_begin(jnl *j, jnl_txn **out)
 void jnl_abort(jnl_txn *t)
 {
     if (!t) return;
-    free(t->record);
-    free(t);
+    discard(t->record);
+    discard(t->table);
+    discard(t);
 }
 
 static size_t size_of(const uint8_t *part)
@@ -220,41 +258,93 @@ static size_t size_of(const uint8_t *part)
     return get32(part + 16);
 }
 
+static size_t bytes_of(const uint8_t *part)
+{
+    return PART_HEAD + padded(size_of(part));
+}
+
+/* Mixes the bits of a key, so that the highest of them are as good as random. */
+static uint32_t hash_of(const uint8_t *key)
+{
+    uint64_t x = get64(key) * 0x9e3779b97f4a7c15u ^ get64(key + 8);
+    x = (x ^ x >> 32) * 0xd6e8feb86659fd93u;
+    return (uint32_t)((x ^ x >> 32) * 0xd6e8feb86659fd93u >> (64 - HASH_BITS));
+}
+
+/* The place in the table of the part with a key: its own, or a free one. */
+static uint32_t *place_of(jnl_txn *t, const uint8_t *key)
+{
+    uint32_t i = hash_of(key);
+    while (t->table[i] && memcmp(t->record + t->table[i], key, KEY)) i = (i + 1) % TABLE;
+    return &t->table[i];
+}
+
+static uint8_t *find_among_few(jnl_txn *t, const uint8_t *key)
+{
+    for (size_t at = TRANSACTION_HEAD; at < t->used; at += bytes_of(t->record + at)) {
+        if (!memcmp(t->record + at, key, KEY)) return t->record + at;
+    }
+    return NULL;
+}
+
 /* The part of an action at an address, or NULL. */
 static uint8_t *find(jnl_txn *t, uint32_t action, jnl_addr a)
 {
-    uint8_t wanted[16];
-    put_addr(put32(wanted, action), a);
-    for (size_t at = TRANSACTION_HEAD; at < t->used;) {
-        uint8_t *part = t->record + at;
-        if (!memcmp(part, wanted, sizeof wanted)) return part;
-        at += PART_HEAD + padded(size_of(part));
+    uint8_t key[KEY];
+    put_addr(put32(key, action), a);
+    if (!t->table) return find_among_few(t, key);
+    uint32_t at = *place_of(t, key);
+    return at ? t->record + at : NULL;
+}
+
+static int make_table(jnl_txn *t)
+{
+    t->table = calloc(TABLE, sizeof *t->table);
+    if (!t->table) return JNL_NO_MEMORY;
+    for (size_t at = TRANSACTION_HEAD; at < t->used; at += bytes_of(t->record + at)) {
+        *place_of(t, t->record + at) = (uint32_t)at;
     }
-    return NULL;
+    return JNL_OK;
 }
 
 static int make_room(jnl_txn *t, size_t parts, size_t more)
 {
     if (t->parts + parts > MAX_PARTS || t->used + more > MAX_RECORD + 4) return JNL_TOO_LARGE;
-    if (t->record && t->used + more <= t->room) return JNL_OK;
-    size_t room = 2 * t->room + more + 512;
-    uint8_t *record = realloc(t->record, room);
-    if (!record) return JNL_NO_MEMORY;
-    t->record = record;
-    t->room = room;
-    return JNL_OK;
+    if (!t->record || t->used + more > t->room) {
+        size_t room = 2 * t->room + more + 512;
+        uint8_t *record = realloc(t->record, room);
+        if (!record) return JNL_NO_MEMORY;
+        t->record = record;
+        t->room = room;
+    }
+    return t->table || t->parts + parts <= FEW_PARTS ? JNL_OK : make_table(t);
 }
 
 static int add(jnl_txn *t, uint32_t action, jnl_addr a, const void *bytes, size_t size)
 {
     int s = make_room(t, 1, PART_HEAD + padded(size));
     if (s) return s;
-    uint8_t *p = put32(put_addr(put32(t->record + t->used, action), a), (uint32_t)size);
+    uint8_t *part = t->record + t->used;
+    uint8_t *p = put32(put_addr(put32(part, action), a), (uint32_t)size);
     memcpy(p, bytes, size);
     memset(p + size, 0, padded(size) - size);
-    t->used += PART_HEAD + padded(size);
+    if (t->table) *place_of(t, part) = (uint32_t)t->used;
+    t->used += bytes_of(part);
     t->parts++;
     return JNL_OK;
+}
+
+/* Whether a call was refused for what it asked for, which may follow from reads of two moments. */
+static int is_of_arguments(int s)
+{
+    return s == JNL_BAD_ADDRESS || s == JNL_BAD_SIZE || s == JNL_TOO_LARGE || s == JNL_MISUSE;
+}
+
+/* Keeps a status by which a call has failed for another reason. */
+static int note(jnl_txn *t, int s)
+{
+    if (s && !is_of_arguments(s)) t->failed = s;
+    return s;
 }
 
 /* ---- reads */
@@ -335,7 +425,9 @@ static int fetch(jnl_txn *t, const jnl_object *objects, const struct missing *m,
     int s = ask(t->j, READ, record, request, answer, room, SIZE_MAX, &size);
     if (s) return s;
     if (!has_values(answer, size, m->count)) return hang_up(t->j, JNL_PROTOCOL);
-    return keep(t, objects, m, answer + READ_HEAD);
+    s = keep(t, objects, m, answer + READ_HEAD);
+    if (!s) t->reads++;
+    return s;
 }
 
 static int fetch_missing(jnl_txn *t, const jnl_object *objects, const struct missing *m)
@@ -345,7 +437,7 @@ static int fetch_missing(jnl_txn *t, const jnl_object *objects, const struct mis
     uint8_t *record = malloc(request + room);
     if (!record) return JNL_NO_MEMORY;
     int s = fetch(t, objects, m, record, request, room);
-    free(record);
+    discard(record);
     return s;
 }
 
@@ -355,7 +447,7 @@ int jnl_read_many(jnl_txn *t, const jnl_object *objects, size_t n)
     if (!t || (n && !objects)) return JNL_MISUSE;
     if (n > MAX_READS) return JNL_TOO_LARGE;
     int s = find_missing(t, objects, n, &m);
-    if (!s && m.count) s = fetch_missing(t, objects, &m);
+    if (!s && m.count) s = note(t, fetch_missing(t, objects, &m));
     for (size_t i = 0; !s && i < n; i++) {
         memcpy(objects[i].value, own_part(t, objects[i].addr) + PART_HEAD, objects[i].size);
     }
@@ -374,7 +466,7 @@ int jnl_write(jnl_txn *t, jnl_addr a, const void *bytes, size_t size)
     if (!t || !bytes) return JNL_MISUSE;
     if (size > MAX_VALUE) return JNL_BAD_SIZE;
     uint8_t *own = find(t, WRITE, a);
-    if (!own) return add(t, WRITE, a, bytes, size);
+    if (!own) return note(t, add(t, WRITE, a, bytes, size));
     if (size_of(own) != size) return JNL_BAD_SIZE;
     memcpy(own + PART_HEAD, bytes, size);
     return JNL_OK;
@@ -412,21 +504,63 @@ static void pause_before(unsigned attempt, unsigned *seed)
     nanosleep(&t, NULL);
 }
 
-int jnl_run(jnl *j, int (*work)(jnl_txn *, void *), void *context, unsigned flags)
+/* Leaves the parts alone that compare. */
+static void drop_writes(jnl_txn *t)
+{
+    size_t end = t->used;
+    discard(t->table);
+    t->table = NULL;
+    t->used = TRANSACTION_HEAD;
+    t->parts = 0;
+    for (size_t at = TRANSACTION_HEAD, size; at < end; at += size) {
+        uint8_t *part = t->record + at;
+        size = bytes_of(part);
+        if (get32(part) != COMPARE) continue;
+        memmove(t->record + t->used, part, size);
+        t->used += size;
+        t->parts++;
+    }
+}
+
+/* What is answered of work that has failed, or whose commit was refused for what it asks for: that
+ * failure, where all that the work read was so at one moment. */
+static int look_at_failure(jnl_txn *t, int failure, int *is_conflict)
+{
+    if (t->reads < 2) return failure;
+    drop_writes(t);
+    int s = commit(t, 0, NULL);
+    *is_conflict = s == JNL_CONFLICT;
+    return s ? s : failure;
+}
+
+static int run_once(jnl *j, int (*work)(jnl_txn *, void *), void *context, unsigned flags,
+                    jnl_receipt *receipt, int *is_conflict)
+{
+    jnl_txn *t;
+    *is_conflict = 0;
+    int s = jnl_begin(j, &t);
+    if (s) return s;
+    s = work(t, context);
+    int is_of_work = s && s != t->failed;
+    if (!s) {
+        s = commit(t, flags, receipt);
+        is_of_work = is_of_arguments(s);
+        *is_conflict = s == JNL_CONFLICT;
+    }
+    if (is_of_work) s = look_at_failure(t, s, is_conflict);
+    jnl_abort(t);
+    return s;
+}
+
+int jnl_run(jnl *j, int (*work)(jnl_txn *, void *), void *context, unsigned flags,
+            jnl_receipt *receipt)
 {
     unsigned seed = (unsigned)getpid() ^ (unsigned)(uintptr_t)&j;
     if (!j || !work) return JNL_MISUSE;
     for (unsigned attempt = 1;; attempt++) {
-        jnl_txn *t;
-        int s = jnl_begin(j, &t);
-        if (s) return s;
-        s = work(t, context);
-        if (s) {
-            jnl_abort(t);
-            return s;
-        }
-        s = jnl_commit(t, flags, NULL);
-        if (s != JNL_CONFLICT || attempt == MAX_TRIES) return s;
+        int is_conflict;
+        int s = run_once(j, work, context, flags, receipt, &is_conflict);
+        if (!is_conflict || attempt == MAX_TRIES) return s;
         pause_before(attempt, &seed);
     }
 }

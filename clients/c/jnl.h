@@ -16,8 +16,8 @@
  *
  * A connection that the port has ended, for its silence or with the service, is made again by the
  * next call. */
-#ifndef JOURNAL_H
-#define JOURNAL_H
+#ifndef JNL_H
+#define JNL_H
 #include <stddef.h>
 #include <stdint.h>
 #ifdef __cplusplus
@@ -42,7 +42,8 @@ typedef enum {
     JNL_NO_MEMORY = 1,
     JNL_BAD_ADDRESS = 2,
     JNL_BAD_SIZE = 3,
-    /* More than 128 distinct blocks are written, 4096 parts made, or 256 objects read at once. */
+    /* More than 128 distinct blocks are written, 256 objects read at once, or 4096 reads and writes
+     * made, or more than 2 MiB of them. */
     JNL_TOO_LARGE = 4,
     JNL_DEVICE_FAILED = 6,  /* the disk has to be opened again; all that was stable is there */
     JNL_STALE = 9,          /* 9 to 11, 14: the session has ended; the next call begins another */
@@ -57,11 +58,13 @@ typedef enum {
      * absent. */
     JNL_UNSURE = 65,
     /* No answer came, or none that the protocol has. A commit was done whole, or not at all: read
-     * to find out. Nothing sends it again but the caller. The next call connects again. */
+     * to find out. Nothing sends it again but the caller. The next call connects again. At JNL_LOST
+     * errno says why: ETIMEDOUT after the limit of jnl_set_timeout, ECONNRESET where the port has
+     * ended the connection, or as the system says. */
     JNL_LOST = 96,
     JNL_PROTOCOL = 98,
     /* Nothing was done. */
-    JNL_NO_PORT = 97,       /* no port answers there */
+    JNL_NO_PORT = 97,       /* no port answers there; errno says why, as ENOENT or EACCES do */
     JNL_MISUSE = 99,        /* a null pointer */
     /* Of the carrier in the process alone; nothing was done. */
     JNL_SECOND_DISK = 100,  /* another disk is open in this process */
@@ -90,19 +93,25 @@ typedef struct {
 } jnl_counts;
 
 /* Connects to the socket at a path. Refused: JNL_NO_PORT, JNL_OTHER_VERSION, JNL_PROTOCOL,
- * JNL_LOST, JNL_NO_MEMORY; *out is then NULL. */
+ * JNL_NO_MEMORY; *out is then NULL. */
 int jnl_open(const char *path, jnl **out);
 
-/* Connects to a TCP port of this machine, as jnl_open does. It has no access check. With the
+/* The same, with the limit of jnl_set_timeout from the first on. A port that does not answer in
+ * time is JNL_NO_PORT with ETIMEDOUT. */
+int jnl_open_within(const char *path, unsigned milliseconds, jnl **out);
+
+/* Connects to a TCP port of this machine, as those above do. It has no access check. With the
  * journal in this process it is JNL_NO_PORT. */
 int jnl_open_tcp(uint16_t port, jnl **out);
+int jnl_open_tcp_within(uint16_t port, unsigned milliseconds, jnl **out);
 
-/* Closes the connection. NULL is fine. Its transactions must have ended. */
+/* Closes the connection. NULL is fine. Its transactions must have ended. errno stays as it is. */
 void jnl_close(jnl *);
 
-/* The most that a call waits for the port to take or send bytes, in milliseconds; 0, as at the
- * beginning, is for ever. A call that waited in vain answers JNL_LOST, and the port may do what it
- * asked for after that. With the journal in this process it has no effect. */
+/* The most that a call waits for the port in all, in milliseconds; 0, as after jnl_open, is for
+ * ever. A call that waited in vain answers JNL_LOST, and the port may do what it asked for after
+ * that; or JNL_NO_PORT, where it had to connect again. With the journal in this process it has no
+ * effect. */
 void jnl_set_timeout(jnl *, unsigned milliseconds);
 
 /* How many blocks the disk has. */
@@ -113,7 +122,8 @@ int jnl_begin(jnl *, jnl_txn **out);
 
 /* Reads an object of this size: what the transaction wrote there, else what it read before, else
  * what the journal has. Two reads may come from two places of the history: the commit then finds
- * JNL_CONFLICT. Where it is refused the transaction is as it was. */
+ * JNL_CONFLICT where a value that was read is another by then. Where it is refused the transaction
+ * is as it was. */
 int jnl_read(jnl_txn *, jnl_addr, void *into, size_t size);
 
 /* Reads n objects, at most 256, as jnl_read does. Those that the transaction does not have yet come
@@ -131,22 +141,36 @@ int jnl_write(jnl_txn *, jnl_addr, const void *bytes, size_t size);
  * NULL, and is set at JNL_OK and JNL_UNSURE. */
 int jnl_commit(jnl_txn *, unsigned flags, jnl_receipt *receipt);
 
-/* Ends a transaction with nothing done. NULL is fine. */
+/* Ends a transaction with nothing done. NULL is fine. errno stays as it is. */
 void jnl_abort(jnl_txn *);
 
 /* Runs the work in a transaction and commits it, again with a pause at JNL_CONFLICT, up to a
- * hundred times. Work that answers anything but JNL_OK ends it with that, and nothing done. */
-int jnl_run(jnl *, int (*work)(jnl_txn *, void *context), void *context, unsigned flags);
+ * hundred times. `receipt` is as of jnl_commit. Work that answers anything but JNL_OK ends it with
+ * that, and nothing done.
+ *
+ * Work that reads by more than one call may see two moments, and so objects that do not fit
+ * together. Where it fails, or its commit is refused by JNL_BAD_ADDRESS, JNL_BAD_SIZE or
+ * JNL_TOO_LARGE, jnl_run asks the port whether all that it read was so at one moment, by a commit
+ * that only compares. If not, the work is run again. If that request fails, jnl_run answers how it
+ * failed, and not what the work answered. Nothing was done then. A status by which a call of the
+ * transaction told the work that the port or the memory failed, as JNL_LOST, is answered at once.
+ *
+ * The work neither commits nor aborts the transaction, has no other effect, and ends whatever it
+ * reads. jnl_read_many reads objects of one moment. */
+int jnl_run(jnl *, int (*work)(jnl_txn *, void *context), void *context, unsigned flags,
+            jnl_receipt *receipt);
 
-/* Makes all commits stable that were answered before. `stable`, how many are, may be NULL. */
+/* Makes all commits stable that were answered before, since the service was started. One that was
+ * killed and started again has lost commits that did not wait, and this call does not tell so.
+ * `stable`, how many are, may be NULL. */
 int jnl_flush(jnl *, uint64_t *stable);
 int jnl_stat(jnl *, jnl_counts *);
 
 /* Ends the service, after a flush. */
 int jnl_stop(jnl *);
 
-/* Why the journal in this process could not be opened, as it says on its standard error; "" where
- * it was, and over a socket. */
+/* Why the journal in this process could not be opened, as it says on its standard error, where
+ * errno is EIO; "" where it was, and over a socket. */
 const char *jnl_reason(void);
 
 /* A status in words; never NULL. */
