@@ -62,7 +62,7 @@ pub enum Subcommand<'w> {
         regions: Option<Regions>,
         again: bool,
     },
-    /// Give the disk in a file so many blocks.
+    /// Give the disk in a file `blocks` blocks.
     Grow {
         path: &'w str,
         blocks: u64,

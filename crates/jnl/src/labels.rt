@@ -15,10 +15,10 @@ use std::alloc::Global;
 use std::fs::{File, Files};
 use std::io::Write;
 
-/// The label of a disk of so many blocks, with the regions that were named. Where none were, these
-/// are those of files if so few blocks have them, and else the label has none.
+/// The label of a disk of `blocks` blocks, with the regions that were named. Where none were, these
+/// are those of files if a disk of that size has them, and else the label has none.
 ///
-/// `None` where no disk has so many blocks, or no layout such regions.
+/// `None` where no disk has `blocks` blocks, or no layout these regions.
 pub fn label_of(blocks: u64, regions: Option<Regions>) -> Option<Label>
     ensures label { IfSome result IsLabel }
     ensures blocks { IfSome result (λ label. label.blocks ≡ blocks) }
@@ -75,7 +75,7 @@ pub fn label<'w, R: Files<File = File>, O: Write>(
     print_label(&label, output)
 }
 
-/// Gives the disk in the file at the path so many blocks, and prints its label. The new blocks are
+/// Gives the disk in the file at the path `blocks` blocks, and prints its label. The new blocks are
 /// zeros. A disk without a label gets one, with the regions of files.
 ///
 /// Refused as a disk is that is opened to be written, where it has more blocks, where it is a disk
@@ -112,7 +112,7 @@ pub fn grow<'w, R: Files<File = File>, O: Write>(
     print_label(&label, output)
 }
 
-// The label of a disk that is to have so many blocks. A disk without a label has the regions of
+// The label of a disk that is to have `blocks` blocks. A disk without a label has the regions of
 // files. `None` where the regions are not known.
 fn grown_label(facts: &DiskFacts, blocks: u64) -> Option<Label>
     ensures label { IfSome result IsLabel }
@@ -160,7 +160,7 @@ fn find_to_label<'w, R: Files<File = File>>(
     }
 }
 
-// Whether the label was written.
+// Says why the label of the disk at the path was not written, if it was not.
 fn done<'w>(path: &'w str, written: Result<(), OpenFault>) -> Result<(), Fault<'w>> {
     match written {
         Ok(()) => Ok(()),

@@ -151,7 +151,7 @@ pub fn named_regions<'w>(words: Option<&[&'w str]>) -> Result<Option<Regions>, F
     }
 }
 
-// Whether the regions are the same.
+// True if the regions are the same.
 fn are_same(regions: &Regions, others: &Regions) -> bool
     ensures { IsTrue result ↔ (regions.now ≡ others.now) }
 {
@@ -163,7 +163,7 @@ fn are_same(regions: &Regions, others: &Regions) -> bool
     true
 }
 
-// Whether the region is the other one.
+// True if the region is the other one.
 fn is_same(region: Region, other: Region) -> bool
     ensures { IsTrue result ↔ (region ≡ other) }
 {
