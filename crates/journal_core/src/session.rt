@@ -12,8 +12,7 @@ use crate::state::Core;
 use journal_disk::BlockDisk;
 use journal_history::{Naming, Session};
 use journal_memory::Cause;
-use journal_tail::CommitCount;
-use journal_world::{MapRule, Refusal};
+use journal_world::{CommitCount, MapRule, Refusal};
 use std::sync::Wait;
 
 impl<'b, D: BlockDisk, R: MapRule, J: Naming> Core<'b, D, R, J> {

@@ -9,7 +9,7 @@ use crate::book::{Book, Naming};
 use crate::law::{
     AskMark, ExchangeFloor, ExchangeHead, Law, LoadFloor, LoadHead, LogEntry, NoGain,
 };
-use journal_world::MapRule;
+use journal_world::{CommitCount, MapRule};
 use logbook::{Offer, Plain, Seen};
 use std::fmt;
 use std::fmt::Debug;
@@ -121,7 +121,7 @@ impl<'b, J: Naming, R: MapRule> Front<'b, J, R> {
 
     // A number that is at most the greatest mark of the history, which it has then seen, by one
     // load of FLOOR. That step does not load the history's length, so a load of HEAD follows.
-    pub(crate) fn load_floor(&mut self) -> u64
+    pub(crate) fn load_floor(&mut self) -> CommitCount
         ensures marked { result ≤ floor self.new }
         ensures seen { IsPrefix self.old self.new }
     {
@@ -134,7 +134,7 @@ impl<'b, J: Naming, R: MapRule> Front<'b, J, R> {
             .floor
             .load::<LoadFloor<R>, NoGain>(&mut seen, &mut offer);
         *self = Front::at_head(book, seen);
-        floor
+        CommitCount::new(floor)
     }
 
     // The history with an entry added, by one exchange of HEAD, where the front is the whole

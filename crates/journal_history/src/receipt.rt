@@ -5,7 +5,7 @@ ghost use Rattle.journal_history.specs.Tokens.{IsCommitAt};
 
 use crate::book::Naming;
 use crate::front::Front;
-use journal_world::MapRule;
+use journal_world::{CommitCount, MapRule};
 use std::fmt;
 use std::fmt::Debug;
 use std::marker::Model;
@@ -16,7 +16,7 @@ use std::marker::Model;
 pub struct Receipt<'b, J: Naming, R: MapRule> {
     front: Front<'b, J, R>,
     place: u64,
-    commits: u64,
+    commits: CommitCount,
 }
 
 impl<'b, J: Naming, R: MapRule> Model for Receipt<'b, J, R> {
@@ -31,7 +31,11 @@ impl<'b, J: Naming, R: MapRule> Model for Receipt<'b, J, R> {
 
 impl<'b, J: Naming, R: MapRule> Receipt<'b, J, R> {
     // The receipt of a commit that stands there, after all others but so many.
-    pub(crate) fn new(front: &Front<'b, J, R>, place: u64, commits: u64) -> Receipt<'b, J, R>
+    pub(crate) fn new(
+        front: &Front<'b, J, R>,
+        place: u64,
+        commits: CommitCount,
+    ) -> Receipt<'b, J, R>
         requires stands { IsCommitAt front.now place }
         requires counted { commits ≡ count (take (place + 1) front.now) }
         ensures { result ≡ record { front = front.now; place = place; count = commits } }
@@ -52,7 +56,7 @@ impl<'b, J: Naming, R: MapRule> Receipt<'b, J, R> {
     }
 
     /// How many commits there are up to it, with itself.
-    pub fn count(&self) -> u64
+    pub fn count(&self) -> CommitCount
         ensures count { result ≡ self.now.count }
         ensures commits { result ≡ count (take (self.now.place + 1) self.now.front) }
     {
@@ -72,7 +76,7 @@ impl<'b, J: Naming, R: MapRule> Receipt<'b, J, R> {
 #[derive(Drop)]
 pub struct StableNote<'b, J: Naming, R: MapRule> {
     seen: Front<'b, J, R>,
-    stable: u64,
+    stable: CommitCount,
 }
 
 impl<'b, J: Naming, R: MapRule> Model for StableNote<'b, J, R> {
@@ -89,7 +93,7 @@ impl<'b, J: Naming, R: MapRule> Model for StableNote<'b, J, R> {
 
 impl<'b, J: Naming, R: MapRule> StableNote<'b, J, R> {
     /// A note of what the front's greatest mark covers.
-    pub fn new(front: &Front<'b, J, R>, commits: u64) -> StableNote<'b, J, R>
+    pub fn new(front: &Front<'b, J, R>, commits: CommitCount) -> StableNote<'b, J, R>
         requires { commits ≤ floor front.now }
         ensures { result ≡ record { front = front.now; count = commits } }
     {
@@ -100,7 +104,7 @@ impl<'b, J: Naming, R: MapRule> StableNote<'b, J, R> {
     }
 
     /// How many commits are stable.
-    pub fn count(&self) -> u64
+    pub fn count(&self) -> CommitCount
         ensures count { result ≡ self.now.count }
         ensures stable { result ≤ floor self.now.front }
     {
@@ -119,7 +123,7 @@ impl<'b, J: Naming, R: MapRule> Debug for Receipt<'b, J, R> {
     fn fmt<W: fmt::Write>(&self, f: &mut fmt::Formatter<W>) -> fmt::Result {
         f.debug_struct("Receipt")
             .field("place", &self.place)
-            .field("count", &self.commits)
+            .field("count", &self.commits.get())
             .finish_non_exhaustive()
     }
 }
@@ -127,7 +131,7 @@ impl<'b, J: Naming, R: MapRule> Debug for Receipt<'b, J, R> {
 impl<'b, J: Naming, R: MapRule> Debug for StableNote<'b, J, R> {
     fn fmt<W: fmt::Write>(&self, f: &mut fmt::Formatter<W>) -> fmt::Result {
         f.debug_struct("StableNote")
-            .field("count", &self.stable)
+            .field("count", &self.stable.get())
             .finish_non_exhaustive()
     }
 }

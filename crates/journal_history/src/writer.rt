@@ -14,7 +14,7 @@ use crate::front::Front;
 use crate::law::{AskCommit, AskFence, AskMark, AskOpening, Numbered, Opened, Recorded};
 use crate::receipt::Receipt;
 use crate::session::Session;
-use journal_world::MapRule;
+use journal_world::{CommitCount, MapRule};
 use std::fmt;
 use std::fmt::Debug;
 use std::marker::Model;
@@ -29,9 +29,9 @@ use std::sync::Wait;
 #[derive(Drop)]
 pub struct Writer<'b, J: Naming, R: MapRule> {
     front: Front<'b, J, R>,
-    commits: u64,
-    mark: u64,
-    published: u64,
+    commits: CommitCount,
+    mark: CommitCount,
+    published: CommitCount,
 }
 
 impl<'b, J: Naming, R: MapRule> Model for Writer<'b, J, R> {
@@ -64,9 +64,9 @@ impl<'b, J: Naming, R: MapRule> Writer<'b, J, R> {
         let start = Front::at_start(book);
         Ok(Writer {
             front: start.add_after::<O, AskOpening>(&start, objects)?,
-            commits: 0,
-            mark: 0,
-            published: 0,
+            commits: CommitCount::default(),
+            mark: CommitCount::default(),
+            published: CommitCount::default(),
         })
     }
 
@@ -83,14 +83,14 @@ impl<'b, J: Naming, R: MapRule> Writer<'b, J, R> {
     }
 
     /// How many commits the history has.
-    pub fn count(&self) -> u64
+    pub fn count(&self) -> CommitCount
         ensures { result ≡ count self.now }
     {
         self.commits
     }
 
     /// The greatest mark of the history: so many commits are stable.
-    pub fn floor(&self) -> u64
+    pub fn floor(&self) -> CommitCount
         ensures { result ≡ floor self.now }
     {
         self.mark
@@ -165,7 +165,7 @@ impl<'b, J: Naming, R: MapRule> Writer<'b, J, R> {
             .add_after::<Numbered<T>, AskCommit>(&session.front(), &numbered)?;
         session.note_commit(rt, counts, &front);
         self.front = front;
-        self.commits += 1;
+        self.commits = self.commits.following();
         Ok(Receipt::new(&self.front, place, self.commits))
     }
 
@@ -173,7 +173,7 @@ impl<'b, J: Naming, R: MapRule> Writer<'b, J, R> {
     ///
     /// At `Err` the history is longer than the writer's, and the front has seen it. The writer
     /// stays as it was.
-    pub fn mark(&mut self, n: u64) -> Result<(), Front<'b, J, R>>
+    pub fn mark(&mut self, n: CommitCount) -> Result<(), Front<'b, J, R>>
         requires room { length self.old < 2 ^ 62 }
         requires rises { floor self.old ≤ n }
         requires made { n ≤ count self.old }
@@ -184,7 +184,7 @@ impl<'b, J: Naming, R: MapRule> Writer<'b, J, R> {
     {
         // Called for its contract: the history is sound.
         let _len = self.front.len();
-        self.front = self.front.add_after::<u64, AskMark>(&self.front, &n)?;
+        self.front = self.front.add_after::<u64, AskMark>(&self.front, &n.get())?;
         self.mark = n;
         Ok(())
     }
@@ -212,7 +212,8 @@ impl<'b, J: Naming, R: MapRule> Writer<'b, J, R> {
     pub fn publish_floor(&mut self)
         ensures { self.new ≡ self.old }
     {
-        if self.front.exchange_floor(self.published, self.mark) {
+        let (published, mark) = (self.published.get(), self.mark.get());
+        if self.front.exchange_floor(published, mark) {
             self.published = self.mark;
         }
     }
@@ -222,8 +223,8 @@ impl<'b, J: Naming, R: MapRule> Debug for Writer<'b, J, R> {
     fn fmt<W: fmt::Write>(&self, f: &mut fmt::Formatter<W>) -> fmt::Result {
         f.debug_struct("Writer")
             .field("front", &self.front)
-            .field("count", &self.commits)
-            .field("floor", &self.mark)
+            .field("count", &self.commits.get())
+            .field("floor", &self.mark.get())
             .finish_non_exhaustive()
     }
 }

@@ -5,8 +5,7 @@ ghost use Rattle.journal_memory.specs.Fetches.{IsBlockAfter, IsFetched};
 
 use journal_block::{Block, Update};
 use journal_history::{Front, Naming};
-use journal_tail::CommitCount;
-use journal_world::{MapRule, Refusal};
+use journal_world::{CommitCount, MapRule, Refusal};
 use std::alloc::Global;
 use std::marker::Model;
 

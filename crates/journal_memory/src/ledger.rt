@@ -15,8 +15,7 @@ use crate::session_number::SessionNumber;
 use crate::transaction::Transaction;
 use journal_history::{Front, Naming, SessionCounts, Writer};
 use journal_lockmap::{Held, SlotCounts};
-use journal_tail::CommitCount;
-use journal_world::{MapRule, Refusal};
+use journal_world::{CommitCount, MapRule, Refusal};
 use std::alloc::Global;
 use std::marker::Model;
 use std::sync::Wait;
@@ -94,14 +93,14 @@ impl<'b, R: MapRule, J: Naming> Ledger<'b, R, J> {
     pub(crate) fn count(&self) -> CommitCount
         ensures { result ≡ count self.now.history }
     {
-        CommitCount::new(self.writer.count())
+        self.writer.count()
     }
 
     /// The greatest mark of the history.
     pub(crate) fn floor(&self) -> CommitCount
         ensures { result ≡ floor self.now.history }
     {
-        CommitCount::new(self.writer.floor())
+        self.writer.floor()
     }
 
     /// Whether it was stopped.

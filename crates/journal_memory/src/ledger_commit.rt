@@ -19,8 +19,7 @@ use crate::session_number::SessionNumber;
 use crate::transaction::Transaction;
 use journal_history::{Naming, Receipt, Session};
 use journal_lockmap::Held;
-use journal_tail::CommitCount;
-use journal_world::{MapRule, Refusal};
+use journal_world::{CommitCount, MapRule, Refusal};
 use std::sync::Wait;
 
 impl<'b, R: MapRule, J: Naming> Ledger<'b, R, J> {
@@ -134,7 +133,7 @@ impl<'b, R: MapRule, J: Naming> Ledger<'b, R, J> {
     pub(crate) fn note_cut(&mut self)
         ensures { self.new ≡ record self.old { cut = count self.old.history } }
     {
-        self.cut = CommitCount::new(self.writer.count());
+        self.cut = self.writer.count();
         self.lengths.cut = HistoryLength::new(self.writer.len());
     }
 
@@ -152,12 +151,12 @@ impl<'b, R: MapRule, J: Naming> Ledger<'b, R, J> {
         if self.writer.len() >= MAX_HISTORY_LENGTH - 1 {
             return Err(Refusal::Worn(Cause::none(RefusalNumber::J11)));
         }
-        if let Err(front) = self.writer.mark(n.get()) {
+        if let Err(front) = self.writer.mark(n) {
             return Err(Refusal::Stale(Cause::of(RefusalNumber::J9, front)));
         }
         self.writer.publish_floor();
         self.cut = n;
-        if n.get() == self.writer.count() {
+        if n == self.writer.count() {
             self.lengths.cut = HistoryLength::new(self.writer.len());
         }
         self.lengths.marked = self.lengths.cut;

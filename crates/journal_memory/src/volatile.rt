@@ -20,8 +20,8 @@ use crate::named_layout::NamedLayout;
 use crate::refusal_number::RefusalNumber;
 use journal_history::{Front, Naming, Session};
 use journal_lockmap::Held;
-use journal_tail::{CommitCount, ObjectTail};
-use journal_world::{Layout, MapRule, Refusal};
+use journal_tail::ObjectTail;
+use journal_world::{CommitCount, Layout, MapRule, Refusal};
 use std::marker::Model;
 use std::sync::Wait;
 

@@ -16,8 +16,8 @@ use crate::log_key::LogKey;
 use crate::volatile::Volatile;
 use journal_block::Update;
 use journal_history::Naming;
-use journal_tail::{CommitCount, Position};
-use journal_world::{MapRule, Refusal};
+use journal_tail::Position;
+use journal_world::{CommitCount, MapRule, Refusal};
 
 impl<'b, R: MapRule, J: Naming> Volatile<'b, R, J> {
     /// Of a hold of both: cuts. It hands out a copy of all that commits wrote since the last cut,

@@ -13,8 +13,8 @@ use crate::cause::Cause;
 use crate::volatile::Volatile;
 use journal_circ::LOG_POSITIONS;
 use journal_history::{Naming, Session};
-use journal_tail::{CommitCount, Position};
-use journal_world::{MapRule, Refusal};
+use journal_tail::Position;
+use journal_world::{CommitCount, MapRule, Refusal};
 use std::sync::Wait;
 
 impl<'b, R: MapRule, J: Naming> Volatile<'b, R, J> {

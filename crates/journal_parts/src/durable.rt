@@ -1,5 +1,5 @@
 // The core's durable part, and what it tells without a step.
-ghost use Rattle.std.specs.Prelude.{◌≡◌, ◌≤◌, ◌↔◌, ◌∷◌, [], IsTrue};
+ghost use Rattle.std.specs.Prelude.{◌≡◌, ◌≢◌, ◌≤◌, ◌↔◌, ◌∷◌, [], IsTrue};
 ghost use Rattle.journal_world.specs.Histories.Entry.{opening};
 ghost use Rattle.journal_disk.specs.Images.{EveryImage};
 ghost use Rattle.journal_wal.specs.Wal.{size_of, IsAtRest};
@@ -12,8 +12,8 @@ use journal_disk::{BlockDisk, MemDisk};
 use journal_history::{Front, Naming};
 use journal_memory::LogKey;
 use journal_objlog::ObjectLog;
-use journal_tail::{CommitCount, Position};
-use journal_world::MapRule;
+use journal_tail::Position;
+use journal_world::{CommitCount, MapRule};
 use std::marker::Model;
 
 /// What the core has on its disk, for a lock of its own: the log, with copies of the logged blocks
@@ -95,7 +95,8 @@ impl<'b, D: BlockDisk, R: MapRule, J: Naming> Durable<'b, D, R, J> {
 
     /// The history as far as this part has seen it. It takes no memory.
     pub fn front(&self) -> Front<'b, J, R>
-        ensures { result ≡ self.now.front }
+        ensures front { result ≡ self.now.front }
+        ensures begun { result ≢ [] }
     {
         self.front.again()
     }

@@ -16,8 +16,7 @@ use journal_block::Update;
 use journal_disk::BlockDisk;
 use journal_history::{Front, Naming};
 use journal_memory::Cause;
-use journal_tail::CommitCount;
-use journal_world::{MapRule, Refusal};
+use journal_world::{CommitCount, MapRule, Refusal};
 
 impl<'b, D: BlockDisk, R: MapRule, J: Naming> Durable<'b, D, R, J> {
     /// Makes room for a group of so many blocks, so that `take` takes it, as long as no other call

@@ -80,7 +80,7 @@ fn end<'j, 'b, D: BlockDisk, J: Naming, W: Wait>(
         Ok(made) => made,
         Err(why) => return Answer::Refused(Refused::of(&why)),
     };
-    let (place, commits) = (made.place(), made.count());
+    let (place, commits) = (made.place(), made.count().get());
     if waits {
         Answer::Unsure { place, commits }
     } else {

@@ -12,7 +12,7 @@ use journal_disk::BlockDisk;
 use journal_history::{Naming, Session};
 use journal_records::{Answer, Refused, Request, VERSION};
 use journal_twophase::{Journal, JournalRefusal};
-use journal_world::AnyMap;
+use journal_world::{AnyMap, CommitCount};
 use std::alloc::Global;
 use std::sync::Wait;
 
@@ -113,7 +113,7 @@ pub(crate) fn await_stable<'b, D: BlockDisk, J: Naming, W: Wait>(
     ensures marked { result ≤ floor session.new.seen }
 {
     match journal.flush(rt, session) {
-        Ok(note) => note.count(),
+        Ok(note) => note.count().get(),
         Err(_) => {
             let mark = journal.stat(rt).floor;
             known_stable(session, mark)
@@ -126,7 +126,11 @@ fn known_stable<'b, J: Naming>(session: &mut Session<'b, J, AnyMap>, mark: u64) 
     ensures extends { OnlyExtends session.old session.new }
     ensures marked { result ≤ floor session.new.seen }
 {
-    if session.is_stable(mark) { mark } else { 0 }
+    if session.is_stable(CommitCount::new(mark)) {
+        mark
+    } else {
+        0
+    }
 }
 
 // What a commit that is to wait is answered, where so many are stable.
@@ -166,7 +170,7 @@ fn make_stable<'b, D: BlockDisk, J: Naming, W: Wait>(
 {
     session.observe();
     let note = journal.flush(rt, session)?;
-    Ok(note.count())
+    Ok(note.count().get())
 }
 
 // Answers a flush.

@@ -171,7 +171,7 @@ impl<'j, 'b, J: Naming> Client<'j, 'b, J> {
             return Ok(Answer::NoTransaction);
         };
         let receipt = txn.try_commit(rt, &mut self.session)?;
-        Ok(Answer::Committed(receipt.count()))
+        Ok(Answer::Committed(receipt.count().get()))
     }
 
     fn abort<W: Wait>(&mut self, rt: &W) -> Answer

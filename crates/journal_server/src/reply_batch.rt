@@ -15,7 +15,7 @@ use journal_disk::BlockDisk;
 use journal_history::{Naming, Receipt, Session};
 use journal_inode::{SoundFiles, Version};
 use journal_nfs3::{PendingReply, Procedure, ReplyWait};
-use journal_world::{MapRule, Refusal};
+use journal_world::{CommitCount, MapRule, Refusal};
 use std::alloc::{AllocError, Global};
 use std::io::Write;
 use std::sync::Wait;
@@ -115,7 +115,7 @@ impl<'b, J: Naming, R: MapRule> ReplyBatch<Receipt<'b, J, R>> {
                 None
             }
             Some(ReplyWait { procedure, receipt }) => {
-                let commits = receipt.count();
+                let commits = receipt.count().get();
                 self.latest = Some(later(self.latest.take(), receipt));
                 Some(BatchWait {
                     xid,
@@ -261,7 +261,7 @@ fn append_reply<'b, D: BlockDisk, J: Naming, V: Version, P: Protocol<V>, C: Cloc
     let Some(wait) = wait else {
         return told.extend_from_slice(reply);
     };
-    if session.is_stable(wait.commits) {
+    if session.is_stable(CommitCount::new(wait.commits)) {
         return told.extend_from_slice(reply);
     }
     let protocol = service.protocol;

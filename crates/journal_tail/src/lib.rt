@@ -16,7 +16,6 @@
 #![tactic(auto)]
 
 mod block_cache;
-mod commit_count;
 mod limits;
 mod object_cut;
 mod object_tail;
@@ -28,7 +27,6 @@ mod staged_updates;
 mod tail;
 mod writes;
 
-pub use commit_count::CommitCount;
 pub use limits::{MAX_POSITION, MAX_TAIL, MAX_UPDATES};
 pub use object_tail::ObjectTail;
 pub use position::Position;

@@ -8,12 +8,11 @@ ghost use Rattle.journal_tail.specs.Tails.{MakeTheSame, MakesNoOther, DropsCuts,
 ghost use Rattle.journal_tail.specs.declared.limits.TheConstants.{MAX_TAIL};
 ghost use Rattle.journal_tail.specs.ObjectTails.{blocks_of};
 
-use crate::commit_count::CommitCount;
 use crate::object_tail::ObjectTail;
 use crate::position::Position;
 use journal_block::Update;
 use journal_memlog::Bounds;
-use journal_world::Refusal;
+use journal_world::{CommitCount, Refusal};
 
 impl ObjectTail {
     /// The positions that bound the parts of the log in memory.

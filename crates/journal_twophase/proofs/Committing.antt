@@ -133,7 +133,7 @@ module _ (rule : Map → Type 0) (layout : Shape) where
   unsure began t s mid new place (Ok done) begins commits later exact known is = tt
   unsure began t s mid new place (Err (Refused why)) begins commits later exact known is = absurd is
   unsure began t s mid new place (Err (Unsure at why)) begins commits later exact known is =
-      (subst (CommitsAndWaits rule layout began t s new) (sym is.0) (waits_after began t s mid new place begins commits later exact known), is.1)
+      (subst (CommitsAndWaits rule layout began t s new) (sym is.0) (waits_after began t s mid new place begins commits later exact known), is.1, is.2)
 
 -- what a refused call shows a session that had only seen more
 pub session_later : {T E : Type 0} (r : Result T E) (s mid new : SessionState) → OnlyExtends s mid → OnErr r (OnlyExtends mid new) → OnErr r (OnlyExtends s new)

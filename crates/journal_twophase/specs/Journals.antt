@@ -1,5 +1,6 @@
 -- What contracts see of a journal that threads share, and why it refuses what is no transaction's.
 use Rattle.std.specs.Prelude.{ℕ, ◌≡◌, IsTrue, List, [], ◌∷◌}
+use mathlib.Core.List.{IsPrefix}
 use Rattle.journal_world.specs.declared.refusal.Refusal.{Refusal}
 use Rattle.journal_world.specs.declared.refusal.Refusal.TheVariants.{NoMemory, DeviceFailed, Stale, Worn, Closed}
 use Rattle.journal_world.specs.Addresses.{Shape}
@@ -7,11 +8,13 @@ use Rattle.journal_world.specs.Maps.{Map, are_objects}
 use Rattle.journal_world.specs.Histories.{Entry, opened, is_trusted, IsLegal}
 use Rattle.journal_world.specs.Histories.Entry.{opening}
 use Rattle.journal_disk.specs.Disks.{DiskState}
+use Rattle.journal_disk.specs.Images.{EveryImage}
 use Rattle.journal_history.specs.Soundness.{IsSound}
 use Rattle.journal_memory.specs.declared.refusal_number.RefusalNumber.{RefusalNumber}
 use Rattle.journal_memory.specs.declared.refusal_number.RefusalNumber.TheVariants.{J6, J9, J11, J13}
 use Rattle.journal_memory.specs.Causes.{CauseState, IsUnexplained, IsExplained}
 use Rattle.journal_parts.specs.Openings.{HoldsMap, HasSize}
+use Rattle.journal_parts.specs.Cores.{OpensAfter}
 
 -- A journal, by what is known of it outside its lock
 pub record JournalState : Type 0 where
@@ -27,6 +30,13 @@ pub record BeginsWith (rule : Map → Type 0) (layout : Shape) (disk : DiskState
   pub holds : IsTrue disk.honest → HoldsMap disk map
   pub ruled : IsTrue disk.honest → rule map
   pub start : history ≡ opening map disk.honest ∷ []
+
+-- Each image that a crash may leave of the disk opens as the map after some first commits of a
+-- history that goes on from this one
+pub record LeavesFront (start : List Entry) (disk : DiskState) : Type 0 where
+  pub front : List Entry
+  pub later : IsPrefix start front
+  pub images : IsTrue disk.honest → EveryImage disk.past (OpensAfter front)
 
 -- What is known of a history that was seen, under the mount's rule, on a disk of this layout
 pub record IsKnown (rule : Map → Type 0) (layout : Shape) (history : List Entry) : Type 0 where

@@ -37,20 +37,27 @@ IsWaitRefusal s (Stale cause) = IsShown J9 cause
 IsWaitRefusal s (Stranger cause) = ShowsStrange s cause
 IsWaitRefusal s other = ⊥
 
--- a stop or a fault ends a flush only where not all commits are marked that the session had seen:
--- it has then seen a history that has no such mark
-abbrev pub IsEndedUnmarked : SessionState → SessionState → Refusal CauseState → Type 0
-IsEndedUnmarked old new (Closed cause) = floor new.seen < count old.seen
-IsEndedUnmarked old new (DeviceFailed cause) = floor new.seen < count old.seen
-IsEndedUnmarked old new other = Unit {0}
+-- the journal goes on no more: it was stopped, or the device failed
+abbrev pub HasEnded : {C : Type 0} → Refusal C → Type 0
+HasEnded (Closed cause) = Unit {0}
+HasEnded (DeviceFailed cause) = Unit {0}
+HasEnded other = ⊥
 
--- why a commit that stands at this place is not known to be stable: the wait was refused
+-- a stop or a fault ends a wait for so many commits only where not so many are marked: the session
+-- has then seen a history that has no such mark
+abbrev pub IsEndedUnmarked : ℕ → SessionState → Refusal CauseState → Type 0
+IsEndedUnmarked commits s (Closed cause) = floor s.seen < commits
+IsEndedUnmarked commits s (DeviceFailed cause) = floor s.seen < commits
+IsEndedUnmarked commits s other = Unit {0}
+
+-- why a commit that stands at this place is not known to be stable: the wait was refused, by a stop
+-- or a fault only where no mark covers the commit
 abbrev pub IsUnsure : CommitPlace → SessionState → WaitFault CommitPlace CauseState → Type 0
 IsUnsure place s (Refused why) = ⊥
-IsUnsure place s (Unsure at why) = (at ≡ place) × IsWaitRefusal s why
+IsUnsure place s (Unsure at why) = (at ≡ place) × IsWaitRefusal s why × IsEndedUnmarked at.count s why
 
 -- Why a commit that waits for its mark has none: the history lacks it, or it stands there and is
 -- not known to be stable
 abbrev pub IsWaitFault : (Map → Type 0) → Shape → List Entry → TransactionState → SessionState → SessionState → WaitFault CommitPlace CauseState → Type 0
 IsWaitFault rule layout began t old new (Refused why) = IsCommitRefusal t old why × OnlyExtends old new × ShowsFence new why
-IsWaitFault rule layout began t old new (Unsure place why) = CommitsAndWaits rule layout began t old new place × IsWaitRefusal new why
+IsWaitFault rule layout began t old new (Unsure place why) = CommitsAndWaits rule layout began t old new place × IsWaitRefusal new why × IsEndedUnmarked place.count new why

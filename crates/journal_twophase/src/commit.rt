@@ -50,7 +50,7 @@ impl<'j, 'b, D: BlockDisk, R: MapRule, J: Naming> Txn<'j, 'b, D, R, J> {
         let mut spares = transaction.spares(alloc);
         let core = &journal.core;
         let when_full = WhenFull::Wait;
-        let answer = core.commit(rt, session, &transaction, &mut held, &mut spares, when_full);
+        let answer = core.commit(rt, session, transaction, &mut held, &mut spares, when_full);
         release_all(rt, &journal.slots, held);
         answer
     }
@@ -82,7 +82,7 @@ impl<'j, 'b, D: BlockDisk, R: MapRule, J: Naming> Txn<'j, 'b, D, R, J> {
         let mut spares = transaction.spares(alloc);
         let core = &journal.core;
         let when_full = WhenFull::Refuse;
-        let answer = core.commit(rt, session, &transaction, &mut held, &mut spares, when_full);
+        let answer = core.commit(rt, session, transaction, &mut held, &mut spares, when_full);
         release_all(rt, &journal.slots, held);
         answer
     }

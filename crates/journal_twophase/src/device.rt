@@ -2,7 +2,7 @@
 //
 // A hold of the disk's lock makes at most one device call that changes the disk. Once that is over
 // it may take the memory lock inside: to cut, to mark, to trim, or to note that the device failed.
-ghost use Rattle.std.specs.Prelude.{◌≡◌, ◌<◌, length, IsTrue, IsOkUnless, IfOk, IfErr, OnOk, OnErr, All};
+ghost use Rattle.std.specs.Prelude.{◌≡◌, ◌≢◌, ◌<◌, [], length, IsTrue, IsOkUnless, IfOk, IfErr, OnOk, OnErr, All};
 ghost use Rattle.journal_world.specs.Addresses.{is_valid};
 ghost use Rattle.journal_world.specs.Maps.{Map, Agrees, overwritten};
 ghost use Rattle.journal_world.specs.Histories.{is_trusted};
@@ -17,7 +17,7 @@ ghost use Rattle.journal_twophase.specs.Journals.{IsLogRefusal, IsInstallRefusal
 ghost use Rattle.journal_twophase.specs.Transactions.{KeepsHeld, ReadsObject, IsCheckRefusal};
 ghost use Rattle.journal_twophase.specs.Commits.{IsCommitted, ShowsFence, IsTryRefusal};
 
-use crate::journal::DiskLeft;
+use crate::journal::{DiskLeft, RefusedClose};
 use crate::locked_parts::{JournalRefusal, LockedParts, UnderMemoryLock, is_past_threshold};
 use journal_block::Block;
 use journal_disk::{BlockDisk, MemDisk};
@@ -30,7 +30,7 @@ use journal_parts::{
     Durable, InstallCall, InstallFault, InstallStep, LogCall, LogStep, RestingLog, Stat,
     UnnotedFault,
 };
-use journal_world::{Addr, MapRule, Refusal, Refused};
+use journal_world::{Addr, MapRule, Refusal};
 use std::rt::Clock;
 use std::sync::{MutexGuard, Wait};
 
@@ -290,19 +290,22 @@ impl<'b, D: BlockDisk, R: MapRule, J: Naming> LockedParts<'b, D, R, J> {
     pub(crate) fn close(
         self,
         session: &mut Session<'b, J, R>,
-    ) -> Result<D, Refused<D, Cause<'b, J, R>>>
+    ) -> Result<D, RefusedClose<'b, D, R, J>>
         ensures session { OnlyExtends session.old session.new }
         ensures size { IfOk result (λ disk. (D.state disk).past.size ≡ J.layout.blocks) }
         ensures trusted { IfOk result (λ disk. is_trusted session.new.seen ≡ (D.state disk).honest) }
         ensures images { IfOk result (λ disk. IsTrue (D.state disk).honest → EveryImage (D.state disk).past (Leaves session.new.seen)) }
         ensures refusal { IfErr result (λ refused. IsCloseRefusal refused.refusal) }
+        ensures left_size { IfErr result (λ refused. (D.state refused.left.disk).past.size ≡ J.layout.blocks) }
+        ensures left_images { IfErr result (λ refused. IsTrue (D.state refused.left.disk).honest → EveryImage (D.state refused.left.disk).past (OpensAfter refused.left.front)) }
+        ensures begun { IfErr result (λ refused. refused.left.front ≢ []) }
     {
         let (durable, volatile) = self.into_parts();
         match show_images(&durable, &volatile, session) {
             Ok(()) => Ok(durable.into_disk()),
-            Err(refusal) => Err(Refused {
+            Err(refusal) => Err(RefusedClose {
                 refusal,
-                disk: durable.into_disk(),
+                left: disk_left(durable),
             }),
         }
     }
@@ -311,11 +314,10 @@ impl<'b, D: BlockDisk, R: MapRule, J: Naming> LockedParts<'b, D, R, J> {
     pub(crate) fn into_disk(self) -> DiskLeft<'b, D, R, J>
         ensures size { (D.state result.disk).past.size ≡ J.layout.blocks }
         ensures images { IsTrue (D.state result.disk).honest → EveryImage (D.state result.disk).past (OpensAfter result.front) }
+        ensures begun { result.front ≢ [] }
     {
         let (durable, _) = self.into_parts();
-        let front = durable.front();
-        let disk = durable.into_disk();
-        DiskLeft { disk, front }
+        disk_left(durable)
     }
 
     fn into_parts(self) -> (Durable<'b, D, R, J>, Volatile<'b, R, J>) {
@@ -386,6 +388,19 @@ impl<'b, R: MapRule, J: Naming> LockedParts<'b, MemDisk, R, J> {
     pub(crate) fn fail_in<W: Wait>(&self, rt: &W, k: u64) {
         self.durable.lock(rt).fail_in(k);
     }
+}
+
+// Gives the disk up, with the history as far as the disk's part has seen it.
+fn disk_left<'b, D: BlockDisk, R: MapRule, J: Naming>(
+    durable: Durable<'b, D, R, J>,
+) -> DiskLeft<'b, D, R, J>
+    ensures size { (D.state result.disk).past.size ≡ J.layout.blocks }
+    ensures images { IsTrue (D.state result.disk).honest → EveryImage (D.state result.disk).past (OpensAfter result.front) }
+    ensures begun { result.front ≢ [] }
+{
+    let front = durable.front();
+    let disk = durable.into_disk();
+    DiskLeft { disk, front }
 }
 
 // Shows the session the whole history, whose marks are all the disk's: each image that a crash may

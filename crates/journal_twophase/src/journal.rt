@@ -1,5 +1,5 @@
 // The journal, and what is no transaction's.
-ghost use Rattle.std.specs.Prelude.{◌≡◌, ◌≤◌, ◌<◌, true, false, IsTrue, IfOk, IfErr, OnOk, IsOkUnless};
+ghost use Rattle.std.specs.Prelude.{◌≡◌, ◌≢◌, ◌≤◌, ◌<◌, [], length, true, false, IsTrue, IfOk, IfErr, OnOk, IsOkUnless};
 ghost use mathlib.Core.List.{IsPrefix};
 ghost use Rattle.journal_world.specs.Addresses.{slot_of};
 ghost use Rattle.journal_world.specs.Files.{shape, files};
@@ -9,7 +9,7 @@ ghost use Rattle.journal_disk.specs.Images.{EveryImage};
 ghost use Rattle.journal_history.specs.Tokens.{made, IsExact, OnlyExtends};
 ghost use Rattle.journal_parts.specs.Cores.{Leaves, OpensAfter};
 ghost use Rattle.journal_parts.specs.Openings.{HasWellFormedLog, IsInRange, IsLayoutRefusal, IsOpenRefusal, OnlyReadsDisk};
-ghost use Rattle.journal_twophase.specs.Journals.{BeginsWith, IsKnown, IsSessionRefusal, IsFenceRefusal, IsLogRefusal, IsInstallRefusal, IsCloseRefusal, IsImageRefusal};
+ghost use Rattle.journal_twophase.specs.Journals.{BeginsWith, LeavesFront, IsKnown, IsSessionRefusal, IsFenceRefusal, IsLogRefusal, IsInstallRefusal, IsCloseRefusal, IsImageRefusal};
 ghost use Rattle.journal_twophase.specs.Waits.{IsStable, IsWaitRefusal, IsEndedUnmarked};
 ghost use Rattle.journal_twophase.specs.Transactions.{begun};
 ghost use Rattle.journal_twophase.specs.declared.journal.TheConstants.{MAX_CACHED_BLOCKS};
@@ -42,6 +42,13 @@ pub struct DiskLeft<'b, D: BlockDisk, R: MapRule, J: Naming> {
     pub disk: D,
     /// The history as far as the disk's part of the journal has seen it.
     pub front: Front<'b, J, R>,
+}
+
+// Why a journal was not closed, with what is left of it.
+#[derive(Drop)]
+pub(crate) struct RefusedClose<'b, D: BlockDisk, R: MapRule, J: Naming> {
+    pub(crate) refusal: JournalRefusal<'b, J, R>,
+    pub(crate) left: DiskLeft<'b, D, R, J>,
 }
 
 /// A journal over a disk, lent the book of its history, which threads share by `&`. Contracts see
@@ -314,10 +321,11 @@ impl<'b, D: BlockDisk, R: MapRule, J: Naming> Journal<'b, D, R, J> {
     /// Waits until the commit of the receipt is stable: until a mark says that it is on the disk,
     /// so that no crash loses it. The session has then seen the mark, and is exact.
     ///
-    /// The first that applies of these refuses it: J13 `Closed` where the journal was stopped and
-    /// J6 `DeviceFailed` where the device failed, both only where no mark covers the receipt; J9
-    /// `Stale` where the history is longer than the core's, J10 `Stranger` where it has a commit
-    /// under the session's number that the session did not make.
+    /// The first that applies of these refuses it: J9 `Stale` where the history is longer than the
+    /// core's, J10 `Stranger` where it has a commit under the session's number that the session did
+    /// not make; J13 `Closed` where the journal was stopped and J6 `DeviceFailed` where the device
+    /// failed, both only where no mark covers the receipt: the session has then seen a history that
+    /// has none.
     pub fn wait_stable<W: Wait>(
         &self,
         rt: &W,
@@ -328,6 +336,7 @@ impl<'b, D: BlockDisk, R: MapRule, J: Naming> Journal<'b, D, R, J> {
         ensures exact { OnOk result (IsExact session.new) }
         ensures session { OnlyExtends session.old session.new }
         ensures refusal { IfErr result (IsWaitRefusal session.new) }
+        ensures unmarked { IfErr result (IsEndedUnmarked receipt.now.count session.new) }
     {
         self.core.wait_stable(rt, session, receipt.count())
     }
@@ -350,7 +359,7 @@ impl<'b, D: BlockDisk, R: MapRule, J: Naming> Journal<'b, D, R, J> {
         ensures exact { OnOk result (IsExact session.new) }
         ensures session { OnlyExtends session.old session.new }
         ensures refusal { IfErr result (IsWaitRefusal session.new) }
-        ensures unmarked { IfErr result (IsEndedUnmarked session.old session.new) }
+        ensures unmarked { IfErr result (IsEndedUnmarked (count session.old.seen) session.new) }
     {
         self.core.flush(rt, session)
     }
@@ -384,19 +393,23 @@ impl<'b, D: BlockDisk, R: MapRule, J: Naming> Journal<'b, D, R, J> {
     }
 
     /// Ends the journal, and gives the disk up as it is, with the history as far as the disk's part
-    /// has seen it: each image that a crash may leave of the disk opens as the map after some first
-    /// commits of that history. For whoever has a session, `close` says more.
+    /// has seen it, which goes on from the journal's opening: each image that a crash may leave of
+    /// the disk opens as the map after some first commits of that history. For whoever has a
+    /// session, `close` says more.
     pub fn into_disk(self) -> DiskLeft<'b, D, R, J>
         ensures size { (D.state result.disk).past.size ≡ J.layout.blocks }
         ensures images { IsTrue (D.state result.disk).honest → EveryImage (D.state result.disk).past (OpensAfter result.front) }
+        ensures start { IsPrefix self.entry.start result.front }
     {
         let Journal {
             layout: _,
             slots: _,
             core,
-            start: _,
+            start,
         } = self;
-        core.into_disk()
+        let left = core.into_disk();
+        prove_goes_on(&start, &left.front);
+        left
     }
 
     /// Ends the journal, and gives the disk up as it is. The session has then seen the whole
@@ -404,21 +417,31 @@ impl<'b, D: BlockDisk, R: MapRule, J: Naming> Journal<'b, D, R, J> {
     /// it that has every marked commit.
     ///
     /// Answers J9 `Stale` where the session had seen more of the history than the core, and nothing
-    /// else. The disk is then given up too.
+    /// else. The disk is then given up too: each image that a crash may leave of it opens as the
+    /// map after some first commits of a history that goes on from the journal's opening.
     pub fn close(self, session: &mut Session<'b, J, R>) -> Result<D, Refused<D, Cause<'b, J, R>>>
         ensures session { OnlyExtends session.old session.new }
         ensures size { IfOk result (λ disk. (D.state disk).past.size ≡ J.layout.blocks) }
         ensures trusted { IfOk result (λ disk. is_trusted session.new.seen ≡ (D.state disk).honest) }
         ensures images { IfOk result (λ disk. IsTrue (D.state disk).honest → EveryImage (D.state disk).past (Leaves session.new.seen)) }
         ensures refusal { IfErr result (λ refused. IsCloseRefusal refused.refusal) }
+        ensures left_size { IfErr result (λ refused. (D.state refused.disk).past.size ≡ J.layout.blocks) }
+        ensures left { IfErr result (λ refused. LeavesFront self.entry.start (D.state refused.disk)) }
     {
         let Journal {
             layout: _,
             slots: _,
             core,
-            start: _,
+            start,
         } = self;
-        core.close(session)
+        match core.close(session) {
+            Ok(disk) => Ok(disk),
+            Err(RefusedClose { refusal, left }) => {
+                prove_goes_on(&start, &left.front);
+                let DiskLeft { disk, front: _ } = left;
+                Err(Refused { refusal, disk })
+            }
+        }
     }
 }
 
@@ -466,6 +489,17 @@ impl<'b, R: MapRule, J: Naming> Journal<'b, MemDisk, R, J> {
     pub fn fail_in<W: Wait>(&self, rt: &W, k: u64) {
         self.core.fail_in(rt, k);
     }
+}
+
+// Called for its contract: each history that has an entry goes on from the journal's opening, since
+// both are of one book.
+fn prove_goes_on<'b, R: MapRule, J: Naming>(start: &Front<'b, J, R>, front: &Front<'b, J, R>)
+    requires one { length start.now ≡ 1 }
+    requires begun { front.now ≢ [] }
+    ensures { IsPrefix start.now front.now }
+{
+    let mut longer = start.again();
+    longer.see(front);
 }
 
 // Whether the logger did anything.

@@ -26,6 +26,7 @@ mod device;
 mod hint;
 mod journal;
 mod locked_parts;
+mod spent;
 mod txn;
 mod waiters;
 mod waiting;

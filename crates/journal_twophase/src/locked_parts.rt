@@ -18,6 +18,7 @@ ghost use Rattle.journal_twophase.specs.Transactions.{KeepsHeld, ReadsObject, Is
 ghost use Rattle.journal_twophase.specs.Commits.{IsCommitted, ShowsFence, IsAwaited, IsRefusedWhenFull};
 
 use crate::hint::Hint;
+use crate::spent::SpentTransaction;
 use crate::waiters::MarkWaiters;
 use journal_disk::BlockDisk;
 use journal_history::{Book, Front, Naming, Receipt, Session};
@@ -74,6 +75,14 @@ impl WhenFull {
             Err(refusal) => matches!(self, WhenFull::Wait) && matches!(refusal, Refusal::Full(_)),
         }
     }
+}
+
+// A commit that was answered, with the memory lock under which it was.
+#[derive(Drop)]
+pub(crate) struct AnsweredCommit<'s, 'b, R: MapRule, J: Naming> {
+    pub(crate) memory: MutexGuard<'s, UnderMemoryLock<'b, R, J>>,
+    pub(crate) answer: Result<Receipt<'b, J, R>, JournalRefusal<'b, J, R>>,
+    pub(crate) spent: SpentTransaction<'b, J, R>,
 }
 
 // For which of its waits the logger is to be woken.
@@ -426,27 +435,24 @@ impl<'b, D: BlockDisk, R: MapRule, J: Naming> LockedParts<'b, D, R, J> {
         &self,
         rt: &W,
         session: &mut Session<'b, J, R>,
-        transaction: &Transaction<'b, J, R>,
+        transaction: Transaction<'b, J, R>,
         held: &mut [Held<J>],
         spares: &mut Spares,
         when_full: WhenFull,
     ) -> Result<Receipt<'b, J, R>, JournalRefusal<'b, J, R>>
-        requires rule { (m : Map) → m.layout ≡ J.layout → R.statement m → Agrees m transaction.now.reads
-            → R.statement (overwritten m transaction.now.writes) }
-        requires held { KeepsHeld J.layout held.old transaction.now }
-        ensures committed { IfOk result (IsCommitted R.statement J.layout transaction.now.seen transaction.now session.old session.new) }
-        ensures refusal { IfErr result (IsRefusedWhenFull when_full transaction.now session.old) }
+        requires rule { (m : Map) → m.layout ≡ J.layout → R.statement m → Agrees m transaction.reads
+            → R.statement (overwritten m transaction.writes) }
+        requires held { KeepsHeld J.layout held.old transaction }
+        ensures committed { IfOk result (IsCommitted R.statement J.layout transaction.entry.seen transaction.entry session.old session.new) }
+        ensures refusal { IfErr result (IsRefusedWhenFull when_full transaction.entry session.old) }
         ensures fenced { IfErr result (ShowsFence session.new) }
         ensures session { OnErr result (OnlyExtends session.old session.new) }
     {
-        let (mut memory, answer) = self.commit_under(
-            rt,
-            session,
-            transaction,
-            held,
-            spares,
-            when_full,
-        );
+        let AnsweredCommit {
+            mut memory,
+            answer,
+            spent: _spent,
+        } = self.commit_under(rt, session, transaction, held, spares, when_full);
         let wake = memory.wake_after(&answer);
         drop(memory);
         self.wake_after_commit(&answer, wake);
@@ -455,48 +461,49 @@ impl<'b, D: BlockDisk, R: MapRule, J: Naming> LockedParts<'b, D, R, J> {
 
     // Commits under the memory lock, which is held in the end. Blocks that it needs and memory
     // lacks are fetched first. One that waits for room is tried again in each hold of the lock
-    // after a cut.
+    // after a cut. The transaction is spent, so nobody above commits it a second time.
     pub(crate) fn commit_under<'s, W: Wait>(
         &'s self,
         rt: &W,
         session: &mut Session<'b, J, R>,
-        transaction: &Transaction<'b, J, R>,
+        transaction: Transaction<'b, J, R>,
         held: &mut [Held<J>],
         spares: &mut Spares,
         when_full: WhenFull,
-    ) -> (
-        MutexGuard<'s, UnderMemoryLock<'b, R, J>>,
-        Result<Receipt<'b, J, R>, JournalRefusal<'b, J, R>>,
-    )
-        requires rule { (m : Map) → m.layout ≡ J.layout → R.statement m → Agrees m transaction.now.reads
-            → R.statement (overwritten m transaction.now.writes) }
-        requires held { KeepsHeld J.layout held.old transaction.now }
-        ensures committed { IfOk result.1 (IsCommitted R.statement J.layout transaction.now.seen transaction.now session.old session.new) }
-        ensures refusal { IfErr result.1 (IsRefusedWhenFull when_full transaction.now session.old) }
-        ensures fenced { IfErr result.1 (ShowsFence session.new) }
-        ensures session { OnErr result.1 (OnlyExtends session.old session.new) }
-        ensures held { OnErr result.1 (held.new ≡ held.old) }
+    ) -> AnsweredCommit<'s, 'b, R, J>
+        requires rule { (m : Map) → m.layout ≡ J.layout → R.statement m → Agrees m transaction.reads
+            → R.statement (overwritten m transaction.writes) }
+        requires held { KeepsHeld J.layout held.old transaction }
+        ensures committed { IfOk result.answer (IsCommitted R.statement J.layout transaction.entry.seen transaction.entry session.old session.new) }
+        ensures refusal { IfErr result.answer (IsRefusedWhenFull when_full transaction.entry session.old) }
+        ensures fenced { IfErr result.answer (ShowsFence session.new) }
+        ensures session { OnErr result.answer (OnlyExtends session.old session.new) }
+        ensures held { OnErr result.answer (held.new ≡ held.old) }
     {
         let mut memory = self.lock_memory(rt);
         for _ in rt.forever() {
-            let nothing = self.empty_fetch(transaction);
+            let nothing = self.empty_fetch(&transaction);
             let step = memory
                 .volatile
-                .commit(rt, session, transaction, held, spares, &nothing);
+                .commit(rt, session, &transaction, held, spares, &nothing);
             // Called for its contract: what the session has then seen is sound.
             let _seen = session.seen();
             let (guard, answer) = match step {
                 Ok(CommitStep::Done(receipt)) => (memory, Ok(receipt)),
                 Ok(CommitStep::Missing(_blocks)) => {
                     drop(memory);
-                    self.commit_fetched(rt, session, transaction, held, spares)
+                    self.commit_fetched(rt, session, &transaction, held, spares)
                 }
                 Err(why) => (memory, Err(why)),
             };
             if when_full.waits(&answer) {
                 memory = self.room.wait(rt, guard);
             } else {
-                return (guard, answer);
+                return AnsweredCommit {
+                    memory: guard,
+                    answer,
+                    spent: SpentTransaction::new(transaction),
+                };
             }
         }
         unreachable!()

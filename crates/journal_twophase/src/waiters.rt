@@ -1,7 +1,7 @@
 // The threads that wait for a mark, counted.
 ghost use Rattle.std.specs.Prelude.{◌≡◌, ◌+◌, ◌-◌, ◌^◌, ◌<◌, ◌↔◌, IsTrue};
 
-use journal_tail::CommitCount;
+use journal_world::CommitCount;
 
 // How many sleep until a mark is made, and how many a mark woke that have not gone on: that have
 // not had the lock again.

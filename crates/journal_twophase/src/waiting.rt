@@ -1,19 +1,18 @@
 // Waiting for a mark.
-ghost use Rattle.std.specs.Prelude.{◌≡◌, ◌≤◌, ◌↔◌, IsTrue, IfOk, IfErr, OnOk, OnErr, IfSome, IsSome, IsNone};
+ghost use Rattle.std.specs.Prelude.{◌≡◌, ◌≤◌, ◌↔◌, IsTrue, IfOk, IfErr, IsErrAnd, OnOk, OnErr, IfSome, IsSome, IsNone};
 ghost use Rattle.journal_world.specs.Maps.{Map, Agrees, overwritten};
 ghost use Rattle.journal_world.specs.Histories.{count, floor};
 ghost use Rattle.journal_history.specs.Tokens.{IsExact, OnlyExtends};
 ghost use Rattle.journal_twophase.specs.Journals.{IsKnown};
 ghost use Rattle.journal_twophase.specs.Transactions.{core_of};
-ghost use Rattle.journal_twophase.specs.Waits.{IsStable, CommitsAndWaits, IsWaitRefusal, IsEndedUnmarked, IsUnsure, IsWaitFault};
+ghost use Rattle.journal_twophase.specs.Waits.{HasEnded, IsStable, CommitsAndWaits, IsWaitRefusal, IsEndedUnmarked, IsUnsure, IsWaitFault};
 
-use crate::locked_parts::{JournalRefusal, LockedParts, UnderMemoryLock, WhenFull};
+use crate::locked_parts::{AnsweredCommit, JournalRefusal, LockedParts, UnderMemoryLock, WhenFull};
 use crate::txn::{Txn, release_all};
 use journal_disk::BlockDisk;
 use journal_history::{Naming, Receipt, Session, StableNote};
 use journal_memory::{Cause, Volatile};
-use journal_tail::CommitCount;
-use journal_world::{MapRule, Refusal};
+use journal_world::{CommitCount, MapRule, Refusal};
 use std::sync::{MutexGuard, Wait};
 
 /// Why a commit that waits to be stable has no note of it.
@@ -38,12 +37,13 @@ impl<'b, D: BlockDisk, R: MapRule, J: Naming> LockedParts<'b, D, R, J> {
         &self,
         rt: &W,
         session: &mut Session<'b, J, R>,
-        commits: u64,
+        commits: CommitCount,
     ) -> Result<StableNote<'b, J, R>, JournalRefusal<'b, J, R>>
         ensures stable { IfOk result (λ note. IsStable commits note session.new) }
         ensures exact { OnOk result (IsExact session.new) }
         ensures session { OnlyExtends session.old session.new }
         ensures refusal { IfErr result (IsWaitRefusal session.new) }
+        ensures unmarked { IfErr result (IsEndedUnmarked commits session.new) }
     {
         let memory = self.lock_memory(rt);
         self.wait_in(rt, memory, session, commits)
@@ -60,7 +60,7 @@ impl<'b, D: BlockDisk, R: MapRule, J: Naming> LockedParts<'b, D, R, J> {
         ensures exact { OnOk result (IsExact session.new) }
         ensures session { OnlyExtends session.old session.new }
         ensures refusal { IfErr result (IsWaitRefusal session.new) }
-        ensures unmarked { IfErr result (IsEndedUnmarked session.old session.new) }
+        ensures unmarked { IfErr result (IsEndedUnmarked (count session.old.seen) session.new) }
     {
         let mut memory = self.lock_memory(rt);
         for _ in rt.forever() {
@@ -78,13 +78,14 @@ impl<'b, D: BlockDisk, R: MapRule, J: Naming> LockedParts<'b, D, R, J> {
         rt: &W,
         memory: MutexGuard<'s, UnderMemoryLock<'b, R, J>>,
         session: &mut Session<'b, J, R>,
-        commits: u64,
+        commits: CommitCount,
     ) -> Result<StableNote<'b, J, R>, JournalRefusal<'b, J, R>>
         ensures stable { IfOk result (λ note. IsStable commits note session.new) }
         ensures exact { OnOk result (IsExact session.new) }
         ensures keeps { IsExact session.old → IsExact session.new }
         ensures session { OnlyExtends session.old session.new }
         ensures refusal { IfErr result (IsWaitRefusal session.new) }
+        ensures unmarked { IfErr result (IsEndedUnmarked commits session.new) }
     {
         let mut memory = memory;
         for _ in rt.forever() {
@@ -145,10 +146,12 @@ impl<'j, 'b, D: BlockDisk, R: MapRule, J: Naming> Txn<'j, 'b, D, R, J> {
     /// The note covers it; the session has seen the mark, and is exact.
     ///
     /// Answers `Refused` where `commit` would refuse it: the history then lacks it. Answers
-    /// `Unsure` where it stands in the history, by the receipt, but the wait is refused: by J13
-    /// `Closed` where the journal was stopped, by J6 `DeviceFailed` where the device failed, by J9
+    /// `Unsure` where it stands in the history, by the receipt, but the wait is refused: by J9
     /// `Stale` where the history is longer than the core's, by J10 `Stranger` where it has a commit
-    /// under the session's number that the session did not make. The session is exact then too.
+    /// under the session's number that the session did not make, by J13 `Closed` where the journal
+    /// was stopped, and by J6 `DeviceFailed` where the device failed. The last two come only where
+    /// no mark covers the commit: the session has then seen a history that has none. The session is
+    /// exact then too.
     pub fn commit_wait<W: Wait>(self, rt: &W, session: &mut Session<'b, J, R>) -> Waited<'b, J, R>
         requires rule { (m : Map) → m.layout ≡ J.layout → R.statement m → Agrees m self.reads
             → R.statement (overwritten m self.writes) }
@@ -167,14 +170,11 @@ impl<'j, 'b, D: BlockDisk, R: MapRule, J: Naming> Txn<'j, 'b, D, R, J> {
         let mut spares = transaction.spares(alloc);
         let core = &journal.core;
         let when_full = WhenFull::Wait;
-        let (mut memory, answer) = core.commit_under(
-            rt,
-            session,
-            &transaction,
-            &mut held,
-            &mut spares,
-            when_full,
-        );
+        let AnsweredCommit {
+            mut memory,
+            answer,
+            spent: _spent,
+        } = core.commit_under(rt, session, transaction, &mut held, &mut spares, when_full);
         release_all(rt, &journal.slots, held);
         let wake = memory.wake_after(&answer);
         core.wake_after_commit(&answer, wake);
@@ -185,12 +185,13 @@ impl<'j, 'b, D: BlockDisk, R: MapRule, J: Naming> Txn<'j, 'b, D, R, J> {
     }
 }
 
-// Asks the volatile part whether so many commits are marked.
+// Asks the volatile part whether so many commits are marked. Where a stop or a fault refuses that,
+// the session has then seen the history that has no such mark: a wait for no commit shows it.
 fn wait_step<'b, R: MapRule, J: Naming, W: Wait>(
     rt: &W,
     volatile: &mut Volatile<'b, R, J>,
     session: &mut Session<'b, J, R>,
-    commits: u64,
+    commits: CommitCount,
 ) -> Result<bool, JournalRefusal<'b, J, R>>
     ensures marked { IfOk result (λ marked. IsTrue marked → commits ≤ floor session.new.seen) }
     ensures shown { OnOk result (session.new.seen ≡ volatile.old.ledger.history) }
@@ -198,8 +199,20 @@ fn wait_step<'b, R: MapRule, J: Naming, W: Wait>(
     ensures keeps { IsExact session.old → IsExact session.new }
     ensures session { OnlyExtends session.old session.new }
     ensures refusal { IfErr result (IsWaitRefusal session.new) }
+    ensures unmarked { IfErr result (IsEndedUnmarked commits session.new) }
 {
-    volatile.wait_step(rt, session, CommitCount::new(commits))
+    let answer = volatile.wait_step(rt, session, commits);
+    if is_end(&answer) {
+        volatile.wait_step(rt, session, CommitCount::default())?;
+    }
+    answer
+}
+
+// Whether the answer is that the journal goes on no more.
+fn is_end<T, C>(answer: &Result<T, Refusal<C>>) -> bool
+    ensures { IsTrue result ↔ IsErrAnd answer.now HasEnded }
+{
+    matches!(answer, Err(Refusal::Closed(_) | Refusal::DeviceFailed(_)))
 }
 
 // Asks the volatile part whether all commits are marked that the session has seen, and notes it. If
@@ -214,10 +227,10 @@ fn flush_step<'b, R: MapRule, J: Naming, W: Wait>(
     ensures stays { IfOk result (λ noted. IsNone noted → session.new ≡ session.old) }
     ensures session { OnlyExtends session.old session.new }
     ensures refusal { IfErr result (IsWaitRefusal session.new) }
-    ensures unmarked { IfErr result (IsEndedUnmarked session.old session.new) }
+    ensures unmarked { IfErr result (IsEndedUnmarked (count session.old.seen) session.new) }
 {
     if !volatile.flush_step(rt, session)? {
         return Ok(None);
     }
-    Ok(Some(StableNote::new(&session.front(), volatile.floor().get())))
+    Ok(Some(StableNote::new(&session.front(), volatile.floor())))
 }

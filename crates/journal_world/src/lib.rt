@@ -4,6 +4,7 @@
 #![tactic(auto)]
 
 mod address;
+mod commit_count;
 mod kinds;
 mod layout;
 mod moment;
@@ -14,6 +15,7 @@ mod step;
 mod value;
 
 pub use address::{Addr, Kind, RecordSize};
+pub use commit_count::CommitCount;
 pub use layout::{
     BITMAP, BLOCK_BITS, BLOCK_BYTES, FIRST_DATA, FIRST_INODES, Layout, MAX_BLOCKS,
     MAX_LAYOUT_BLOCKS, MAX_SLOTS, MIN_BLOCKS, REGIONS, Region, SLOTS, SUPERBLOCK, UNUSED,

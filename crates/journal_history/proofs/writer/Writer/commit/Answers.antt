@@ -32,8 +32,8 @@ note_commit-requires-clause-one_more g c =
     rw added
     (session_after session c.self.inside.front (g.T.Recorded.reads c.args.transaction.now) (g.T.Recorded.writes c.args.transaction.now) asked.own later as_many g.J.Naming.layout (made session) refl c.self.invariant.begun c.self.invariant.on_disk)
 
-pub overflow_add-self : goal.overflow_add-self
-overflow_add-self g c =
+pub following-self-inside-requires : goal.following-self-inside-requires
+following-self-inside-requires g c =
     let room = rw (← c.self.view_is) at c.requires.room in
     omega (arith, length-commits-le c.self.inside.front, c.self.invariant.counted, room)
 
@@ -49,14 +49,14 @@ new-requires-clause-counted g c =
     let t : Transaction = next_transaction c.args.session.now (g.T.Recorded.reads c.args.transaction.now) (g.T.Recorded.writes c.args.transaction.now) in
     let asked = c.numbered-numbered.ensures in
     let added = rw (asked.session, asked.number, asked.transaction) at c.in_ok-front.ensures.added in
-    rw (added, c.len-place.ensures.length) (count-last c.self.inside.front t c.self.inside.commits c.self.invariant.counted)
+    rw (c.following-self-inside.ensures, added, c.len-place.ensures.length) (count-last c.self.inside.front t c.self.inside.commits c.self.invariant.counted)
 
 pub invariant_of-self : goal.invariant_of-self
 invariant_of-self g c =
     let t : Transaction = next_transaction c.args.session.now (g.T.Recorded.reads c.args.transaction.now) (g.T.Recorded.writes c.args.transaction.now) in
     let asked = c.numbered-numbered.ensures in
     let added = rw (asked.session, asked.number, asked.transaction) at c.in_ok-front.ensures.added in
-    rw added
+    rw (c.following-self-inside.ensures, added)
     (whole_after_commit g.J.Naming.layout c.self.inside.front c.self.inside.commits c.self.inside.mark c.self.inside.published c.self.invariant t)
 
 pub returns-clause-committed : goal.returns-clause-committed
@@ -73,5 +73,5 @@ returns-clause-receipt g c =
     let t : Transaction = next_transaction c.args.session.now (g.T.Recorded.reads c.args.transaction.now) (g.T.Recorded.writes c.args.transaction.now) in
     let asked = c.numbered-numbered.ensures in
     let added = rw (asked.session, asked.number, asked.transaction) at c.in_ok-front.ensures.added in
-    rw (c.new.ensures, c.len-place.ensures.length, ← c.self.view_is)
+    rw (c.new.ensures, c.following-self-inside.ensures, c.len-place.ensures.length, ← c.self.view_is)
     (receipt_for c.self.inside.front t c.self.inside.commits c.self.invariant.counted c.in_ok-front.front added)

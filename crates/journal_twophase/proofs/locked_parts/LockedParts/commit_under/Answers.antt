@@ -16,12 +16,12 @@ use Rattle.journal_twophase.proofs.locked_parts.LockedParts.commit_under.Goals a
 pub commit-step-requires-clause-under : goal.commit-step-requires-clause-under
 commit-step-requires-clause-under g c =
     let same : c.loop.held ≡ c.args.held.now = search rules in
-    subst (λ (l : List HeldState). AreUnder g.J.Naming.layout l c.args.transaction.now.seen c.args.transaction.now.reads) (sym same) c.requires.held.reads
+    subst (λ (l : List HeldState). AreUnder g.J.Naming.layout l c.args.transaction.seen c.args.transaction.reads) (sym same) c.requires.held.reads
 
 pub commit-step-requires-clause-covered : goal.commit-step-requires-clause-covered
 commit-step-requires-clause-covered g c =
     let same : c.loop.held ≡ c.args.held.now = search rules in
-    subst (λ (l : List HeldState). HoldsSlots g.J.Naming.layout l c.args.transaction.now.writes) (sym same) c.requires.held.writes
+    subst (λ (l : List HeldState). HoldsSlots g.J.Naming.layout l c.args.transaction.writes) (sym same) c.requires.held.writes
 
 pub commit-step-requires-clause-apart : goal.commit-step-requires-clause-apart
 commit-step-requires-clause-apart g c =
@@ -31,13 +31,13 @@ commit-step-requires-clause-apart g c =
 pub commit_fetched-requires-clause-held : goal.commit_fetched-requires-clause-held
 commit_fetched-requires-clause-held g c =
     let same : c.commit-step.new.held ≡ c.args.held.now = search rules in
-    subst (λ (l : List HeldState). KeepsHeld g.J.Naming.layout l c.args.transaction.now) (sym same) c.requires.held
+    subst (λ (l : List HeldState). KeepsHeld g.J.Naming.layout l c.args.transaction) (sym same) c.requires.held
 
 pub returns-else-waits-clause-committed : goal.returns-else-waits-clause-committed
 returns-else-waits-clause-committed g c =
     let rule = g.R.MapRule.statement in
     let layout = g.J.Naming.layout in
-    let t = c.args.transaction.now in
+    let t = c.args.transaction in
     let first = c.args.session.now in
     let before = c.loop.session in
     let step = c.commit-step in

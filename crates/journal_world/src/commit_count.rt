@@ -1,5 +1,5 @@
 // A number of commits.
-ghost use Rattle.std.specs.Prelude.{◌≡◌};
+ghost use Rattle.std.specs.Prelude.{◌≡◌, ◌+◌, ◌<◌, ◌^◌};
 
 use std::marker::Model;
 
@@ -33,5 +33,13 @@ impl CommitCount {
         ensures { result ≡ self }
     {
         self.0
+    }
+
+    /// One commit more.
+    pub fn following(self) -> CommitCount
+        requires { self + 1 < 2 ^ 64 }
+        ensures { result ≡ self + 1 }
+    {
+        CommitCount(self.0 + 1)
     }
 }
