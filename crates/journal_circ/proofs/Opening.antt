@@ -3,9 +3,9 @@ use Rattle.std.proofs.Common.{true, length, ◌+◌, ◌%◌, ◌^◌, if◌then
 use Rattle.journal_block.specs.Block.{Bytes, u64_at}
 use Rattle.std.specs.Prelude.{slice_index_or}
 use Rattle.journal_block.specs.Updates.{Content, updated}
-use Rattle.journal_disk.specs.Disks.{Past, DiskState, Keeps, IsSettled, block_at, read_of}
+use Rattle.journal_disk.specs.Disks.{Past, DiskState, Keeps, LostNone, IsSettled, block_at, read_of}
 use Rattle.journal_disk.specs.Images.{IsImage, EveryImage, reading}
-use Rattle.journal_disk.specs.Laws.{settled_reads, reading_is_image, reading-at}
+use Rattle.journal_disk.specs.Laws.{settled_reads, settled_lost_none, reading_is_image, reading-at}
 use Rattle.journal_circ.specs.declared.extent.Extent.{Extent}
 use Rattle.journal_circ.specs.Log.{log_block, address, is_sealed, home_by, begin_of, count_in, tag_in, tag_of, tag_at, are_there, end_of, sealed_end, end_by, end_in, start_in, label_of, HasLabel, DescribesLog, IsWellFormed}
 use Rattle.journal_circ.specs.StandsFor.{StandsFor}
@@ -100,6 +100,7 @@ module _ (d d2 : DiskState) (h : Bytes) (tags : Bytes) (start end : ℕ) (f : Bo
         (λ image is. ap label_of (settled_reads d.past (settled was) image is 1 (omega (arith, large))) ∙ sym (label_is was));
     form = form;
     tags_size = size;
+    lost = λ honest. let was = subst IsTrue keeps.honest honest in subst LostNone (sym (same was)) (settled_lost_none d.past (settled was));
     holds = λ honest is. let was = subst IsTrue keeps.honest honest in
         subst (λ (p : Past). HasHolds p h start end end) (sym (same was)) (held was is);
     tags = λ honest good is. let was = subst IsTrue keeps.honest honest in

@@ -4,9 +4,9 @@ use Rattle.std.proofs.lemmas.Bool.{cases_eq, cases_lt}
 use Rattle.journal_block.specs.Block.{Bytes, u64_at}
 use Rattle.journal_block.specs.Updates.{updated, updates_block}
 use Rattle.journal_block.specs.UpdateLaws.{updated-named}
-use Rattle.journal_disk.specs.Disks.{write, Past, DiskState, Keeps, block_at, read_of, past_after, MayHaveHappened}
+use Rattle.journal_disk.specs.Disks.{write, Past, DiskState, Keeps, LostNone, block_at, read_of, past_after, MayHaveHappened}
 use Rattle.journal_disk.specs.Images.{IsImage, EveryImage, reading, IsOldOrWritten}
-use Rattle.journal_disk.specs.Laws.{read_written, reading_is_image, reading-at}
+use Rattle.journal_disk.specs.Laws.{read_written, reading_is_image, reading-at, lost_none_after}
 use Rattle.journal_circ.specs.declared.extent.Extent.{Extent}
 use Rattle.journal_circ.specs.Log.{log_block, address_at, address, is_sealed, begin_of, count_in, tag_in, tag_of, tag_at, home_by, end_by, end_in, start_in, label_of, HasLabel}
 use Rattle.journal_circ.specs.Ring.{Ring, IsLogged, IsInstalled}
@@ -261,6 +261,10 @@ module _ (p now : Past) (h : Bytes) (m : Extent) (next : ℕ) (bounds : HasBound
 -- The log after a write of block c: the disk is another one
 module _ (old : Ring) (d : DiskState) (f : Bool) (was : IsCirc old) (keeps : Keeps old.disk d) (fine : f ≡ false → old.faulted ≡ false)
     (c : ℕ) (v : Bytes) (on_disk : c < old.disk.past.size) (happened : IsTrue old.disk.honest → MayHaveHappened (write c v) old.disk.past d.past) where
+  lost_kept : IsTrue d.honest → LostNone d.past
+  lost_kept honest = let was_honest = subst IsTrue keeps.honest honest in
+      lost_none_after (write c v) old.disk.past d.past (happened was_honest) (was.lost was_honest)
+
   pub write_of : IsTrue old.disk.honest → Written old.disk.past d.past c v
   write_of honest = written old.disk.past d.past c v on_disk (happened honest)
 
@@ -400,6 +404,7 @@ module _ (old : Ring) (d : DiskState) (f : Bool) (was : IsCirc old) (keeps : Kee
       label = label_apart (omega arith);
       form = was.form ∙ sym form;
       tags_size = size;
+      lost = lost_kept;
       holds = λ honest sealed. holds honest (sym form ∙ sealed);
       tags = λ honest good sealed. tags honest good (sym form ∙ sealed);
     }
@@ -483,6 +488,7 @@ module _ (old : Ring) (d : DiskState) (f : Bool) (was : IsCirc old) (keeps : Kee
     label = label_apart (omega arith);
     form = was.form;
     tags_size = was.tags_size;
+    lost = lost_kept;
     holds = λ honest sealed. not_tried sealed (omega arith) honest;
     tags = tags_stay (omega arith) (λ q is. omega arith);
   }
@@ -521,6 +527,7 @@ module _ (old : Ring) (d : DiskState) (f : Bool) (was : IsCirc old) (keeps : Kee
       label = label_apart (omega arith);
       form = was.form ∙ was_plain ∙ sym plain;
       tags_size = was.tags_size;
+      lost = lost_kept;
       holds = λ honest sealed. not_sealed plain sealed;
       tags = λ honest good sealed. not_sealed plain sealed;
     }
@@ -568,6 +575,7 @@ module _ (old : Ring) (d : DiskState) (f : Bool) (was : IsCirc old) (keeps : Kee
       label = label_apart (omega arith);
       form = was.form ∙ was_sealed ∙ sym sealed;
       tags_size = was.tags_size;
+      lost = lost_kept;
       holds = λ honest _. let held = was.holds (before honest) was_sealed in record {
         hold = λ image is. let from = (write_of (before honest)).images image is in ⊎_elim
             (λ (kept : block_at image c ≡ block_at from.old c). subst (λ (b : Bytes). old.extent.end ≤ begin_of b + 255) (sym (at_zero image (block_at from.old 0) (subst (λ (n : ℕ). block_at image c ≡ block_at from.old n) zero_block kept))) (held.hold from.old from.was))
@@ -652,6 +660,7 @@ module _ (old : Ring) (d : DiskState) (f : Bool) (was : IsCirc old) (keeps : Kee
       label = label_put one_block labels;
       form = was.form;
       tags_size = was.tags_size;
+      lost = lost_kept;
       holds = λ honest sealed. not_tried sealed (omega arith) honest;
       tags = tags_stay (omega arith) (λ q is. omega arith);
     }

@@ -1,15 +1,16 @@
 -- What an empty log's images stand for, and those of the same disk with a block 0 of another form.
-use Rattle.std.proofs.Common.{◌≡◌, ⊎_elim, ◌<◌, ◌≤◌, ◌+◌, ◌-◌, ◌^◌, ℕ, zero, Bool, true, length, List, sym, ap, ◌∙◌, arith, subst, IsTrue}
+use Rattle.std.proofs.Common.{◌≡◌, ◌≢◌, inr, refl, ⊎_elim, ◌<◌, ◌≤◌, ◌+◌, ◌-◌, ◌^◌, ℕ, zero, Bool, true, length, List, sym, ap, ◌∙◌, arith, subst, IsTrue}
 use Rattle.journal_block.specs.Block.{Bytes, u64_at}
 use Rattle.journal_block.specs.Updates.{Content, updated}
-use Rattle.journal_disk.specs.Disks.{write, barrier, Past, IsSettled, block_at, read_of, past_after, MayHaveHappened}
-use Rattle.journal_disk.specs.Images.{IsImage, IsOldOrWritten}
+use Rattle.journal_disk.specs.Disks.{write, barrier, Past, IsSettled, LostNone, block_at, read_of, past_after, MayHaveHappened}
+use Rattle.journal_disk.specs.Images.{IsImage, IsOldOrWritten, IsRewritten}
 use Rattle.journal_disk.specs.Moments.{LeavesOnly}
-use Rattle.journal_disk.specs.Laws.{leaves_by_write, leaves_by_barrier, leaves_also, leaves_now, read_written, settled_after_barrier}
+use Rattle.journal_disk.specs.Laws.{leaves_by_write, leaves_by_barrier, leaves_also, leaves_now, read_written, others_read, settled_after_barrier, lost_none_after, rewritten_synced}
 use Rattle.journal_circ.specs.Log.{log_block, is_sealed, begin_of, count_in, end_by, end_in, start_in, updates_from, label_of}
 use Rattle.journal_circ.specs.StandsFor.{StandsFor}
 use Rattle.journal_circ.specs.Ring.{Ring, home_of, IsHomeAndLabel, ChangesForm}
 use Rattle.journal_circ.specs.Soundness.{IsCirc}
+use Rattle.journal_circ.specs.Mending.{IsMendable}
 use Rattle.journal_circ.proofs.Forms.{end_as}
 use Rattle.journal_circ.proofs.Groups.{group_there}
 
@@ -94,9 +95,34 @@ module _ (r : Ring) (is : IsCirc r) (honest : IsTrue r.disk.honest) (empty : r.e
         first = leaves_also r.disk.past happened.0 (IsOldOrWritten r.disk.past 0 v) (IsHomeAndLabel r)
             (leaves_by_write r.disk.past happened.0 0 v (omega (arith, is.bounds)) happened.1.0) written_keeps
 
+    -- and each home block is in each image as it reads, whatever the log names
+    pub mends : (new : Past) → (mid : Past) × (MayHaveHappened (write 0 v) r.disk.past mid × MayHaveHappened barrier mid new) → IsMendable new
+    mends new happened b home lt leaves image is_one =
+        from.others b other ∙ homes_of from.old from.was b home on_disk
+        ∙ sym (others_read r.disk.past happened.0 b 0 v happened.1.0 other) ∙ sym (synced.reads b)
+      where
+        synced : IsRewritten happened.0 new
+        synced = rewritten_synced happened.0 new happened.1.1
+
+        from : IsOldOrWritten r.disk.past 0 v image
+        from = leaves_now r.disk.past happened.0 (IsOldOrWritten r.disk.past 0 v)
+            (leaves_by_write r.disk.past happened.0 0 v (omega (arith, is.bounds)) happened.1.0) image (synced.images image is_one)
+
+        other : b ≢ 0
+        other here = omega (arith, here, home)
+
+        same_size : happened.0.size ≡ r.disk.past.size
+        same_size = ⊎_elim
+            (λ (none : happened.0 ≡ r.disk.past). ap (λ (p : Past). p.size) none)
+            (λ (one : happened.0 ≡ past_after (write 0 v) r.disk.past). ap (λ (p : Past). p.size) one)
+            happened.1.0
+
+        on_disk : b < r.disk.past.size
+        on_disk = omega (arith, lt, synced.size, same_size)
+
 -- block 0 was put and is stable
-pub settled_with : (p new : Past) (v : Bytes) (form : Bool) → is_sealed v ≡ form → new ≡ past_after barrier (past_after (write 0 v) p) → IsSettled new × (is_sealed (read_of new 0) ≡ form)
-settled_with p new v form is after = (
-  subst IsSettled (sym after) (settled_after_barrier (past_after (write 0 v) p)),
+pub settled_with : (p new : Past) (v : Bytes) (form : Bool) → LostNone p → is_sealed v ≡ form → new ≡ past_after barrier (past_after (write 0 v) p) → IsSettled new × (is_sealed (read_of new 0) ≡ form)
+settled_with p new v form lost is after = (
+  subst IsSettled (sym after) (settled_after_barrier (past_after (write 0 v) p) (lost_none_after (write 0 v) p (past_after (write 0 v) p) (inr refl) lost)),
   ap (λ (q : Past). is_sealed (read_of q 0)) after ∙ ap is_sealed (read_written p 0 v) ∙ is,
 )

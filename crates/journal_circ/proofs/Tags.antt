@@ -3,7 +3,7 @@ use Rattle.std.proofs.Common.{◌≡◌, ◌≢◌, ◌⊎◌, inl, inr, ⊎_eli
 use Rattle.std.specs.Prelude.{slice_index_or}
 use Rattle.std.proofs.lemmas.Bool.{cases_eq, cases_lt}
 use Rattle.journal_block.specs.Block.{Bytes, u64_at}
-use Rattle.journal_disk.specs.Disks.{barrier, Past, block_at, read_of, past_after}
+use Rattle.journal_disk.specs.Disks.{barrier, Past, LostNone, block_at, read_of, past_after}
 use Rattle.journal_disk.specs.Images.{IsImage, EveryImage}
 use Rattle.journal_disk.specs.Laws.{settled_reads, settled_after_barrier, images_after_barrier}
 use Rattle.journal_circ.specs.Log.{log_block, address, begin_of, tag_in, tag_of, tag_at}
@@ -11,17 +11,17 @@ use Rattle.journal_circ.specs.Soundness.{HasHolds, HasTags}
 use Rattle.journal_circ.proofs.Writes.{Written}
 
 -- After a barrier an image has each block as it reads
-reads : (p : Past) (image : List Bytes) → IsImage (past_after barrier p) image → (b : ℕ) → b < p.size → block_at image b ≡ read_of p b
-reads p image is b lt = settled_reads (past_after barrier p) (settled_after_barrier p) image is b lt
+reads : (p : Past) → LostNone p → (image : List Bytes) → IsImage (past_after barrier p) image → (b : ℕ) → b < p.size → block_at image b ≡ read_of p b
+reads p lost image is b lt = settled_reads (past_after barrier p) (settled_after_barrier p lost) image is b lt
 
-module _ (p : Past) (h tags : Bytes) (start end coming next : ℕ) (large : 513 < p.size) where
+module _ (p : Past) (h tags : Bytes) (start end coming next : ℕ) (large : 513 < p.size) (lost : LostNone p) where
   pub holds_synced : HasHolds p h start end next → HasHolds (past_after barrier p) h start end next
   holds_synced s = record { hold = λ image is. s.hold image (images_after_barrier p image is); wants = λ image is. s.wants image (images_after_barrier p image is) }
 
   pub tags_synced : HasTags p h tags start end coming next → HasTags (past_after barrier p) h tags start end coming next
   tags_synced s = record {
-    flight = λ image is q ge lt. inl (reads p image is (log_block q) (omega arith));
-    free = λ image is q ge lt. reads p image is (log_block q) (omega arith);
+    flight = λ image is q ge lt. inl (reads p lost image is (log_block q) (omega arith));
+    free = λ image is q ge lt. reads p lost image is (log_block q) (omega arith);
     tagged = s.tagged;
     knows = s.knows;
     last = s.last;
@@ -30,14 +30,14 @@ module _ (p : Past) (h tags : Bytes) (start end coming next : ℕ) (large : 513 
   -- the coming end counts
   pub holds_ended : HasHolds p h start end next → HasTags p h tags start end coming next → HasHolds (past_after barrier p) h start coming next
   holds_ended s t = record {
-    hold = λ image is. subst (λ (b : Bytes). coming ≤ begin_of b + 255) (sym (reads p image is 0 (omega arith))) t.last;
+    hold = λ image is. subst (λ (b : Bytes). coming ≤ begin_of b + 255) (sym (reads p lost image is 0 (omega arith))) t.last;
     wants = (holds_synced s).wants;
   }
 
   pub tags_ended : end ≤ coming → HasTags p h tags start end coming next → HasTags (past_after barrier p) h tags start coming coming next
   tags_ended le s = record {
-    flight = λ image is q ge lt. inl (reads p image is (log_block q) (omega arith));
-    free = λ image is q ge lt. reads p image is (log_block q) (omega arith);
+    flight = λ image is q ge lt. inl (reads p lost image is (log_block q) (omega arith));
+    free = λ image is q ge lt. reads p lost image is (log_block q) (omega arith);
     tagged = λ q ge lt. s.tagged q (omega arith) lt;
     knows = s.knows;
     last = s.last;
@@ -64,8 +64,8 @@ module _ (p : Past) (h tags : Bytes) (start end coming next : ℕ) (large : 513 
 
   pub tags_freed : (from : ℕ) → HasTags p h tags start end coming next → HasTags (past_after barrier p) h tags from end coming next
   tags_freed from s = record {
-    flight = λ image is q ge lt. inl (reads p image is (log_block q) (omega arith));
-    free = λ image is q ge lt. reads p image is (log_block q) (omega arith);
+    flight = λ image is q ge lt. inl (reads p lost image is (log_block q) (omega arith));
+    free = λ image is q ge lt. reads p lost image is (log_block q) (omega arith);
     tagged = s.tagged;
     knows = s.knows;
     last = s.last;

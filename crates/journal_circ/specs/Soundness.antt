@@ -5,7 +5,7 @@ use Rattle.journal_block.specs.declared.update.Update.{Update}
 use Rattle.journal_world.specs.declared.layout.TheConstants.{BLOCK_BYTES}
 use Rattle.journal_block.specs.Block.{Bytes, u64_at}
 use Rattle.journal_block.specs.Updates.{updated}
-use Rattle.journal_disk.specs.Disks.{Past, block_at, read_of}
+use Rattle.journal_disk.specs.Disks.{Past, LostNone, block_at, read_of}
 use Rattle.journal_disk.specs.Images.{EveryImage}
 use Rattle.journal_circ.specs.declared.extent.Extent.{Extent}
 use Rattle.journal_circ.specs.Log.{log_block, address, is_sealed, begin_of, tag_in, tag_of, tag_at, home_by, end_by, end_in, start_in, updates_from, HasLabel}
@@ -118,6 +118,8 @@ pub record HasBounds (size : ℕ) (header : Bytes) (m : Extent) (next : ℕ) : T
 pub record IsCirc (r : Ring) : Type 0 where
   pub form : r.sealed ≡ is_sealed r.header
   pub bounds : HasBounds r.disk.past.size r.header r.extent r.next
+  -- no write was lost since the log is open, nor was one when it was opened
+  pub lost : IsTrue r.disk.honest → LostNone r.disk.past
   pub sound : IsTrue r.disk.honest → HasSoundImages r.disk.past r.header r.extent
   pub headers : IsTrue r.disk.honest → r.faulted ≡ false → HasHeaders r.disk.past r.extent
   pub label : IsTrue r.disk.honest → EveryImage r.disk.past (HasLabel r.label)

@@ -3,6 +3,7 @@ ghost use Rattle.std.specs.Prelude.{ℕ, ◌≡◌, ◌<◌, ◌≤◌, ◌+◌,
 ghost use Rattle.journal_circ.specs.declared.layout.TheConstants.{FIRST_HOME, LOG_POSITIONS};
 ghost use Rattle.journal_disk.specs.Disks.{Keeps};
 ghost use Rattle.journal_circ.specs.Ring.{log_of, home_of, IsFault};
+ghost use Rattle.journal_circ.specs.Mending.{IsMendable};
 
 use crate::extent::Extent;
 use crate::fail_stop::FailStop;
@@ -15,6 +16,7 @@ use std::marker::Model;
 
 pub mod installer;
 pub mod logger;
+mod mending;
 mod opening;
 mod seal;
 
@@ -168,9 +170,11 @@ impl<D: BlockDisk> Circ<D> {
         &self.device.disk
     }
 
-    /// Gives the disk up, with all that is pending on it.
+    /// Gives the disk up, with all that is pending on it. Once a failed barrier, a kill or a crash
+    /// has left it, it can be mended, also after a fault.
     pub fn into_disk(self) -> D
-        ensures { D.state result ≡ self.disk }
+        ensures disk { D.state result ≡ self.disk }
+        ensures mendable { IsTrue self.disk.honest → IsMendable self.disk.past }
     {
         let Circ { device, .. } = self;
         let FailStop { disk, .. } = device;

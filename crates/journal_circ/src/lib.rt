@@ -47,6 +47,10 @@
 //! Once a device call failed, no later step or read makes one: each answers J6 until the disk is
 //! opened again.
 //!
+//! A barrier that failed may have lost writes that reads still give: the device lacks them, and no
+//! later barrier makes them stable. `mend` looks at the log of a disk that is to be opened, and then
+//! writes the log and the home blocks that it names as they read, so that nothing is lost.
+//!
 //! `seal` makes an empty log a sealed one, and `unseal` a plain one.
 //!
 //! `specs/Log.antt` has the layout, `specs/StandsFor.antt` what an image stands for,
@@ -57,10 +61,12 @@
 mod circ;
 mod extent;
 mod fail_stop;
+mod law;
 mod layout;
 mod tag;
 
 pub use circ::installer::{Freed, HomesPut, HomesSynced, StartPut};
 pub use circ::logger::{EndPut, LogBlocksPut, LogBlocksSynced};
 pub use circ::{Circ, Opened};
+pub use law::prove_mending_law;
 pub use layout::{FIRST_HOME, LOG_POSITIONS, MAX_GROUP, MAX_SEALED_BLOCKS};

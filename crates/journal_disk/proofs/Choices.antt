@@ -38,7 +38,7 @@ pending_added p n count all more is counts some added =
 pub record Puts (p : Past) (choice : List ℕ) (n pending : ℕ) (blocks : List Bytes) : Type 0 where
   pub size : length blocks ≡ p.size
   pub put : (b : ℕ) → b < n → get_or blocks b [] ≡ chosen p choice b
-  pub others : (b : ℕ) → n ≤ b → get_or blocks b [] ≡ get_or p.first b []
+  pub others : (b : ℕ) → n ≤ b → get_or blocks b [] ≡ get_or p.device b []
   pub count : pending ≡ length (pending_below p n)
   pub few : pending ≤ n
 
@@ -71,8 +71,8 @@ puts_more p choice n pending pending2 number blocks blocks2 written lt puts coun
     this : unwrap_or written (get_or blocks n []) ≡ chosen p choice n
     this =
         ap (unwrap_or written) (puts.others n (omega arith))
-        ∙ sym (gives (get_or p.first n []))
-        ∙ ap (chosen_in (get_or p.first n []) p.events n) (is ∙ ap (λ (j : ℕ). get_or choice j 0) puts.count)
+        ∙ sym (gives (get_or p.device n []))
+        ∙ ap (chosen_in (get_or p.device n []) p.events n) (is ∙ ap (λ (j : ℕ). get_or choice j 0) puts.count)
 
 pub puts_all : (p : Past) (choice : List ℕ) (n pending : ℕ) (blocks : List Bytes) → n ≡ p.size → Puts p choice n pending blocks
     → blocks ≡ image_of p choice
@@ -84,7 +84,7 @@ puts_all p choice n pending blocks all puts =
 chosen_may_be_left : (p : Past) (choice : List ℕ) (b : ℕ) → MayLeave p b (chosen p choice b)
 chosen_may_be_left p choice b = ⊎_elim
     (λ stable. inl stable)
-    (λ among. inr (among_all among))
+    (λ among. inr (inl (among_all among)))
     (newest_cases (drop skipped (pending_of p b)) (stable_of p b))
   where
     skipped : ℕ

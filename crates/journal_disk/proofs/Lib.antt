@@ -1,3 +1,5 @@
 pub mod Places
 pub mod Links
 pub mod Choices
+pub mod Rewritten
+pub mod Fillings

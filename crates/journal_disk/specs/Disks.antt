@@ -8,11 +8,14 @@ pub data DiskEvent : Type 0 where
   write : (block : ℕ) (bytes : Bytes) → DiskEvent
   barrier : DiskEvent
 
--- A disk's past: how many blocks it has, what they held at first, and what happened since, the
--- newest first
+-- A disk's past: how many blocks it has, what they held at first as they read, what the device had
+-- of them, and what happened since, the newest first. The device has something else where writes
+-- were lost before, by a barrier that failed: reads still give them, and no barrier makes them
+-- stable
 pub record Past : Type 0 where
   pub size : ℕ
   pub first : List Bytes
+  pub device : List Bytes
   pub events : List DiskEvent
 
 -- What contracts know of a disk. Where it is not honest, its past says nothing but the size
@@ -51,19 +54,31 @@ abbrev pub pending_of : Past → ℕ → List Bytes
 pending_of p b = pending_in p.events b
 
 abbrev pub stable_of : Past → ℕ → Bytes
-stable_of p b = stable_in (block_at p.first b) p.events b
+stable_of p b = stable_in (block_at p.device b) p.events b
+
+-- what a read of the block gave at the last barrier
+abbrev pub synced_of : Past → ℕ → Bytes
+synced_of p b = stable_in (block_at p.first b) p.events b
 
 -- what a read of the block gives: the last pending write, else the stable block
 abbrev pub read_of : Past → ℕ → Bytes
 read_of p b = read_in (block_at p.first b) p.events b
 
--- no write is pending
+-- no write is pending, and none is lost
 abbrev pub IsSettled : Past → Type 0
-IsSettled p = (b : ℕ) → b < p.size → pending_of p b ≡ []
+IsSettled p = (b : ℕ) → b < p.size → (pending_of p b ≡ []) × (stable_of p b ≡ read_of p b)
+
+-- what reads give of the block, the device has or a barrier will give it
+abbrev pub IsKeptAt : Past → ℕ → Type 0
+IsKeptAt p b = pending_of p b ≡ [] → stable_of p b ≡ read_of p b
+
+-- no write is lost
+abbrev pub LostNone : Past → Type 0
+LostNone p = (b : ℕ) → b < p.size → IsKeptAt p b
 
 -- the past of a disk that begins with these blocks
 abbrev pub past_from : ℕ → List Bytes → Past
-past_from size blocks = record { size = size; first = blocks; events = [] }
+past_from size blocks = record { size = size; first = blocks; device = blocks; events = [] }
 
 -- the past once this happened too
 abbrev pub past_after : DiskEvent → Past → Past

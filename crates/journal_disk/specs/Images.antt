@@ -1,12 +1,13 @@
 -- What a crash may leave of a disk.
-use Rattle.std.specs.Prelude.{ℕ, ◌≡◌, ◌≢◌, ◌⊎◌, ◌<◌, List, length, map, Contains}
+use Rattle.std.specs.Prelude.{ℕ, ◌≡◌, ◌≢◌, ◌⊎◌, ◌<◌, List, [], length, map, Contains}
 use Rattle.std.specs.List.{range_with_len}
 use Rattle.journal_block.specs.Block.{Bytes}
-use Rattle.journal_disk.specs.Disks.{Past, block_at, pending_of, stable_of, read_of}
+use Rattle.journal_disk.specs.Disks.{Past, IsKeptAt, block_at, pending_of, stable_of, read_of}
 
--- a crash may leave this of the block: the stable block, or any of its pending writes
+-- a crash may leave this of the block: the stable block, any of its pending writes, or what a read
+-- gives
 abbrev pub MayLeave : Past → ℕ → Bytes → Type 0
-MayLeave p b bytes = (bytes ≡ stable_of p b) ⊎ Contains (pending_of p b) bytes
+MayLeave p b bytes = (bytes ≡ stable_of p b) ⊎ (Contains (pending_of p b) bytes ⊎ (bytes ≡ read_of p b))
 
 -- An image is what a crash leaves: of each block, whatever it leaves of others, what it may leave
 -- of that one
@@ -21,6 +22,20 @@ EveryImage p Q = (image : List Bytes) → IsImage p image → Q image
 -- the disk as it reads, which is one of its images
 abbrev pub reading : Past → List Bytes
 reading p = map (read_of p) (range_with_len 0 p.size)
+
+-- A failed barrier leaves this to who opens the disk next with the memory of the machine kept: reads
+-- give what they gave, the device has an image, and of what was pending nothing is any more
+pub record LosesWrites (old new : Past) : Type 0 where
+  pub device : IsImage old new.device
+  pub is : new ≡ record { size = old.size; first = reading old; device = new.device; events = [] }
+
+-- Blocks were written as they read, and barriers made: reads give what they gave, no image is added,
+-- and what was kept of a block is kept
+pub record IsRewritten (old new : Past) : Type 0 where
+  pub size : new.size ≡ old.size
+  pub reads : (b : ℕ) → read_of new b ≡ read_of old b
+  pub images : EveryImage new (IsImage old)
+  pub kept : (b : ℕ) → IsKeptAt old b → IsKeptAt new b
 
 -- An image from before a write of these bytes to block c, with that block as it was there or as
 -- written

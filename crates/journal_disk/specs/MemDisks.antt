@@ -56,7 +56,7 @@ number_for p choice b = slice_index_or choice (length (pending_below p b)) 0
 
 -- a block of the image that a choice names
 abbrev pub chosen : Past → List ℕ → ℕ → Bytes
-chosen p choice b = chosen_in (block_at p.first b) p.events b (number_for p choice b)
+chosen p choice b = chosen_in (block_at p.device b) p.events b (number_for p choice b)
 
 -- the image that a choice names
 abbrev pub image_of : Past → List ℕ → List Bytes

@@ -20,9 +20,11 @@ mod events;
 mod file_disk;
 mod kept_file;
 mod mem_disk;
+mod mending;
 
 pub use block_disk::{BlockDisk, DiskFault};
 pub use block_file::{BlockFile, System};
 pub use file_disk::FileDisk;
 pub use kept_file::{KeptFile, kept_disk};
 pub use mem_disk::MemDisk;
+pub use mending::{rewrite, rewrite_first};

@@ -1,9 +1,9 @@
 // A disk in memory.
-ghost use Rattle.std.specs.Prelude.{ℕ, ◌≡◌, ◌≢◌, ◌⊎◌, ◌↔◌, ◌<◌, ◌≤◌, ◌-◌, ◌+◌, ◌^◌, min, [], length, replicate, slice_index_or, slice_set, unwrap_or, IsTrue, IfOk, OnOk, OnErr, IsErr, IsOkUnless};
+ghost use Rattle.std.specs.Prelude.{ℕ, ◌≡◌, ◌≢◌, ◌⊎◌, ◌↔◌, ◌<◌, ◌≤◌, ◌-◌, ◌+◌, ◌^◌, min, List, [], length, replicate, slice_index_or, slice_set, unwrap_or, IsTrue, IfOk, OnOk, OnErr, IsErr, IsOkUnless};
 ghost use Rattle.std.specs.Option.{option_copied};
 ghost use Rattle.journal_world.specs.Addresses.{zeros_of};
 ghost use Rattle.journal_disk.specs.Disks.{Keeps, block_at, write, barrier, pending_of, read_of, IsSettled};
-ghost use Rattle.journal_disk.specs.Images.{IsImage};
+ghost use Rattle.journal_disk.specs.Images.{IsImage, reading, LosesWrites};
 ghost use Rattle.journal_disk.specs.MemDisks.{state_of, disk_from, with_event, called, failed, pending_blocks, image_of};
 
 use crate::events::Record;
@@ -22,8 +22,10 @@ use std::marker::Model;
 #[derive(Drop)]
 pub struct MemDisk {
     alloc: Global,
-    // The blocks as they were at first.
+    // The blocks as they read at first.
     first: Vec<Block>,
+    // What the device had of them then.
+    device: Vec<Block>,
     events: Record,
     // Which device call from now on fails, or 0.
     fails_in: u64,
@@ -37,12 +39,12 @@ impl Model for MemDisk {
     ghost Value = { MemState };
 
     ghost view = { λ m. record {
-      past = record { size = length m.first.items; first = m.first.items; events = m.events.events };
+      past = record { size = length m.device.items; first = m.first.items; device = m.device.items; events = m.events.events };
       failures = m.failures;
       fails_in = m.fails_in;
     } };
 
-    ghost invariant = { λ m. m.events.size ≡ length m.first.items };
+    ghost invariant = { λ m. (m.events.size ≡ length m.device.items) × (length m.first.items ≡ length m.device.items) };
 }
 
 impl MemDisk {
@@ -65,9 +67,11 @@ impl MemDisk {
         ensures refusal { IsOkUnless result Refusal.NoMemory }
     {
         let events = Record::new(alloc, first.len())?;
+        let device = copies(alloc, &first)?;
         Ok(MemDisk {
             alloc,
             first,
+            device,
             events,
             fails_in: 0,
             failures: 0,
@@ -120,14 +124,44 @@ impl MemDisk {
         let MemDisk {
             alloc,
             mut first,
+            mut device,
             mut events,
             ..
         } = self;
-        put_image(&mut first, &events, choice);
+        put_image(&mut device, &events, choice);
+        copy_blocks(&mut first, &device);
         events.clear();
         MemDisk {
             alloc,
             first,
+            device,
+            events,
+            fails_in: 0,
+            failures: 0,
+        }
+    }
+
+    /// The disk that a barrier that fails leaves to who opens it next: it reads as before, the device
+    /// has the image that the choice names, and nothing is pending. It takes no memory.
+    pub fn lose_writes(self, choice: &[u32]) -> MemDisk
+        ensures loses { LosesWrites self.past result.past }
+        ensures device { result.past.device ≡ image_of self.past choice.now }
+        ensures fresh { (result.failures ≡ 0) × (result.fails_in ≡ 0) }
+    {
+        let MemDisk {
+            alloc,
+            mut first,
+            mut device,
+            mut events,
+            ..
+        } = self;
+        put_image(&mut device, &events, choice);
+        put_reading(&mut first, &events);
+        events.clear();
+        MemDisk {
+            alloc,
+            first,
+            device,
             events,
             fails_in: 0,
             failures: 0,
@@ -144,7 +178,7 @@ impl MemDisk {
         ensures image { IfOk result (λ disk. IsImage self.now.past disk.past.first) }
         ensures refusal { IsOkUnless result Refusal.NoMemory }
     {
-        let mut image = copies(self.alloc, &self.first)?;
+        let mut image = copies(self.alloc, &self.device)?;
         put_image(&mut image, &self.events, choice);
         MemDisk::begin(self.alloc, image)
     }
@@ -204,7 +238,7 @@ impl BlockDisk for MemDisk {
     ghost state = { state_of };
 
     fn size(&self) -> u64 {
-        self.first.len() as u64
+        self.device.len() as u64
     }
 
     fn failures(&self) -> u64 {
@@ -286,8 +320,8 @@ fn copies<C>(alloc: Global, blocks: &[Block]) -> Result<Vec<Block>, Refusal<C>>
 // Overwrites the blocks as they were at first by those of the image that a choice names.
 fn put_image(blocks: &mut Vec<Block>, events: &Record, choice: &[u32])
     requires { events.now.size ≡ length blocks.old.items }
-    ensures image { let first = blocks.old.items in
-        blocks.new.items ≡ image_of (record { size = length first; first = first; events = events.now.events }) choice.now }
+    ensures image { (first : List (List ℕ)) → let device = blocks.old.items in
+        blocks.new.items ≡ image_of (record { size = length device; first = first; device = device; events = events.now.events }) choice.now }
     ensures size { length blocks.new.items ≡ length blocks.old.items }
 {
     let mut next = 0;
@@ -297,6 +331,28 @@ fn put_image(blocks: &mut Vec<Block>, events: &Record, choice: &[u32])
             next += 1;
         }
         put_block(blocks, block, events.chosen(block as u64, number));
+    }
+}
+
+// Overwrites the blocks as they read at first by what they read now.
+fn put_reading(blocks: &mut Vec<Block>, events: &Record)
+    requires { events.now.size ≡ length blocks.old.items }
+    ensures reads { let first = blocks.old.items in
+        blocks.new.items ≡ reading (record { size = length first; first = first; device = first; events = events.now.events }) }
+    ensures size { length blocks.new.items ≡ length blocks.old.items }
+{
+    for block in 0..blocks.len() {
+        put_block(blocks, block, events.last_write(block as u64));
+    }
+}
+
+// Overwrites blocks by others.
+fn copy_blocks(blocks: &mut Vec<Block>, from: &[Block])
+    requires { length from.now ≡ length blocks.old.items }
+    ensures { blocks.new.items ≡ from.now }
+{
+    for block in 0..blocks.len() {
+        blocks[block].copy_from(&from[block]);
     }
 }
 

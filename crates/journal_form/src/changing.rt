@@ -4,6 +4,7 @@ ghost use Rattle.journal_world.specs.declared.layout.TheConstants.{MIN_BLOCKS};
 ghost use Rattle.journal_disk.specs.Disks.{Keeps, IsSettled, read_of};
 ghost use Rattle.journal_circ.specs.declared.layout.TheConstants.{MAX_SEALED_BLOCKS};
 ghost use Rattle.journal_circ.specs.Ring.{IsOpenRefusal, IsFault, ChangesForm};
+ghost use Rattle.journal_circ.specs.Mending.{IsMendable};
 ghost use Rattle.journal_form.specs.Forms.{form_by, form_of, HoldsThroughout, HoldsLabelThroughout, IsChanged};
 ghost use Rattle.journal_form.specs.Emptying.{Rests, IsRead, StaysThroughout};
 ghost use Rattle.journal_form.specs.declared.form.LogForm.TheVariants.{Sealed};
@@ -31,7 +32,7 @@ pub struct Changed<D> {
 ///
 /// Answers J1 `NoMemory` where memory is refused, J7 `BadLog` where the log is not well formed, and
 /// J6 `DeviceFailed` where the device fails, and no other refusal. A refusal hands the disk back.
-/// Unless it is J6 nothing was written; at J6 the log has either form.
+/// Unless it is J6 nothing was written; at J6 the log has either form. It can be mended then.
 pub fn change_form<D: BlockDisk>(
     alloc: Global,
     disk: D,
@@ -52,6 +53,7 @@ pub fn change_form<D: BlockDisk>(
     ensures label { IsTrue (D.state disk).honest → MatchResult result
         (λ changed. HoldsLabelThroughout (D.state disk).past (D.state changed.disk).past)
         (λ refused. HoldsLabelThroughout (D.state disk).past (D.state refused.disk).past) }
+    ensures mendable { IsTrue (D.state disk).honest → IfErr result (λ refused. IsMendable (D.state refused.disk).past) }
     ensures was { IsTrue (D.state disk).honest → IfOk result (λ changed. changed.was ≡ form_of (read_of (D.state disk).past 0)) }
     ensures same { IsTrue (D.state disk).honest → IfOk result (λ changed. changed.was ≡ form
         → (D.state changed.disk).past ≡ (D.state disk).past) }
@@ -85,6 +87,7 @@ fn change_opened<D: BlockDisk>(
     ensures crash { IsTrue opened.circ.disk.honest → MatchResult result
         (λ changed. StaysThroughout opened.circ (D.state changed.disk).past)
         (λ refused. StaysThroughout opened.circ (D.state refused.disk).past) }
+    ensures mendable { IsTrue opened.circ.disk.honest → IfErr result (λ refused. IsMendable (D.state refused.disk).past) }
     ensures was { IfOk result (λ changed. changed.was ≡ form_by opened.circ.sealed) }
     ensures same { IfOk result (λ changed. changed.was ≡ form → D.state changed.disk ≡ opened.circ.disk) }
     ensures form { IsTrue opened.circ.disk.honest → IfOk result (λ changed. IsChanged form (D.state changed.disk).past) }
@@ -124,6 +127,7 @@ fn put_form<D: BlockDisk>(circ: Circ<D>, form: LogForm) -> Result<D, Refused<D, 
     ensures keeps { MatchResult result
         (λ disk. Keeps circ.disk (D.state disk))
         (λ refused. Keeps circ.disk (D.state refused.disk)) }
+    ensures mendable { IsTrue circ.disk.honest → IfErr result (λ refused. IsMendable (D.state refused.disk).past) }
     ensures form { IsTrue circ.disk.honest → IfOk result (λ disk. IsChanged form (D.state disk).past) }
 {
     match form {

@@ -4,8 +4,8 @@ use Rattle.std.specs.Prelude.{nat_le, slice_range}
 use Rattle.std.proofs.lemmas.Bool.{cases_eq}
 use Rattle.journal_world.specs.declared.layout.TheConstants.{SUPERBLOCK, BITMAP, FIRST_INODES, FIRST_DATA, BLOCK_BITS, MIN_BLOCKS}
 use Rattle.journal_block.specs.Block.{Bytes, bit_of}
-use Rattle.journal_disk.specs.Disks.{Past, read_of, past_after, write, barrier}
-use Rattle.journal_disk.specs.Laws.{read_written, read_other}
+use Rattle.journal_disk.specs.Disks.{Past, IsSettled, LostNone, read_of, past_after, write, barrier}
+use Rattle.journal_disk.specs.Laws.{read_written, read_other, settled_after_barrier, lost_none_after}
 use Rattle.journal_inode.specs.declared.version.FormatVersion.{FormatVersion}
 use Rattle.journal_inode.specs.declared.node.Time.{Time}
 use Rattle.journal_inode.specs.declared.node.Node.TheVariants.{Free, Root}
@@ -66,3 +66,13 @@ formatted version p0 p1 p2 p3 p4 blocks made sb bm ino enough zeros are first se
   where
     same : p4 ≡ past_after barrier (past_after (write FIRST_INODES ino) (past_after (write BITMAP bm) (past_after (write SUPERBLOCK sb) p0)))
     same = last ∙ ap (past_after barrier) (third ∙ ap (past_after (write FIRST_INODES ino)) (second ∙ ap (past_after (write BITMAP bm)) first))
+
+-- and none is lost where none was
+pub settled_after : (p0 p1 p2 p3 p4 : Past) (sb bm ino : Bytes) → LostNone p0
+    → p1 ≡ past_after (write SUPERBLOCK sb) p0 → p2 ≡ past_after (write BITMAP bm) p1 → p3 ≡ past_after (write FIRST_INODES ino) p2 → p4 ≡ past_after barrier p3
+    → IsSettled p4
+settled_after p0 p1 p2 p3 p4 sb bm ino lost first second third last =
+    subst IsSettled (sym last) (settled_after_barrier p3
+    (lost_none_after (write FIRST_INODES ino) p2 p3 (inr third)
+    (lost_none_after (write BITMAP bm) p1 p2 (inr second)
+    (lost_none_after (write SUPERBLOCK sb) p0 p1 (inr first) lost))))

@@ -4,7 +4,7 @@ ghost use Rattle.journal_world.specs.declared.layout.TheConstants.{MIN_BLOCKS, M
 ghost use Rattle.journal_world.specs.Addresses.{zeros_of};
 ghost use Rattle.journal_world.specs.Files.{files};
 ghost use Rattle.journal_block.specs.Block.{bit_of, with_bytes};
-ghost use Rattle.journal_disk.specs.Disks.{Keeps, IsSettled, read_of, past_after};
+ghost use Rattle.journal_disk.specs.Disks.{Keeps, IsSettled, LostNone, read_of, past_after};
 ghost use Rattle.journal_disk.specs.Disks.{write as written, barrier};
 ghost use Rattle.journal_world.specs.Maps.{Map};
 ghost use Rattle.journal_object.specs.Objects.{IsMapOf};
@@ -23,7 +23,8 @@ use std::alloc::Global;
 
 /// Makes a disk of this version without files of a disk of zeros: writes its superblock, the bitmap
 /// of its data blocks, and the root directory's inode, with this moment as its time. The log is
-/// empty, since its headers are zeros. Nothing is pending then.
+/// empty, since its headers are zeros. Nothing is pending then. Where no write of the disk was lost
+/// by a failed barrier before, none is.
 ///
 /// Answers J1 `NoMemory` where memory for a block is refused, and J6 `DeviceFailed` where the
 /// device failed meanwhile. The disk is handed back then, and what its blocks hold is not said.
@@ -40,7 +41,7 @@ pub fn format<D: BlockDisk>(
     ensures blocks { IsTrue (D.state disk).honest → IfOk result (λ formatted.
         IsFormatted version (D.state disk).past.size (record { secs = moment.secs; nanos = moment.nanos })
         (read_of (D.state formatted).past)) }
-    ensures settled { IsTrue (D.state disk).honest → IfOk result (λ formatted.
+    ensures settled { IsTrue (D.state disk).honest → LostNone (D.state disk).past → IfOk result (λ formatted.
         IsSettled (D.state formatted).past) }
 
     // The map that its blocks make is one of sound files.
@@ -72,7 +73,7 @@ fn write_all<D: BlockDisk>(
     ensures blocks { IsTrue (D.state disk.old).honest → OnOk result
         (IsFormatted version (D.state disk.old).past.size (record { secs = moment.secs; nanos = moment.nanos })
         (read_of (D.state disk.new).past)) }
-    ensures settled { IsTrue (D.state disk.old).honest → OnOk result (IsSettled (D.state disk.new).past) }
+    ensures settled { IsTrue (D.state disk.old).honest → LostNone (D.state disk.old).past → OnOk result (IsSettled (D.state disk.new).past) }
     ensures refusal { IfErr result (IsWritingRefusal (D.state disk.old) (D.state disk.new)) }
 {
     let blocks = disk.size();

@@ -18,7 +18,7 @@ IsBlockOf w bytes block = IsTrue (disk_of w).honest → bytes ≡ blocks_now w b
 abbrev pub no_log : WalState
 no_log = record {
   ring = record {
-    disk = record { past = record { size = 0; first = []; events = [] }; honest = false; failures = 0 };
+    disk = record { past = record { size = 0; first = []; device = []; events = [] }; honest = false; failures = 0 };
     header = [];
     tags = [];
     label = [];

@@ -5,6 +5,7 @@ ghost use Rattle.journal_disk.specs.Disks.{Keeps, IsSettled, read_of};
 ghost use Rattle.journal_disk.specs.Images.{EveryImage, reading};
 ghost use Rattle.journal_circ.specs.Log.{is_sealed, IsWellFormed};
 ghost use Rattle.journal_circ.specs.Ring.{IsOpenRefusal};
+ghost use Rattle.journal_circ.specs.Mending.{IsMendable};
 ghost use Rattle.journal_wal.specs.Wal.{IsAtRest, HasBoundsIn, log_steps, size_of};
 ghost use Rattle.journal_objlog.specs.Maps.{OpensAs};
 ghost use Rattle.journal_objlog.specs.ObjectLogs.{EachLayout, map_now, IsCutLogged, disk_of, is_faulted};
@@ -103,9 +104,11 @@ impl<D: BlockDisk> ObjectLog<D> {
         self.wal.disk()
     }
 
-    /// Gives the disk up, as it is.
+    /// Gives the disk up, as it is. Once a failed barrier, a kill or a crash has left it, it can be
+    /// mended, also after a fault.
     pub fn into_disk(self) -> D
-        ensures { D.state result ≡ disk_of self }
+        ensures disk { D.state result ≡ disk_of self }
+        ensures mendable { IsTrue (disk_of self).honest → IsMendable (disk_of self).past }
     {
         let ObjectLog { alloc: _, wal } = self;
         wal.into_disk()

@@ -2,6 +2,7 @@
 ghost use Rattle.std.specs.Prelude.{◌≡◌, ◌≢◌, ◌≤◌, ◌↔◌, ◌∷◌, [], IsTrue};
 ghost use Rattle.journal_world.specs.Histories.Entry.{opening};
 ghost use Rattle.journal_disk.specs.Images.{EveryImage};
+ghost use Rattle.journal_circ.specs.Mending.{IsMendable};
 ghost use Rattle.journal_wal.specs.Wal.{size_of, IsAtRest};
 ghost use Rattle.journal_objlog.specs.Maps.{OpensAs};
 ghost use Rattle.journal_objlog.specs.ObjectLogs.{map_now, IsCutLogged, start_of, end_of, disk_of as log_disk};
@@ -102,12 +103,14 @@ impl<'b, D: BlockDisk, R: MapRule, J: Naming> Durable<'b, D, R, J> {
     }
 
     /// Gives the disk up, as it is. Where it was honest and settled when it was opened, each image
-    /// that a crash may leave of it opens as the map after some of the front's commits.
+    /// that a crash may leave of it opens as the map after some of the front's commits. Once a failed
+    /// barrier, a kill or a crash has left it, it can be mended, also after a fault.
     pub fn into_disk(self) -> D
         ensures disk { D.state result ≡ disk_of self.entry }
         ensures size { (D.state result).past.size ≡ J.layout.blocks }
         ensures images { IsTrue (D.state result).honest → EveryImage (D.state result).past (Leaves self.entry) }
         ensures opens { IsTrue (D.state result).honest → EveryImage (D.state result).past (OpensAfter self.entry.front) }
+        ensures mendable { IsTrue (D.state result).honest → IsMendable (D.state result).past }
     {
         let Durable { objects, .. } = self;
         objects.into_disk()

@@ -1,6 +1,7 @@
 // The write-ahead log, and what it tells without a step.
 ghost use Rattle.std.specs.Prelude.{ℕ, ◌≡◌, ◌≤◌, ◌<◌, ◌↔◌, ◌⊎◌, true, false, IsTrue, OnOk, OnErr, IsErr, IfErr};
 ghost use Rattle.journal_circ.specs.Ring.{IsFault};
+ghost use Rattle.journal_circ.specs.Mending.{IsMendable};
 ghost use Rattle.journal_wal.specs.Wal.{OnlyReads, Crashes, size_of, blocks_now, log_steps};
 
 use crate::disk_log::DiskLog;
@@ -119,9 +120,11 @@ impl<D: BlockDisk> Wal<D> {
         self.on_disk.circ.disk()
     }
 
-    /// Gives the disk up, as it is.
+    /// Gives the disk up, as it is. Once a failed barrier, a kill or a crash has left it, it can be
+    /// mended, also after a fault.
     pub fn into_disk(self) -> D
-        ensures { D.state result ≡ self.ring.disk }
+        ensures disk { D.state result ≡ self.ring.disk }
+        ensures mendable { IsTrue self.ring.disk.honest → IsMendable self.ring.disk.past }
     {
         let Wal {
             alloc: _,

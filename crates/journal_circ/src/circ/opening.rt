@@ -35,12 +35,12 @@ pub struct Opened<D: BlockDisk> {
 // What blocks 0 and 1 of a disk say, with the tags of a sealed log, and the blocks that later steps
 // write from.
 #[derive(Drop)]
-struct Headers {
-    header: Block,
+pub(crate) struct Headers {
+    pub(crate) header: Block,
     tags: Block,
-    scratch: Block,
-    start: u64,
-    end: u64,
+    pub(crate) scratch: Block,
+    pub(crate) start: u64,
+    pub(crate) end: u64,
     start_block: Block,
 }
 
@@ -116,7 +116,7 @@ impl<D: BlockDisk> Circ<D> {
 }
 
 // Reads blocks 1 and 0, and refuses them where they describe no log.
-fn read_headers<D: BlockDisk>(
+pub(crate) fn read_headers<D: BlockDisk>(
     alloc: Global,
     device: &mut FailStop<D>,
 ) -> Result<Headers, Refusal<()>>

@@ -3,6 +3,7 @@ ghost use Rattle.std.specs.Prelude.{◌≡◌, ◌<◌, ◌≤◌, false, true, 
 ghost use Rattle.journal_disk.specs.Disks.{Past, write, barrier, IsSettled, Keeps, read_of, past_after, MayHaveHappened};
 ghost use Rattle.journal_circ.specs.Log.{is_sealed};
 ghost use Rattle.journal_circ.specs.Ring.{ChangesForm, IsFault};
+ghost use Rattle.journal_circ.specs.Mending.{IsMendable};
 ghost use Rattle.journal_circ.specs.declared.layout.TheConstants.{MAX_SEALED_BLOCKS};
 
 use crate::Circ;
@@ -19,7 +20,7 @@ impl<D: BlockDisk> Circ<D> {
     /// blocks.
     ///
     /// Answers J6 `DeviceFailed`, and nothing else, where the device failed in this call or before.
-    /// The refusal hands the disk back, and its log then has either form.
+    /// The refusal hands the disk back, which can be mended, and its log then has either form.
     pub fn seal(self) -> Result<D, Refused<D, ()>>
         requires empty { self.extent.start ≡ self.next }
         requires narrow { self.disk.past.size ≤ MAX_SEALED_BLOCKS }
@@ -30,6 +31,7 @@ impl<D: BlockDisk> Circ<D> {
         ensures keeps { MatchResult result
             (λ disk. Keeps self.disk (D.state disk))
             (λ refused. Keeps self.disk (D.state refused.disk)) }
+        ensures mendable { IsTrue self.disk.honest → IfErr result (λ refused. IsMendable (D.state refused.disk).past) }
         ensures sealed { IsTrue self.disk.honest → IfOk result (λ disk.
             IsSettled (D.state disk).past × (is_sealed (read_of (D.state disk).past 0) ≡ true)) }
     {
@@ -55,7 +57,7 @@ impl<D: BlockDisk> Circ<D> {
     /// blocks.
     ///
     /// Answers J6 `DeviceFailed`, and nothing else, where the device failed in this call or before.
-    /// The refusal hands the disk back, and its log then has either form.
+    /// The refusal hands the disk back, which can be mended, and its log then has either form.
     pub fn unseal(self) -> Result<D, Refused<D, ()>>
         requires empty { self.extent.start ≡ self.next }
         ensures refusal { IfErr result (λ refused. IsFault self.faulted self.disk (D.state refused.disk) refused.refusal) }
@@ -65,6 +67,7 @@ impl<D: BlockDisk> Circ<D> {
         ensures keeps { MatchResult result
             (λ disk. Keeps self.disk (D.state disk))
             (λ refused. Keeps self.disk (D.state refused.disk)) }
+        ensures mendable { IsTrue self.disk.honest → IfErr result (λ refused. IsMendable (D.state refused.disk).past) }
         ensures plain { IsTrue self.disk.honest → IfOk result (λ disk.
             IsSettled (D.state disk).past × (is_sealed (read_of (D.state disk).past 0) ≡ false)) }
     {

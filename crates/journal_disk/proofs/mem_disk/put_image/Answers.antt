@@ -8,7 +8,7 @@ use Rattle.journal_disk.proofs.mem_disk.put_image.Goals.{then-pending-gt0, else-
 pub loop-block-preserved : goal.loop-block-preserved
 loop-block-preserved c =
     let blocks = c.args.blocks.now.items in
-    let p : Past = record { size = length blocks; first = blocks; events = c.args.events.now.events } in
+    let p : Past = record { size = length blocks; first = blocks; device = blocks; events = c.args.events.now.events } in
     puts_more p c.args.choice.now c.loop-block.block c.loop-block.next _ c.number_at-number.result _ _ (option_copied c.chosen.result)
     (search rules) c.loop-block.invariant
     (elim c.if-pending-gt0.branch [
@@ -18,4 +18,4 @@ loop-block-preserved c =
     c.number_at-number.ensures c.chosen.ensures c.put_block.ensures
 
 pub returns-clause-image : goal.returns-clause-image
-returns-clause-image c = puts_all _ c.args.choice.now c.loop-block.block c.loop-block.next _ (search rules) c.loop-block.invariant
+returns-clause-image c first = puts_all _ c.args.choice.now c.loop-block.block c.loop-block.next _ (search rules) c.loop-block.invariant

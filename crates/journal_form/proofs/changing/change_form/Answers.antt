@@ -1,8 +1,10 @@
-use Rattle.std.proofs.Common.{◌<◌, ◌∙◌, refl, subst, arith, Result, Ok, Err}
+use Rattle.std.proofs.Common.{◌<◌, ◌∙◌, refl, sym, subst, arith, Result, Ok, Err}
 use Rattle.std.specs.Prelude.{MatchResult}
 use Rattle.journal_disk.specs.Disks.{Past}
 use Rattle.journal_disk.specs.Laws.{leaves_none}
 use Rattle.journal_circ.specs.StandsFor.{StandsFor}
+use Rattle.journal_circ.specs.Mending.{IsMendable}
+use Rattle.journal_circ.specs.MendingLaws.{settled_mendable}
 use Rattle.journal_form.specs.Forms.{HoldsThroughout, HoldsLabelThroughout}
 use Rattle.journal_form.specs.Emptying.{StaysThroughout}
 use Rattle.journal_form.proofs.Steps.{holds_by, keeps_by, keeps_settled}
@@ -54,3 +56,13 @@ returns-in-Ok-open-clause-label g c honest =
     (λ changed. keeps (g.D.BlockDisk.state changed.disk).past)
     (λ refused. keeps (g.D.BlockDisk.state refused.disk).past)
     (c.change_opened.ensures.crash (c.in-Ok-open.ensures.keeps.honest ∙ honest))
+
+pub returns-in_default-clause-mendable : goal.returns-in_default-clause-mendable
+returns-in_default-clause-mendable g c honest = settled_mendable (g.D.BlockDisk.state c.args.disk).past (c.requires.settled honest)
+
+pub returns-clause-mendable : goal.returns-clause-mendable
+returns-clause-mendable g c honest =
+    subst IsMendable (sym (c.in-Err.ensures.same honest)) (settled_mendable (g.D.BlockDisk.state c.args.disk).past (c.requires.settled honest))
+
+pub returns-in-Ok-open-clause-mendable : goal.returns-in-Ok-open-clause-mendable
+returns-in-Ok-open-clause-mendable g c honest = c.change_opened.ensures.mendable (c.in-Ok-open.ensures.keeps.honest ∙ honest)

@@ -6,7 +6,7 @@ use Rattle.journal_inode.specs.declared.node.Time.{Time}
 use Rattle.journal_inode.specs.declared.node.Node.TheVariants.{Root}
 use Rattle.journal_inode.specs.Nodes.{inode_bytes}
 use Rattle.journal_inode.specs.Sound.{superblock_of}
-use Rattle.journal_inode.proofs.Formatted.{formatted}
+use Rattle.journal_inode.proofs.Formatted.{formatted, settled_after}
 use Rattle.journal_inode.proofs.making.write_all.Goals as goal
 
 pub returns-clause-blocks : goal.returns-clause-blocks
@@ -23,4 +23,13 @@ returns-clause-blocks g c = λ honest.
       others = c.in_ok-inodes.ensures.others;
     })
     (c.in_ok-write.ensures.written honest) (c.in_ok-write-2.ensures.written honest_1) (c.in_ok-write-3.ensures.written honest_2) synced)
+    (c.sync.ensures.synced honest_3)
+
+pub returns-clause-settled : goal.returns-clause-settled
+returns-clause-settled g c = λ honest lost.
+    let honest_1 = subst IsTrue (sym c.write.ensures.keeps.honest) honest in
+    let honest_2 = subst IsTrue (sym c.write-2.ensures.keeps.honest) honest_1 in
+    let honest_3 = subst IsTrue (sym c.write-3.ensures.keeps.honest) honest_2 in
+    on_ok_weaker c.sync.result
+    (λ synced. settled_after _ _ _ _ _ _ _ _ lost (c.in_ok-write.ensures.written honest) (c.in_ok-write-2.ensures.written honest_1) (c.in_ok-write-3.ensures.written honest_2) synced)
     (c.sync.ensures.synced honest_3)

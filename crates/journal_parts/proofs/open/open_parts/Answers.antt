@@ -31,7 +31,7 @@ returns-clause-refusal g c =
     let layout = g.J.Naming.layout in
     let disk = g.D.BlockDisk.state c.args.disk in
     let size : HasSize layout disk = search rules in
-    subst (λ (new : DiskState). IsLayoutRefusal g.R.MapRule.statement layout disk new c.in-Err-begin.refusal) (sym c.into_disk-in-Err-begin.ensures)
+    subst (λ (new : DiskState). IsLayoutRefusal g.R.MapRule.statement layout disk new c.in-Err-begin.refusal) (sym c.into_disk-in-Err-begin.ensures.disk)
     (refuses_begin layout disk c.in-Ok.objects c.admitted_by-objects.result.0 c.in-Ok.ensures.keeps c.in-Ok.ensures.same c.in-Ok.ensures.opened
     (λ honest. c.in-Ok.ensures.images honest layout (search rules))
     c.admitted_by-objects.ensures.reads g.R.MapRule.statement size c.admitted_by-objects.result.1 c.in-Err-begin.refusal c.admitted_by-objects.ensures.refusal
