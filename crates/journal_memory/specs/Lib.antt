@@ -12,4 +12,5 @@ pub mod Updates
 pub mod Fetches
 pub mod Volatiles
 pub mod VolatileCommits
+pub mod Scans
 pub mod VolatileHolds
