@@ -32,7 +32,7 @@ use Rattle.journal_memory.specs.Fences.{AddsFence}
 use Rattle.journal_parts.specs.Durables.{DurableState, disk_of, Leaves as LeavesDurable}
 use Rattle.journal_memory.specs.Fetches.{FetchedState, IsFetched, IsBlockAfter}
 use Rattle.journal_memory.specs.declared.bit_scan.BitScan.{BitScan}
-use Rattle.journal_memory.specs.Scans.{found_bits}
+use Rattle.journal_memory.specs.Bits.{found_bits}
 use Rattle.journal_memory.specs.Volatiles.{VolatileState, IsVolatile}
 use Rattle.journal_memory.specs.Transactions.{TransactionState, ReadResultState, begun}
 use Rattle.journal_parts.specs.Pairs.{IsMarkDue, MarksBoth, MarksAll}

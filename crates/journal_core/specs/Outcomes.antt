@@ -10,7 +10,7 @@ use Rattle.journal_disk.specs.Disks.{Past, DiskState, IsSettled}
 use Rattle.journal_disk.specs.Images.{IsImage}
 use Rattle.journal_disk.specs.Moments.{Extends}
 use Rattle.journal_memory.specs.declared.bit_scan.BitScan.{BitScan}
-use Rattle.journal_memory.specs.Scans.{found_bits}
+use Rattle.journal_memory.specs.Bits.{found_bits}
 use Rattle.journal_parts.specs.Cores.{Leaves}
 
 -- What is answered: a value, the numbers of bits, a commit, a mark, a fence, that so many commits

@@ -27,7 +27,7 @@ use Rattle.journal_memory.specs.Fences.{AddsFence}
 use Rattle.journal_parts.specs.Durables.{DurableState, Crashes, disk_of}
 use Rattle.journal_memory.specs.Fetches.{FetchedState, IsBlockAfter}
 use Rattle.journal_memory.specs.declared.bit_scan.BitScan.{BitScan}
-use Rattle.journal_memory.specs.Scans.{bits_in}
+use Rattle.journal_memory.specs.Bits.{bits_in}
 use Rattle.journal_memory.specs.Volatiles.{VolatileState, IsFrontRefusal}
 use Rattle.journal_parts.specs.Openings.{Begins}
 use Rattle.journal_parts.specs.Holds.{IsBetween, AnswersFetch, AnswersGroupCall, AnswersHomeCall, MarksOrCuts, AnswersMarkOrCut, Trims, NotesFault, ShowsDisk, RefusesDisk}

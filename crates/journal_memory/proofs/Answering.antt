@@ -23,7 +23,8 @@ use Rattle.journal_memory.specs.Fetches.{FetchedState}
 use Rattle.journal_memory.specs.Volatiles.{VolatileState, IsVolatile, IsReadRefusal, IsFrontRefusal, outset_of, usable}
 use Rattle.journal_memory.specs.VolatileCommits.{IsCommitted, IfDone, IfMissing, with_room}
 use Rattle.journal_memory.specs.declared.bit_scan.BitScan.{BitScan}
-use Rattle.journal_memory.specs.Scans.{AreBitsOf, MayScan}
+use Rattle.journal_memory.specs.Bits.{AreBitsOf}
+use Rattle.journal_memory.specs.Scans.{MayScan}
 use Rattle.journal_memory.specs.VolatileHolds.{AnswersRead, AnswersScan, AnswersCommit, AnswersSession, AnswersFence, LacksMark, AnswersWait, AnswersFlush, AnswersShow}
 
 module _ (n : Shape) (old new : VolatileState) where

@@ -19,7 +19,7 @@ use Rattle.journal_object.specs.Objects.{object_of}
 use Rattle.journal_tail.specs.Maps.{object_or_zeros}
 use Rattle.journal_memory.specs.declared.bit_scan.BitScan.{BitScan}
 use Rattle.journal_memory.specs.Updates.{IsOrNone, AreObjectsOf}
-use Rattle.journal_memory.specs.Scans.{are_bits, is_scan, first_passing, is_bit, bit_in, found_bits, bits_in, AreBitsOf, Ascend, AreInOrder}
+use Rattle.journal_memory.specs.Bits.{are_bits, is_scan, first_passing, is_bit, bit_in, found_bits, bits_in, AreBitsOf, Ascend, AreInOrder}
 
 -- ---- numbers in a row
 

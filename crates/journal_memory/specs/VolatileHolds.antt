@@ -21,7 +21,8 @@ use Rattle.journal_memory.specs.Fetches.{FetchedState}
 use Rattle.journal_memory.specs.Volatiles.{VolatileState, IsVolatile, IsReadRefusal, outset_of, usable}
 use Rattle.journal_memory.specs.VolatileCommits.{IsCommitted, with_room}
 use Rattle.journal_memory.specs.declared.bit_scan.BitScan.{BitScan}
-use Rattle.journal_memory.specs.Scans.{AreBitsOf, MayScan, IsScanRefusal}
+use Rattle.journal_memory.specs.Bits.{AreBitsOf}
+use Rattle.journal_memory.specs.Scans.{MayScan, IsScanRefusal}
 
 -- An object was read in memory
 pub record FindsInMemory (layout : Shape) (old : VolatileState) (t : TransactionState) (a : Addr) (answer : ReadResultState) (x : Value) (new : VolatileState) : Type 0 where

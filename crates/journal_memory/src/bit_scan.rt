@@ -1,7 +1,7 @@
 // Which bits of a block are asked for, and which its bytes have.
 ghost use Rattle.std.specs.Prelude.{◌≡◌, IfOk};
 ghost use Rattle.journal_world.specs.Files.{shape};
-ghost use Rattle.journal_memory.specs.Scans.{bits_in, is_scan, AreInOrder};
+ghost use Rattle.journal_memory.specs.Bits.{bits_in, is_scan, AreInOrder};
 
 use journal_block::Block;
 use journal_world::{BLOCK_BITS, Kind, Layout};

@@ -6,7 +6,8 @@ ghost use Rattle.journal_world.specs.Histories.{is_trusted, latest};
 ghost use Rattle.journal_block.specs.Updates.{updates_block};
 ghost use Rattle.journal_tail.specs.ObjectTails.{known_updates};
 ghost use Rattle.journal_history.specs.Tokens.{OnlyExtends};
-ghost use Rattle.journal_memory.specs.Scans.{AreBitsOf, MayScan, IsScanCheckRefusal, is_scan};
+ghost use Rattle.journal_memory.specs.Bits.{AreBitsOf, is_scan};
+ghost use Rattle.journal_memory.specs.Scans.{MayScan, IsScanCheckRefusal};
 ghost use Rattle.journal_memory.specs.Volatiles.{IsFrontRefusal, outset_of, usable};
 ghost use Rattle.journal_memory.specs.VolatileHolds.{AnswersScan};
 

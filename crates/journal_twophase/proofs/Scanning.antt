@@ -1,5 +1,5 @@
 -- What a hold that scans says to the caller, and why it is refused.
-use Rattle.std.proofs.Common.{◌≡◌, ◌⊎◌, ⊎_elim, Bool, true, false, IsTrue, List, Result, Ok, Err, IfOk, IfErr, OnOk, refl, sym, subst}
+use Rattle.std.proofs.Common.{◌≡◌, ◌⊎◌, ⊎_elim, ◌<◌, Bool, true, false, IsTrue, List, Result, Ok, Err, IfOk, IfErr, OnOk, refl, sym, subst}
 use Rattle.std.proofs.lemmas.Bool.{false≢true}
 use Rattle.journal_world.specs.declared.refusal.Refusal.{Refusal}
 use Rattle.journal_world.specs.declared.refusal.Refusal.TheVariants.{NoMemory, BadAddress, BadSize, TooLarge, Busy, DeviceFailed, BadLog, BadSuper, Stale, Stranger, Worn, Full, Closed, Fenced}
@@ -7,16 +7,18 @@ use Rattle.journal_world.specs.Addresses.{Shape}
 use Rattle.journal_world.specs.Histories.{Entry, is_trusted, latest}
 use Rattle.journal_world.proofs.Prefixes.{IsPrefix-refl}
 use Rattle.journal_block.specs.Block.{Bytes}
+use Rattle.journal_object.proofs.MapOfBlocks.{valid_block}
 use Rattle.journal_history.specs.Tokens.{SessionState, OnlyExtends}
 use Rattle.journal_memory.specs.declared.bit_scan.BitScan.{BitScan}
 use Rattle.journal_memory.specs.Causes.{CauseState}
 use Rattle.journal_memory.specs.Fetches.{FetchedState}
 use Rattle.journal_memory.specs.Outsets.{Outset}
-use Rattle.journal_memory.specs.Scans.{AreBitsOf, MayScan, IsScanCheckRefusal, IsScanRefusal as IsHoldRefusal, is_scan}
+use Rattle.journal_memory.specs.Bits.{AreBitsOf, is_scan}
+use Rattle.journal_memory.specs.Scans.{MayScan, IsScanCheckRefusal, IsScanRefusal as IsHoldRefusal}
 use Rattle.journal_memory.specs.Volatiles.{VolatileState, IsFrontRefusal, outset_of}
 use Rattle.journal_memory.specs.VolatileHolds.{AnswersScan}
-use Rattle.journal_twophase.specs.Journals.{IsFetchRefusal}
-use Rattle.journal_twophase.specs.Scans.{HasBits, IsScanRefusal}
+use Rattle.journal_memory.proofs.Scanning.{scan_address}
+use Rattle.journal_twophase.specs.Journals.{IsFetchRefusal, IsScanRefusal}
 
 -- why it is refused by what is known before
 pub check_refused : (layout : Shape) (o : Outset) (session : SessionState) (s : BitScan) (why : Refusal CauseState) → IsScanCheckRefusal layout o session s why → IsScanRefusal layout s why
@@ -75,21 +77,37 @@ fetch_refused layout s (Worn cause) is it = absurd it
 fetch_refused layout s (Full cause) is it = absurd it
 fetch_refused layout s Fenced is it = absurd it
 
+-- what a look tells that comes before
+module _ (layout : Shape) (o : Outset) (session : SessionState) (s : BitScan) where
+  pub checked_valid : (r : Result (Unit {0}) (Refusal CauseState)) → OnOk r (MayScan layout o session s) → OnOk r (IsTrue (is_scan layout s))
+  checked_valid (Ok done) may = may.bits
+  checked_valid (Err why) may = tt
+
+  pub checked_refused : (r : Result (Unit {0}) (Refusal CauseState)) → IfErr r (IsScanCheckRefusal layout o session s) → IfErr r (IsScanRefusal layout s)
+  checked_refused (Ok done) it = tt
+  checked_refused (Err why) it = check_refused layout o session s why it
+
+-- the block of bits is one of the disk
+pub block_below : (layout : Shape) (s : BitScan) → IsTrue (is_scan layout s) → s.block < layout.blocks
+block_below layout s is = (valid_block layout (record { block = s.block; off = s.first }) (scan_address layout s is)).1
+
 -- what one hold answers
 module _ (layout : Shape) (v : VolatileState) (session after : SessionState) (s : BitScan) (f : FetchedState) (copy : Bytes) where
-  -- the history is the one that the session has then seen
-  seen_bits : (history : List Entry) → after.seen ≡ history → (IsTrue (is_trusted history) → AreBitsOf (latest history) s.block copy) → HasBits s after.seen copy
-  seen_bits history shown bits = subst (λ (h : List Entry). HasBits s h copy) (sym shown) bits
-
-  pub scan_bits : (r : Result Bool (Refusal CauseState)) → AnswersScan layout v session s f r copy after → IfOk r (λ found. IsTrue found → HasBits s after.seen copy)
-  scan_bits (Ok true) it = λ found. seen_bits v.ledger.history it.shown it.bits
-  scan_bits (Ok false) it = λ found. absurd (false≢true found)
-  scan_bits (Err why) it = tt
+  pub scan_bits : (r : Result Bool (Refusal CauseState)) → AnswersScan layout v session s f r copy after
+      → IsTrue (is_trusted after.seen) → IfOk r (λ found. IsTrue found → AreBitsOf (latest after.seen) s.block copy)
+  scan_bits (Ok true) it = λ trusted found. subst (λ (h : List Entry). IsTrue (is_trusted h) → AreBitsOf (latest h) s.block copy) (sym it.shown) it.bits trusted
+  scan_bits (Ok false) it = λ trusted found. absurd (false≢true found)
+  scan_bits (Err why) it = λ trusted. tt
 
   pub scan_valid : (r : Result Bool (Refusal CauseState)) → AnswersScan layout v session s f r copy after → OnOk r (IsTrue (is_scan layout s))
   scan_valid (Ok true) it = it.may.bits
   scan_valid (Ok false) it = it.may.bits
   scan_valid (Err why) it = tt
+
+  pub scan_below : (r : Result Bool (Refusal CauseState)) → AnswersScan layout v session s f r copy after → OnOk r (s.block < layout.blocks)
+  scan_below (Ok true) it = block_below layout s it.may.bits
+  scan_below (Ok false) it = block_below layout s it.may.bits
+  scan_below (Err why) it = tt
 
   stays_seen : after ≡ session → OnlyExtends session after
   stays_seen same = subst (OnlyExtends session) (sym same) (record { number = refl; mine = refl; seen = IsPrefix-refl session.seen })

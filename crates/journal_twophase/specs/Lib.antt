@@ -2,4 +2,3 @@ pub mod Journals
 pub mod Transactions
 pub mod Commits
 pub mod Waits
-pub mod Scans

@@ -6,8 +6,8 @@
 ghost use Rattle.std.specs.Prelude.{◌≡◌, ◌<◌, IsTrue, IfOk, IfErr, OnOk};
 ghost use Rattle.journal_world.specs.Histories.{is_trusted, latest};
 ghost use Rattle.journal_history.specs.Tokens.{OnlyExtends};
-ghost use Rattle.journal_memory.specs.Scans.{AreInOrder, found_bits, is_scan};
-ghost use Rattle.journal_twophase.specs.Scans.{HasBits, IsScanRefusal};
+ghost use Rattle.journal_memory.specs.Bits.{AreBitsOf, AreInOrder, found_bits, is_scan};
+ghost use Rattle.journal_twophase.specs.Journals.{IsScanRefusal};
 
 use crate::journal::Journal;
 use crate::locked_parts::{JournalRefusal, LockedParts};
@@ -47,6 +47,7 @@ impl<'b, D: BlockDisk, R: MapRule, J: Naming> Journal<'b, D, R, J> {
     ) -> Result<Vec<u32>, JournalRefusal<'b, J, R>>
         ensures found { IfOk result (λ bits. IsTrue (is_trusted session.new.seen) → bits.items ≡ found_bits (latest session.new.seen) scan) }
         ensures order { IfOk result (λ bits. AreInOrder scan bits.items) }
+        ensures valid { OnOk result (IsTrue (is_scan J.layout scan)) }
         ensures session { OnlyExtends session.old session.new }
         ensures refusal { IfErr result (IsScanRefusal J.layout scan) }
     {
@@ -86,19 +87,36 @@ impl<'b, D: BlockDisk, R: MapRule, J: Naming> LockedParts<'b, D, R, J> {
         scan: BitScan,
         into: &mut Block,
     ) -> Result<(), JournalRefusal<'b, J, R>>
-        ensures bits { OnOk result (HasBits scan session.new.seen into.new) }
+        ensures bits { IsTrue (is_trusted session.new.seen) → OnOk result (AreBitsOf (latest session.new.seen) scan.block into.new) }
         ensures valid { OnOk result (IsTrue (is_scan J.layout scan)) }
         ensures session { OnlyExtends session.old session.new }
         ensures refusal { IfErr result (IsScanRefusal J.layout scan) }
     {
-        let nothing = Fetched::empty(self.alloc, session.front());
-        let answer = match self.copy_in(rt, session, scan, &nothing, into) {
-            Ok(true) => Ok(()),
-            Ok(false) => self.copy_fetched(rt, session, scan, nothing, into),
-            Err(refusal) => Err(refusal),
-        };
+        let answer = self.copy_or_fetch(rt, session, scan, into);
         self.wake_after_fault(&answer);
         answer
+    }
+
+    // Copies it as memory has it, or where the block is not there, with it.
+    fn copy_or_fetch<W: Wait>(
+        &self,
+        rt: &W,
+        session: &mut Session<'b, J, R>,
+        scan: BitScan,
+        into: &mut Block,
+    ) -> Result<(), JournalRefusal<'b, J, R>>
+        ensures bits { IsTrue (is_trusted session.new.seen) → OnOk result (AreBitsOf (latest session.new.seen) scan.block into.new) }
+        ensures valid { OnOk result (IsTrue (is_scan J.layout scan)) }
+        ensures session { OnlyExtends session.old session.new }
+        ensures refusal { IfErr result (IsScanRefusal J.layout scan) }
+    {
+        // Called for its contract: the session has seen an opening.
+        let _seen = session.seen();
+        let nothing = Fetched::empty(self.alloc, session.front());
+        if self.copy_in(rt, session, scan, &nothing, into)? {
+            return Ok(());
+        }
+        self.copy_fetched(rt, session, scan, nothing, into)
     }
 
     // Copies it in one hold of the memory lock. Answers no where the block is to be fetched.
@@ -110,7 +128,7 @@ impl<'b, D: BlockDisk, R: MapRule, J: Naming> LockedParts<'b, D, R, J> {
         fetched: &Fetched<'b, J, R>,
         into: &mut Block,
     ) -> Result<bool, JournalRefusal<'b, J, R>>
-        ensures bits { IfOk result (λ found. IsTrue found → HasBits scan session.new.seen into.new) }
+        ensures bits { IsTrue (is_trusted session.new.seen) → IfOk result (λ found. IsTrue found → AreBitsOf (latest session.new.seen) scan.block into.new) }
         ensures valid { OnOk result (IsTrue (is_scan J.layout scan)) }
         ensures below { OnOk result (scan.block < J.layout.blocks) }
         ensures session { OnlyExtends session.old session.new }
@@ -134,7 +152,7 @@ impl<'b, D: BlockDisk, R: MapRule, J: Naming> LockedParts<'b, D, R, J> {
     ) -> Result<(), JournalRefusal<'b, J, R>>
         requires below { scan.block < J.layout.blocks }
         requires valid { IsTrue (is_scan J.layout scan) }
-        ensures bits { OnOk result (HasBits scan session.new.seen into.new) }
+        ensures bits { IsTrue (is_trusted session.new.seen) → OnOk result (AreBitsOf (latest session.new.seen) scan.block into.new) }
         ensures session { OnlyExtends session.old session.new }
         ensures refusal { IfErr result (IsScanRefusal J.layout scan) }
     {
@@ -158,7 +176,7 @@ impl<'b, D: BlockDisk, R: MapRule, J: Naming> LockedParts<'b, D, R, J> {
         fetched: Fetched<'b, J, R>,
         into: &mut Block,
     ) -> Result<bool, JournalRefusal<'b, J, R>>
-        ensures bits { IfOk result (λ found. IsTrue found → HasBits scan session.new.seen into.new) }
+        ensures bits { IsTrue (is_trusted session.new.seen) → IfOk result (λ found. IsTrue found → AreBitsOf (latest session.new.seen) scan.block into.new) }
         ensures session { OnlyExtends session.old session.new }
         ensures refusal { IfErr result (IsScanRefusal J.layout scan) }
     {

@@ -3,7 +3,7 @@ use mathlib.Core.Bool.{beq}
 use Rattle.journal_world.specs.declared.layout.TheConstants.{BLOCK_BITS}
 use Rattle.journal_block.specs.Block.{Bytes, bit_of}
 use Rattle.journal_memory.specs.declared.bit_scan.BitScan.{BitScan}
-use Rattle.journal_memory.specs.Scans.{is_bit, bit_in, bits_in, AreInOrder}
+use Rattle.journal_memory.specs.Bits.{is_bit, bit_in, bits_in, AreInOrder}
 use Rattle.journal_memory.proofs.Scanning.{FoundBelow, found_more, found_same, found_all, found_enough, passes, in_order}
 use Rattle.journal_memory.proofs.bit_scan.BitScan.bits_in.Goals as goal
 use Rattle.journal_memory.proofs.bit_scan.BitScan.bits_in.Goals.{then-bit-self+in_ok-push, else-bit-self}

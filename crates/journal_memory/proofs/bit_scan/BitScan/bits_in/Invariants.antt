@@ -1,4 +1,4 @@
-use Rattle.journal_memory.specs.Scans.{is_bit, bit_in}
+use Rattle.journal_memory.specs.Bits.{is_bit, bit_in}
 use Rattle.journal_memory.proofs.Scanning.{FoundBelow}
 use Rattle.journal_memory.proofs.bit_scan.BitScan.bits_in.Given as goal
 

@@ -2,7 +2,7 @@ use Rattle.std.proofs.Common.{◌∙◌, sym, subst}
 use Rattle.journal_world.specs.Histories.{latest}
 use Rattle.journal_tail.specs.ObjectTails.{known_updates}
 use Rattle.journal_memory.specs.Updates.{AreObjectsOf}
-use Rattle.journal_memory.specs.Scans.{AreBitsOf}
+use Rattle.journal_memory.specs.Bits.{AreBitsOf}
 use Rattle.journal_memory.specs.Volatiles.{VolatileState}
 use Rattle.journal_memory.proofs.Scanning.{bits_known}
 use Rattle.journal_memory.proofs.volatile.Volatile.copy_bits.Goals as goal
