@@ -108,8 +108,8 @@ int jnl_open_within(const char *path, unsigned milliseconds, jnl **out);
 int jnl_open_tcp(uint16_t port, jnl **out);
 int jnl_open_tcp_within(uint16_t port, unsigned milliseconds, jnl **out);
 
-/* Closes the connection. NULL is fine. Its transactions must have ended. Commits in flight are as at
- * JNL_LOST, but those that were held back are not done. errno stays as it is. */
+/* Closes the connection. NULL is fine. Its transactions must have ended. Commits in flight are as
+ * at JNL_LOST, but those that were held back are not done. errno stays as it is. */
 void jnl_close(jnl *);
 
 /* The most that a call waits for the port in all, in milliseconds; 0, as after jnl_open, is for
@@ -145,9 +145,9 @@ int jnl_write(jnl_txn *, jnl_addr, const void *bytes, size_t size);
  * NULL, and is set at JNL_OK and JNL_UNSURE. */
 int jnl_commit(jnl_txn *, unsigned flags, jnl_receipt *receipt);
 
-/* Puts a commit in flight, and does not wait for its answer, which jnl_next gives. So one connection
- * has many commits under way at once. They are done in the order in which they were submitted, and
- * `tag` is the caller's name of this one. `flags` are as of jnl_commit.
+/* Puts a commit in flight, and does not wait for its answer, which jnl_next gives. So one
+ * connection has many commits under way at once. They are done in the order in which they were
+ * submitted, and `tag` is the caller's name of this one. `flags` are as of jnl_commit.
  *
  * A commit may be held back, so that many are sent by one call of the system: until jnl_next has to
  * wait, 32 KiB are held back, jnl_push, or any other call over this connection that sends.

@@ -49,6 +49,11 @@ static int submit_record(unsigned char byte, unsigned flags, uint64_t tag)
     return jnl_submit(t, flags, tag);
 }
 
+static void put_record(unsigned char byte, unsigned flags, uint64_t tag)
+{
+    want_status(submit_record(byte, flags, tag), JNL_OK, "submit", tag);
+}
+
 /* Takes an answer, and wants it to be this one's. */
 static jnl_receipt take(uint64_t tag, int status)
 {
@@ -80,7 +85,7 @@ static int submit_one_of_many(uint64_t i)
     unsigned char found[SIZE];
     int differs = i % 7 == 3;
     if (differs) want_status(jnl_read(t, (jnl_addr){526, 1024}, found, SIZE), JNL_OK, "read", i);
-    if (differs) want_status(submit_record((unsigned char)i, 0, 1000 + i), JNL_OK, "submit", i);
+    if (differs) put_record((unsigned char)i, 0, 1000 + i);
     want_status(jnl_write(t, (jnl_addr){526, 1024}, value, SIZE), JNL_OK, "write", i);
     return jnl_submit(t, i % 50 ? 0 : JNL_WAIT, i);
 }
@@ -89,7 +94,7 @@ static int submit_one_of_many(uint64_t i)
 static void order(void)
 {
     uint64_t first = commits(), done = 0;
-    for (uint64_t i = 0; i < MANY; i++) want_status(submit_record(1, 0, 3 * i), JNL_OK, "submit", i);
+    for (uint64_t i = 0; i < MANY; i++) put_record(1, 0, 3 * i);
     want(jnl_in_flight(j), MANY, "in flight", 0);
     for (uint64_t i = 0; i < MANY; i++) {
         want(take(3 * i, JNL_OK).commits, first + i + 1, "commits up to it", i);
@@ -110,13 +115,14 @@ static void conflicts(void)
     jnl_txn *late[10];
     uint64_t before = commits();
     for (uint64_t i = 0; i < 10; i++) {
+        jnl_addr a = {525, 1024 * (uint32_t)(i % 2)};
         late[i] = begun();
-        want_status(jnl_read(late[i], (jnl_addr){525, 1024 * (uint32_t)(i % 2)}, found, SIZE), JNL_OK, "read", i);
+        want_status(jnl_read(late[i], a, found, SIZE), JNL_OK, "read", i);
         found[0] = (unsigned char)(found[0] + 1 + i);
         want_status(jnl_write(late[i], (jnl_addr){525, 2048}, found, SIZE), JNL_OK, "write", i);
     }
-    want_status(submit_record((unsigned char)(before | 128), 0, 99), JNL_OK, "submit", 99);
-    want_status(submit_record((unsigned char)(before & 127), 0, 100), JNL_OK, "submit", 100);
+    put_record((unsigned char)(before | 128), 0, 99);
+    put_record((unsigned char)(before & 127), 0, 100);
     for (uint64_t i = 0; i < 10; i++) want_status(jnl_submit(late[i], 0, i), JNL_OK, "submit", i);
     take(99, JNL_OK), take(100, JNL_OK);
     for (uint64_t i = 0; i < 10; i++) take(i, i % 2 ? JNL_OK : JNL_CONFLICT);
@@ -127,9 +133,9 @@ static void refusals(void)
 {
     jnl_txn *t = begun();
     want_status(jnl_write(t, (jnl_addr){3, 0}, "", 1), JNL_OK, "write", 0);
-    want_status(submit_record(1, 0, 1), JNL_OK, "submit", 1);
+    put_record(1, 0, 1);
     want_status(jnl_submit(t, 0, 2), JNL_OK, "a block of the log", 2);
-    want_status(submit_record(2, JNL_WAIT, 3), JNL_OK, "submit", 3);
+    put_record(2, JNL_WAIT, 3);
     take(1, JNL_OK), take(2, JNL_BAD_ADDRESS), take(3, JNL_OK);
     want_status(jnl_submit(NULL, 0, 0), JNL_MISUSE, "no transaction", 0);
     want_status(jnl_next(j, NULL, NULL, NULL), JNL_MISUSE, "no place for an answer", 0);
@@ -142,7 +148,7 @@ static void other_calls(void)
     unsigned char found[SIZE];
     uint64_t before = commits();
     for (uint64_t i = 0; i < 40; i++) {
-        want_status(submit_record((unsigned char)(i + 1), 0, i), JNL_OK, "submit", i);
+        put_record((unsigned char)(i + 1), 0, i);
         if (i % 8) continue;
         jnl_txn *t = begun();
         want_status(jnl_read(t, (jnl_addr){525, 0}, found, SIZE), JNL_OK, "a read between", i);
@@ -152,7 +158,9 @@ static void other_calls(void)
         want_status(jnl_flush(j, NULL), JNL_OK, "a flush between", i);
     }
     want(jnl_in_flight(j), 40, "in flight", 0);
-    for (uint64_t i = 0; i < 40; i++) want(take(i, JNL_OK).commits, before + i + 1, "commits up to it", i);
+    for (uint64_t i = 0; i < 40; i++) {
+        want(take(i, JNL_OK).commits, before + i + 1, "commits up to it", i);
+    }
     take_none();
 }
 
@@ -163,8 +171,9 @@ static void long_records(void)
     for (uint64_t i = 0; i < 40; i++) {
         jnl_txn *t = begun();
         for (uint64_t b = 0; b < (i % 3 ? 1 : 100); b++) {
+            jnl_addr a = {540 + b, 0};
             block[0] = (unsigned char)(i + b + 1);
-            want_status(jnl_write(t, (jnl_addr){540 + b, 0}, block, sizeof block), JNL_OK, "write", i);
+            want_status(jnl_write(t, a, block, sizeof block), JNL_OK, "write", i);
         }
         want_status(jnl_submit(t, 0, i), JNL_OK, "a long record", i);
     }
@@ -177,7 +186,7 @@ static void long_records(void)
 
 static void as_many_as_may_be(void)
 {
-    for (uint64_t i = 0; i < MOST; i++) want_status(submit_record(1, 0, i), JNL_OK, "submit", i);
+    for (uint64_t i = 0; i < MOST; i++) put_record(1, 0, i);
     jnl_txn *t = begun();
     want_status(jnl_write(t, (jnl_addr){514, FREE_BIT}, "\1", 1), JNL_OK, "write", 0);
     want_status(jnl_submit(t, 0, MOST), JNL_FULL, "one too many", MOST);
@@ -195,7 +204,7 @@ static void push(const char *path)
     j = other;
     uint64_t before = commits();
     j = mine;
-    want_status(submit_record(9, 0, 1), JNL_OK, "submit", 1);
+    put_record(9, 0, 1);
     want_status(jnl_push(j), JNL_OK, "push", 1);
     j = other;
     for (int i = 0; i < 10000 && commits() == before; i++) {
@@ -264,7 +273,10 @@ static void loss_while_sending(void)
     submit_bit(FREE_BIT, submitted++);
     submit_bit(NOT_ANSWERED, submitted++);
     int s = JNL_OK;
-    for (; s == JNL_OK && submitted < MANY; submitted += s == JNL_OK) s = submit_record(1, 0, submitted);
+    while (s == JNL_OK && submitted < MANY) {
+        s = submit_record(1, 0, submitted);
+        submitted += s == JNL_OK;
+    }
     want_status(s, JNL_LOST, "submit after a loss", submitted);
     want(jnl_in_flight(j), submitted, "in flight", 0);
     take(0, JNL_OK);
@@ -302,7 +314,9 @@ static void a_limit_of_time(void)
 
 int main(int argc, char **argv)
 {
-    if (argc != 2 && argc != 3) return fprintf(stderr, "usage: test_flights SOCKET [FAULTY_SOCKET]\n"), 2;
+    if (argc != 2 && argc != 3) {
+        return fprintf(stderr, "usage: test_flights SOCKET [FAULTY_SOCKET]\n"), 2;
+    }
     alarm(SECONDS); /* where port and client wait for each other */
     want_status(jnl_open(argv[1], &j), JNL_OK, "open", 0);
     take_none();
