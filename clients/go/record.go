@@ -12,6 +12,11 @@ const (
 	maxValue     = 4096
 	maxParts     = 4096
 	maxAddresses = 256
+
+	wordBytes    = 4
+	addressBytes = 12
+	// A part without its value: its action, its address and the length.
+	partBytes = 2*wordBytes + addressBytes
 )
 
 const (
@@ -28,11 +33,14 @@ const (
 	write
 )
 
+var zeros [wordBytes]byte
+
 // request is a record, with room for its length in front.
 type request []byte
 
-func newRequest(operation uint32) request {
-	return request(make([]byte, 4, 64)).word(operation)
+// newRequest returns a record with room for so many bytes behind its operation.
+func newRequest(operation uint32, bytes int) request {
+	return request(make([]byte, lengthBytes, lengthBytes+wordBytes+bytes)).word(operation)
 }
 
 func (r request) word(n uint32) request {
@@ -50,9 +58,9 @@ func (r request) address(a Address) request {
 	return request(binary.BigEndian.AppendUint64(r, a.Block)).word(a.Bit)
 }
 
-func (r request) part(action uint32, a Address, value []byte) request {
-	r = append(r.word(action).address(a).word(uint32(len(value))), value...)
-	return append(r, make([]byte, padding(len(value)))...)
+func (r request) part(action uint32, o object) request {
+	r = append(r.word(action).address(o.address).word(uint32(len(o.value))), o.value...)
+	return append(r, zeros[:padding(len(o.value))]...)
 }
 
 func (r request) operation() uint32 {
