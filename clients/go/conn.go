@@ -17,15 +17,10 @@ type dialing struct {
 	err  error
 }
 
-// usable returns the connection, which is made again first where it is of no more use: nothing was
-// sent yet, so nothing is sent twice.
-func (j *Journal) usable(deadline time.Time) (*connection, error) {
+// connected returns the connection, which is made first where there is none.
+func (j *Journal) connected(deadline time.Time) (*connection, error) {
 	j.mu.Lock()
-	for j.connection == nil || !j.connection.isUsable() {
-		if j.connection != nil {
-			j.connection.end(&failure{ErrLost, net.ErrClosed})
-			j.connection = nil
-		}
+	for j.connection == nil {
 		attempt, isMine := j.dialing, j.dialing == nil
 		if isMine {
 			attempt = &dialing{done: make(chan struct{})}
@@ -74,14 +69,14 @@ func (j *Journal) dial(deadline time.Time) (*connection, uint64, error) {
 	if err != nil {
 		return nil, 0, &failure{ErrNoPort, err}
 	}
-	made := newConnection(socket)
+	made := newConnection(socket, &j.untold)
 	var spoken uint32
 	var blocks uint64
 	hello := newRequest(opHello, wordBytes).word(version)
-	isSent, err := made.ask(hello, left(deadline), func(a *answer) {
-		spoken, blocks = a.word(), a.hyper()
-	})
-	if !isSent {
+	greeting := newCall(opHello, func(a *answer) { spoken, blocks = a.word(), a.hyper() })
+	if made.ask(hello, greeting, left(deadline)) {
+		err = greeting.err
+	} else {
 		err = &failure{ErrNoPort, net.ErrClosed}
 	}
 	if err == nil && spoken != version {
@@ -138,19 +133,40 @@ func isOver(deadline time.Time) bool {
 	return !deadline.IsZero() && time.Now().After(deadline)
 }
 
+// forget drops a connection that is of no more use.
+func (j *Journal) forget(over *connection) {
+	over.end(&failure{ErrLost, net.ErrClosed})
+	j.mu.Lock()
+	defer j.mu.Unlock()
+	if j.connection == over {
+		j.connection = nil
+	}
+}
+
 // ask asks the port, and reads what stands behind the operation of its answer by decode.
 func (j *Journal) ask(r request, decode func(*answer)) error {
+	mine := newCall(r.operation(), decode)
+	err := j.askFor(r, mine)
+	mine.decode = nil
+	calls.Put(mine)
+	return err
+}
+
+// askFor asks the port for a call. A connection that the port ended since the last call is made
+// again first: nothing was sent yet, so nothing is sent twice.
+func (j *Journal) askFor(r request, mine *call) error {
 	if len(r) > maxRecord+lengthBytes {
 		return TooLarge
 	}
 	deadline := j.deadline()
 	for {
-		over, err := j.usable(deadline)
+		over, err := j.connected(deadline)
 		if err != nil {
 			return err
 		}
-		if isSent, err := over.ask(r, left(deadline), decode); isSent {
-			return err
+		if over.ask(r, mine, left(deadline)) {
+			return mine.err
 		}
+		j.forget(over)
 	}
 }

@@ -8,6 +8,7 @@ import (
 	"net"
 	"runtime"
 	"sync"
+	"sync/atomic"
 	"syscall"
 	"time"
 )
@@ -19,15 +20,24 @@ const (
 	pieceBytes = 1 << 16
 )
 
-// call is a request that has no answer yet.
+// call is a request that has no answer yet, or that was answered and nobody has seen so.
 type call struct {
 	operation uint32
-	decode    func(*answer)
+	decode    func(*answer) // nil for a commit, whose receipt is kept
+	receipt   Receipt
 	err       error
 	done      chan struct{} // has room for one, so that who answers never waits
+	isFlight  bool          // a lost one keeps others from being submitted
 }
 
-var callsToUse = sync.Pool{New: func() any { return &call{done: make(chan struct{}, 1)} }}
+var calls = sync.Pool{New: func() any { return &call{done: make(chan struct{}, 1)} }}
+
+func newCall(operation uint32, decode func(*answer)) *call {
+	made := calls.Get().(*call)
+	made.operation, made.decode = operation, decode
+	made.receipt, made.err, made.isFlight = Receipt{}, nil, false
+	return made
+}
 
 // connection is a connection, and the calls that have no answer yet, in the order of their records.
 //
@@ -45,79 +55,91 @@ type connection struct {
 	// The session has ended: the next call makes another connection.
 	isOver bool
 	err    error // why the connection has ended
+	// So many flights of the Journal were lost, and nobody has waited for them.
+	untold *int64
+
+	answered []*call // of the goroutine that reads
 }
 
-func newConnection(socket net.Conn) *connection {
-	c := &connection{socket: socket}
+func newConnection(socket net.Conn, untold *int64) *connection {
+	c := &connection{socket: socket, untold: untold}
 	c.hasRoom.L = &c.mu
 	go c.read()
 	return c
 }
 
-// isUsable says whether a call may go over the connection. One that owes no answer must be quiet.
+// isUsable says whether a call may go over the connection, with its lock held. One that owes no
+// answer must be quiet.
 func (c *connection) isUsable() bool {
-	c.mu.Lock()
-	defer c.mu.Unlock()
 	if c.err != nil || len(c.calls) > 0 {
 		return c.err == nil
 	}
 	return !c.isOver && isQuiet(c.socket)
 }
 
-// ask sends a request, and reads what stands behind the operation of its answer by decode. It
-// returns false where the connection has ended before anything was sent. After the limit of time,
-// unless that is 0, the connection ends.
-func (c *connection) ask(r request, limit time.Duration, decode func(*answer)) (bool, error) {
+// ask sends a request and waits for its answer. It returns false where the connection is of no more
+// use, and nothing was sent. After the limit of time, unless that is 0, the connection ends.
+func (c *connection) ask(r request, mine *call, limit time.Duration) bool {
 	if limit > 0 {
-		defer time.AfterFunc(limit, func() { c.end(&failure{ErrLost, errTimedOut}) }).Stop()
+		defer c.endAfter(limit).Stop()
 	}
-	mine := callsToUse.Get().(*call)
-	mine.operation, mine.decode = r.operation(), decode
-	isSent := c.hold(r, mine)
-	if isSent {
-		<-mine.done
+	if !c.hold(r, mine) {
+		return false
 	}
-	err := mine.err
-	mine.decode, mine.err = nil, nil
-	callsToUse.Put(mine)
-	return isSent, err
+	// Others that are about to call do so first, so that many records are written at once.
+	runtime.Gosched()
+	c.push()
+	<-mine.done
+	return true
 }
 
-// hold adds a record to those that are held, and sees to it that they are written. Others that are
-// about to call do so first, so that many records are written at once. It returns false where the
-// connection has ended.
+func (c *connection) endAfter(limit time.Duration) *time.Timer {
+	return time.AfterFunc(limit, func() { c.end(&failure{ErrLost, errTimedOut}) })
+}
+
+// hold adds a record to those that are held. It returns false where the connection is of no more
+// use.
 func (c *connection) hold(r request, mine *call) bool {
 	binary.BigEndian.PutUint32(r, uint32(len(r)-lengthBytes))
 	c.mu.Lock()
+	defer c.mu.Unlock()
 	for len(c.held) > mostHeld && c.err == nil {
 		c.hasRoom.Wait()
 	}
-	if c.err != nil {
-		c.mu.Unlock()
+	if !c.isUsable() {
 		return false
 	}
 	c.calls = append(c.calls, mine)
 	c.held = append(c.held, r...)
-	isWriter := !c.isWriting
-	c.isWriting = true
-	c.mu.Unlock()
-	if isWriter {
-		runtime.Gosched()
-		c.writeHeld()
-	}
 	return true
 }
 
-// writeHeld writes what is held. More that is held meanwhile is for another goroutine, so that no
-// call waits for the records of others.
+// push writes what is held, unless another goroutine writes: that one sees to it. What is held
+// meanwhile is for another goroutine, so that no call waits for the records of others.
+func (c *connection) push() {
+	c.mu.Lock()
+	isMine := !c.isWriting && len(c.held) > 0
+	c.isWriting = c.isWriting || isMine
+	c.mu.Unlock()
+	if isMine {
+		c.writeHeld()
+	}
+}
+
+// holdsMuch says whether so much is held that it is to be written.
+func (c *connection) holdsMuch() bool {
+	c.mu.Lock()
+	defer c.mu.Unlock()
+	return len(c.held) >= pieceBytes/2
+}
+
 func (c *connection) writeHeld() {
 	c.mu.Lock()
 	records := c.held
 	c.held, c.spare = c.spare[:0], nil
 	c.hasRoom.Broadcast()
 	c.mu.Unlock()
-	_, err := c.socket.Write(records)
-	if err != nil {
+	if _, err := c.socket.Write(records); err != nil {
 		// The answers that came before the end are read first: who reads finds the end too.
 		c.closeWriting()
 		return
@@ -182,7 +204,6 @@ func moveTo(buffer, rest []byte) ([]byte, int) {
 // wakes them at last, when all are known to be as they should.
 func (c *connection) settle(came []byte) ([]byte, error) {
 	c.mu.Lock()
-	defer c.mu.Unlock()
 	var err error
 	answered := 0
 	for err == nil {
@@ -204,13 +225,21 @@ func (c *connection) settle(came []byte) ([]byte, error) {
 	if err != nil {
 		c.err = err
 	}
-	c.wake(answered)
+	c.answered = append(c.answered[:0], c.calls[:answered]...)
+	c.calls = c.calls[:copy(c.calls, c.calls[answered:])]
+	c.mu.Unlock()
+	for _, each := range c.answered {
+		each.done <- struct{}{}
+	}
 	return came, err
 }
 
 // settleOne answers a call. It returns an error where the answer is none of the protocol.
 func (c *connection) settleOne(of *call, record []byte) error {
-	of.err = (&answer{rest: record}).judge(of.operation, of.decode)
+	of.err = (&answer{rest: record}).judge(of)
+	if of.err == nil {
+		return nil
+	}
 	var refusal Refusal
 	if errors.As(of.err, &refusal) && refusal.endsSession() {
 		c.isOver = true
@@ -219,14 +248,6 @@ func (c *connection) settleOne(of *call, record []byte) error {
 		return of.err
 	}
 	return nil
-}
-
-// wake wakes the first calls, which are answered.
-func (c *connection) wake(answered int) {
-	for _, each := range c.calls[:answered] {
-		each.done <- struct{}{}
-	}
-	c.calls = c.calls[:copy(c.calls, c.calls[answered:])]
 }
 
 // nextRecord returns the first record of some bytes, and those behind it; or no record, where it is
@@ -257,8 +278,12 @@ func (c *connection) end(reason error) {
 	for _, each := range c.calls {
 		each.err = reason
 		reason = lossAfter(reason)
+		if each.isFlight {
+			atomic.AddInt64(c.untold, 1)
+		}
+		each.done <- struct{}{}
 	}
-	c.wake(len(c.calls))
+	c.calls = nil
 	c.hasRoom.Broadcast()
 }
 

@@ -21,60 +21,70 @@ const (
 	movesEach = 100
 )
 
-// inFlight is a commit that was put in flight in the order of the test.
-type inFlight struct {
-	call    *call
-	receipt Receipt
+// submit submits a commit that writes an object.
+func submit(j *Journal, a Address, value []byte) *Flight {
+	tx := j.Begin()
+	tx.Write(a, value)
+	return tx.Submit(Lazy)
 }
 
-// submit puts a commit in flight that writes an object, after those that the test has put there.
-func submit(t *testing.T, over *connection, a Address, value []byte) *inFlight {
+// end waits for a commit, but not for ever.
+func end(t *testing.T, f *Flight) (Receipt, error) {
 	t.Helper()
-	r := newRequest(opCommit, 0).boolean(false).word(1).part(write, object{a, value})
-	mine := &inFlight{call: &call{operation: opCommit, done: make(chan struct{}, 1)}}
-	mine.call.decode = func(a *answer) { mine.receipt = a.receipt() }
-	if !over.hold(r, mine.call) {
-		mine.call.err = errNotSent
-		mine.call.done <- struct{}{}
-	}
-	return mine
-}
-
-var errNotSent = errors.New("not sent")
-
-func (f *inFlight) end(t *testing.T) error {
-	t.Helper()
-	select {
-	case <-f.call.done:
-		return f.call.err
-	case <-time.After(time.Minute):
-		t.Fatal("port and client wait for each other")
-		return nil
-	}
-}
-
-func overOf(t *testing.T, j *Journal) *connection {
-	t.Helper()
-	over, err := j.usable(time.Time{})
-	if err != nil {
-		t.Fatal(err)
-	}
-	return over
+	watch := time.AfterFunc(time.Minute, func() { panic("port and client wait for each other") })
+	defer watch.Stop()
+	return f.Wait()
 }
 
 func TestAnswersComeInOrder(t *testing.T) {
 	j := dial(t)
-	stat, over, flights := commits(t, j), overOf(t, j), []*inFlight{}
+	first, flights := commits(t, j), []*Flight{}
 	for i := uint64(0); i < many; i++ {
-		flights = append(flights, submit(t, over, Address{526, 31744}, valueOf(i)))
+		flights = append(flights, submit(j, Address{526, 31744}, valueOf(i)))
 	}
 	for i, each := range flights {
-		if err := each.end(t); err != nil || each.receipt.Commits != stat+uint64(i)+1 {
-			t.Fatalf("%d: %v %v", i, each.receipt, err)
+		for again := 0; again < 2; again++ {
+			if receipt, err := end(t, each); err != nil || receipt.Commits != first+uint64(i)+1 {
+				t.Fatalf("%d: %v %v", i, receipt, err)
+			}
 		}
 	}
 	if found := readOne(t, j, Address{526, 31744}); !bytes.Equal(found, valueOf(many-1)) {
 		t.Errorf("the last one: %v", found)
+	}
+}
+
+func TestARefusalIsOfOneAlone(t *testing.T) {
+	j := dial(t)
+	late := j.Begin()
+	if _, err := late.Read(Address{526, 28672}); err != nil {
+		t.Fatal(err)
+	}
+	first := submit(j, Address{526, 28672}, valueOf(commits(t, j)+1))
+	conflict, log := late.Submit(Lazy), submit(j, Address{3, 0}, nil)
+	long := submit(j, Address{531, 0}, make([]byte, 5000))
+	last := submit(j, Address{514, freeBit}, []byte{1})
+	for i, row := range []struct {
+		flight *Flight
+		want   error
+	}{{first, nil}, {conflict, Conflict}, {log, BadAddress}, {long, BadSize}, {last, nil}} {
+		if _, err := end(t, row.flight); !errors.Is(err, row.want) {
+			t.Errorf("%d: %v, not %v", i, err, row.want)
+		}
+	}
+}
+
+// TestOtherCallsSendWhatIsHeld wants a read to come after what was submitted before it.
+func TestOtherCallsSendWhatIsHeld(t *testing.T) {
+	j := dial(t)
+	for i := uint64(1); i <= 40; i++ {
+		flight := submit(j, Address{526, 27648}, valueOf(i))
+		if found := readOne(t, j, Address{526, 27648}); !bytes.Equal(found, valueOf(i)) {
+			t.Errorf("%d: %v", i, found)
+		}
+		if _, err := end(t, flight); err != nil {
+			t.Error(err)
+		}
 	}
 }
 
@@ -206,20 +216,32 @@ func TestALossIsToldOfEach(t *testing.T) {
 		{8, unsure, nil, all, all},
 		{11, nil, nil, all, all},
 	} {
-		first, over, flights := commits(t, j), overOf(t, j), []*inFlight{}
+		first, flights := commits(t, j), []*Flight{}
 		for i := 0; i < all; i++ {
 			bit := uint32(freeBit)
 			if i == before {
 				bit = row.bit
 			}
-			flights = append(flights, submit(t, over, Address{514, bit}, []byte{1}))
+			flights = append(flights, submit(j, Address{514, bit}, []byte{1}))
 		}
 		for i, each := range flights {
-			wantEnd(t, fmt.Sprintf("bit %d, commit %d", row.bit, i), each.end(t), i, row.met, row.later)
+			_, err := end(t, each)
+			wantEnd(t, fmt.Sprintf("bit %d, commit %d", row.bit, i), err, i, row.met, row.later)
+			if row.later == ErrLost && i > before && i < all-1 {
+				nothingIsSent(t, j)
+			}
 		}
 		if done := int(commits(t, j) - first); done < row.least || done > row.most {
 			t.Errorf("bit %d: %d commits", row.bit, done)
 		}
+	}
+}
+
+// nothingIsSent wants a flight to be lost while others that were lost are not waited for.
+func nothingIsSent(t *testing.T, j *Journal) {
+	t.Helper()
+	if _, err := end(t, submit(j, Address{514, freeBit}, []byte{1})); !errors.Is(err, ErrLost) {
+		t.Errorf("a commit after a loss: %v", err)
 	}
 }
 
@@ -235,8 +257,7 @@ func wantEnd(t *testing.T, what string, found error, at int, met, later error) {
 	if want == ErrLost && errors.Is(found, ErrProtocol) {
 		isAsWanted = false
 	}
-	// What is not sent because the connection has ended before is called again.
-	if !isAsWanted && !(want == ErrLost && found == errNotSent) {
+	if !isAsWanted {
 		t.Errorf("%s: %v, not %v", what, found, want)
 	}
 }
@@ -250,15 +271,16 @@ func boolToInt(b bool) int {
 
 func TestALossWhileMoreIsSent(t *testing.T) {
 	j := dialFaulty(t)
-	first, over := commits(t, j), overOf(t, j)
-	flights := []*inFlight{submit(t, over, Address{514, freeBit}, []byte{1})}
-	flights = append(flights, submit(t, over, Address{514, 1}, []byte{1}))
+	first, flights := commits(t, j), []*Flight{}
 	for i := 0; i < many; i++ {
-		flights = append(flights, submit(t, over, Address{514, freeBit}, []byte{1}))
+		bit := uint32(freeBit)
+		if i == 1 {
+			bit = 1
+		}
+		flights = append(flights, submit(j, Address{514, bit}, []byte{1}))
 	}
 	for i, each := range flights {
-		err := each.end(t)
-		if i == 0 && err != nil || i > 0 && !errors.Is(err, ErrLost) && err != errNotSent {
+		if _, err := end(t, each); i == 0 && err != nil || i > 0 && !errors.Is(err, ErrLost) {
 			t.Fatalf("%d: %v", i, err)
 		}
 	}
@@ -297,9 +319,12 @@ func TestCloseEndsAllInFlight(t *testing.T) {
 	j, errs := dialFaulty(t), make(chan error, 1)
 	go func() { errs <- setBit(j, 14) }()
 	for isWaiting := false; !isWaiting; time.Sleep(time.Millisecond) {
-		over := overOf(t, j)
+		over, err := j.connected(time.Time{})
+		if err != nil {
+			t.Fatal(err)
+		}
 		over.mu.Lock()
-		isWaiting = len(over.calls) > 0
+		isWaiting = len(over.calls) > 0 && len(over.held) == 0
 		over.mu.Unlock()
 	}
 	j.Close()

@@ -16,7 +16,8 @@
 // answers of others, so as many requests are in flight as there are calls. One that the port has
 // ended, for its silence or with the service, is made again by the next call. Where the connection
 // is lost, each call without an answer returns ErrLost, in the order in which they were sent. Those
-// commits that were done, if any, are the first ones of these. A Tx is for one goroutine at a time.
+// commits that were done, if any, are the first ones of these. A Tx is for one goroutine at a time,
+// which has many commits in flight by Tx.Submit.
 //
 // No host serves this module: its go.mod says how a program uses it.
 package jnl
@@ -75,6 +76,9 @@ type Journal struct {
 	// to connect again. It is not to be changed while there are calls.
 	Timeout time.Duration
 
+	// So many flights were lost, and nobody has waited for them. By atomic calls.
+	untold int64
+
 	network, address string
 
 	mu         sync.Mutex  // of what follows
@@ -93,7 +97,7 @@ func Dial(network, address string) (*Journal, error) {
 // the port does not answer in time.
 func DialTimeout(network, address string, timeout time.Duration) (*Journal, error) {
 	j := &Journal{Timeout: timeout, network: network, address: address}
-	if _, err := j.usable(j.deadline()); err != nil {
+	if _, err := j.connected(j.deadline()); err != nil {
 		return nil, err
 	}
 	return j, nil
@@ -201,22 +205,17 @@ func (j *Journal) Stop() error {
 }
 
 func (j *Journal) commit(durability Durability, compared, written *objects) (Receipt, error) {
-	parts := len(compared.list) + len(written.list)
-	if parts > maxParts {
-		return Receipt{}, TooLarge
+	r, err := spellCommit(durability, compared, written)
+	if err != nil {
+		return Receipt{}, err
 	}
-	r := newRequest(opCommit, 2*wordBytes+compared.bytes()+written.bytes())
-	r = r.boolean(bool(durability)).word(uint32(parts))
-	for _, o := range compared.list {
-		r = r.part(compare, o)
+	mine := newCall(opCommit, nil)
+	err = j.askFor(r.request, mine)
+	receipt := mine.receipt
+	calls.Put(mine)
+	r.drop()
+	if err != nil {
+		return Receipt{}, err
 	}
-	for _, o := range written.list {
-		if len(o.value) > maxValue {
-			return Receipt{}, BadSize
-		}
-		r = r.part(write, o)
-	}
-	var receipt Receipt
-	err := j.ask(r, func(a *answer) { receipt = a.receipt() })
-	return receipt, err
+	return receipt, nil
 }

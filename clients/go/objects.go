@@ -43,6 +43,9 @@ func (o *objects) set(a Address, value []byte) {
 		o.list[at].value = value
 		return
 	}
+	if o.list == nil {
+		o.list = make([]object, 0, 4)
+	}
 	o.list = append(o.list, object{a, value})
 	if o.index != nil {
 		o.index[a] = len(o.list) - 1
@@ -52,13 +55,4 @@ func (o *objects) set(a Address, value []byte) {
 			o.index[each.address] = i
 		}
 	}
-}
-
-// bytes returns how many bytes the objects have as parts of a record.
-func (o *objects) bytes() int {
-	sum := 0
-	for _, each := range o.list {
-		sum += partBytes + len(each.value) + padding(len(each.value))
-	}
-	return sum
 }

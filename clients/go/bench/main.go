@@ -1,7 +1,8 @@
-// Command bench commits small transactions over one Journal, from many goroutines: bench SOCKET
-// GOROUTINES durable|lazy SECONDS. It is the loop of clients/c/bench, over the client in Go. There
-// are 512 objects of 128 bytes; each transaction overwrites two, at random, in blocks that differ.
-// lazy: none waits, and one flush at the end is inside the time. It prints commits a second.
+// Command bench commits small transactions over one Journal: bench SOCKET GOROUTINES FLIGHTS
+// durable|lazy SECONDS. Each of the goroutines has so many commits in flight; with 1 it waits for
+// each. It is the loop of clients/c/bench, over the client in Go. There are 512 objects of 128
+// bytes; each transaction overwrites two, at random, in blocks that differ. lazy: none waits, and
+// one flush at the end is inside the time. It prints commits a second.
 package main
 
 import (
@@ -29,15 +30,32 @@ func main() {
 	}
 }
 
-func bench(words []string) error {
-	if len(words) != 5 {
-		return fmt.Errorf("usage: bench SOCKET GOROUTINES durable|lazy SECONDS")
-	}
-	goroutines, err := strconv.Atoi(words[2])
+// load is what is to be committed, and for how long.
+type load struct {
+	goroutines, flights int
+	durability          jnl.Durability
+	span                time.Duration
+}
+
+func loadOf(words []string) (load, error) {
+	goroutines, err := strconv.Atoi(words[0])
 	if err != nil {
-		return err
+		return load{}, err
 	}
-	seconds, err := strconv.ParseFloat(words[4], 64)
+	flights, err := strconv.Atoi(words[1])
+	if err != nil {
+		return load{}, err
+	}
+	seconds, err := strconv.ParseFloat(words[3], 64)
+	span := time.Duration(seconds * float64(time.Second))
+	return load{goroutines, flights, words[2] == "durable", span}, err
+}
+
+func bench(words []string) error {
+	if len(words) != 6 {
+		return fmt.Errorf("usage: bench SOCKET GOROUTINES FLIGHTS durable|lazy SECONDS")
+	}
+	of, err := loadOf(words[2:])
 	if err != nil {
 		return err
 	}
@@ -46,47 +64,64 @@ func bench(words []string) error {
 		return err
 	}
 	defer j.Close()
-	durability := jnl.Durability(words[3] == "durable")
 	began := time.Now()
-	commits, err := commitFor(j, goroutines, durability, time.Duration(seconds*float64(time.Second)))
-	if err == nil && durability == jnl.Lazy {
+	commits, err := of.run(j)
+	if err == nil && of.durability == jnl.Lazy {
 		_, err = j.Flush()
 	}
 	fmt.Printf("%.0f commits/s\n", float64(commits)/time.Since(began).Seconds())
 	return err
 }
 
-// commitFor commits from so many goroutines for a time, and returns how many commits were done.
-func commitFor(j *jnl.Journal, n int, d jnl.Durability, span time.Duration) (uint64, error) {
+// run commits from all goroutines, and returns how many commits were done.
+func (of load) run(j *jnl.Journal) (uint64, error) {
 	var all sync.WaitGroup
 	var commits uint64
 	var isOver int32
-	errs := make(chan error, n)
-	time.AfterFunc(span, func() { atomic.StoreInt32(&isOver, 1) })
-	for i := 0; i < n; i++ {
+	errs := make(chan error, of.goroutines)
+	time.AfterFunc(of.span, func() { atomic.StoreInt32(&isOver, 1) })
+	for i := 0; i < of.goroutines; i++ {
 		all.Add(1)
 		go func(random *rand.Rand) {
 			defer all.Done()
-			mine := uint64(0)
-			for ; atomic.LoadInt32(&isOver) == 0; mine++ {
-				if err := commit(j, d, random, byte(mine)); err != nil {
-					errs <- err
-					return
-				}
-			}
+			mine, err := of.commitUntil(j, &isOver, random)
 			atomic.AddUint64(&commits, mine)
+			errs <- err
 		}(rand.New(rand.NewSource(int64(i))))
 	}
 	all.Wait()
-	select {
-	case err := <-errs:
-		return commits, err
-	default:
-		return commits, nil
+	for i := 0; i < of.goroutines; i++ {
+		if err := <-errs; err != nil {
+			return commits, err
+		}
 	}
+	return commits, nil
 }
 
-func commit(j *jnl.Journal, d jnl.Durability, random *rand.Rand, fill byte) error {
+// commitUntil commits from one goroutine until the time is over.
+func (of load) commitUntil(j *jnl.Journal, isOver *int32, random *rand.Rand) (uint64, error) {
+	done := uint64(0)
+	flights := make([]*jnl.Flight, 0, of.flights)
+	for i := 0; atomic.LoadInt32(isOver) == 0; i++ {
+		if len(flights) < of.flights {
+			flights = append(flights, nil)
+		} else if _, err := flights[i%of.flights].Wait(); err != nil {
+			return done, err
+		} else {
+			done++
+		}
+		flights[i%of.flights] = transaction(j, random, byte(i)).Submit(of.durability)
+	}
+	for _, each := range flights {
+		if _, err := each.Wait(); err != nil {
+			return done, err
+		}
+		done++
+	}
+	return done, nil
+}
+
+func transaction(j *jnl.Journal, random *rand.Rand, fill byte) *jnl.Tx {
 	first, second := random.Intn(objects), random.Intn(objects)
 	for second/objectsABlock == first/objectsABlock {
 		second = random.Intn(objects)
@@ -98,8 +133,7 @@ func commit(j *jnl.Journal, d jnl.Durability, random *rand.Rand, fill byte) erro
 	tx := j.Begin()
 	tx.Write(address(first), value[:])
 	tx.Write(address(second), value[:])
-	_, err := tx.Commit(d)
-	return err
+	return tx
 }
 
 func address(i int) jnl.Address {
