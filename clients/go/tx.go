@@ -78,7 +78,7 @@ func (t *Tx) fetch(missing []Address) error {
 
 // Write has the object overwritten by the commit, which finds a wrong address or size.
 func (t *Tx) Write(a Address, value []byte) {
-	t.writes.set(a, clone(value))
+	t.writes.setCopy(a, value)
 }
 
 // Commit commits: where each object that was read still has its value, all writes are done at one
