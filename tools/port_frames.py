@@ -1,5 +1,7 @@
-"""Frames for a port that mean no good, and what their answers must be. The module of the step `fuzz`
-of check-clients."""
+"""Frames for a port that mean no good, and what their answers must be.
+
+The module of the step `fuzz` of check-clients.
+"""
 
 import socket
 import struct
@@ -14,6 +16,8 @@ TOO_LONG = 68
 # How many bytes are behind an operation that was done, where that is always the same.
 BYTES_DONE = {HELLO: 12, COMMIT: 16, FLUSH: 8, STAT: 16}
 MOST_IN_BATCH = 40
+# The kinds of frames, and how often each is made.
+OFTEN = {"good": 40, "mutated": 40, "random": 12, "wrong length": 8}
 INTERESTING = (0, 1, 2, 5, 6, 7, 255, 4096, 4097, 32767, 32768, 1 << 31, (1 << 32) - 1)
 
 
@@ -41,7 +45,7 @@ class Maker:
 
     def frame(self):
         """A frame that is good, mutated, random, or of a wrong length."""
-        kind = self.random.choices(("good", "mutated", "random", "wrong length"), (40, 40, 12, 8))[0]
+        (kind,) = self.random.choices(tuple(OFTEN), tuple(OFTEN.values()))
         body = self.good()
         if kind == "mutated":
             body = self.mutated(body)
@@ -57,8 +61,8 @@ class Maker:
         return self.random.choice((near, near, LONGEST, LONGEST + 1, (1 << 32) - 1))
 
     def good(self):
-        make = self.random.choice((self.hello, self.read, self.commit, self.commit, self.flush, self.stat))
-        return make()
+        commits = (self.commit, self.commit)
+        return self.random.choice((self.hello, self.read, *commits, self.flush, self.stat))()
 
     def hello(self):
         return struct.pack(">II", HELLO, 1)
@@ -75,7 +79,8 @@ class Maker:
         if kind == 0:
             return struct.pack(">QI", 514, self.random.randrange(32768)), 1
         if kind == 1:
-            return struct.pack(">QI", self.random.randrange(515, 531), 1024 * self.random.randrange(32)), 128
+            bit = 1024 * self.random.randrange(32)
+            return struct.pack(">QI", self.random.randrange(515, 531), bit), 128
         return struct.pack(">QI", self.random.randrange(531, self.blocks), 0), 4096
 
     def read(self):
@@ -86,12 +91,14 @@ class Maker:
         address, size = self.address()
         value = self.random.randbytes(size) if size > 1 else bytes([self.random.randrange(2)])
         action = self.random.choices((0, 1), (1, 4))[0]
-        return struct.pack(">I", action) + address + struct.pack(">I", size) + value + bytes(-size % 4)
+        value += bytes(-size % 4)
+        return struct.pack(">I", action) + address + struct.pack(">I", size) + value
 
     def commit(self):
         count = self.random.choice((0, 1, 2, 3, 9))
         waits = self.random.random() < 0.05
-        return struct.pack(">III", COMMIT, waits, count) + b"".join(self.part() for _ in range(count))
+        parts = b"".join(self.part() for _ in range(count))
+        return struct.pack(">III", COMMIT, waits, count) + parts
 
     def mutated(self, body):
         """One to three words or bytes are others, or a piece is left out, doubled or cut off."""
