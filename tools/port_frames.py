@@ -9,6 +9,7 @@ from typing import NamedTuple
 
 HELLO, COMMIT, READ, FLUSH, STAT, STOP = range(6)
 LONGEST = 2097152
+MOST_BLOCKS = 128
 # What docs/PROTOCOL.md says that a port answers. A disk that has not failed, in a session that has
 # not ended, in a service that was not stopped, answers no other.
 KNOWN = frozenset({0, 2, 3, 4, 64, 66, 67, 68, 69, 70})
@@ -61,6 +62,9 @@ class Maker:
         return self.random.choice((near, near, LONGEST, LONGEST + 1, (1 << 32) - 1))
 
     def good(self):
+        """A request. One that ends the service is refused over TCP."""
+        if self.is_rare(200):
+            return struct.pack(">I", STOP)
         commits = (self.commit, self.commit)
         return self.random.choice((self.hello, self.read, *commits, self.flush, self.stat))()
 
@@ -73,8 +77,14 @@ class Maker:
     def stat(self):
         return struct.pack(">I", STAT)
 
+    def is_rare(self, often):
+        """True once in so many times."""
+        return self.random.randrange(often) == 0
+
     def address(self):
-        """An object of the disk, and how many bytes its value has."""
+        """An object of the disk, and how many bytes its value has; or, rarely, no object."""
+        if self.is_rare(60):
+            return struct.pack(">QI", self.random.choice((0, 512, 515, self.blocks)), 1), 128
         kind = self.random.randrange(3)
         if kind == 0:
             return struct.pack(">QI", 514, self.random.randrange(32768)), 1
@@ -89,16 +99,26 @@ class Maker:
 
     def part(self):
         address, size = self.address()
+        size = self.random.choice((0, 1, 127, 128, 4095)) if self.is_rare(60) else size
         value = self.random.randbytes(size) if size > 1 else bytes([self.random.randrange(2)])
+        value = b"\2" if value and self.is_rare(100) and size == 1 else value
         action = self.random.choices((0, 1), (1, 4))[0]
         value += bytes(-size % 4)
         return struct.pack(">I", action) + address + struct.pack(">I", size) + value
 
     def commit(self):
+        if self.is_rare(300):
+            return self.commit_of_many_blocks()
         count = self.random.choice((0, 1, 2, 3, 9))
         waits = self.random.random() < 0.05
         parts = b"".join(self.part() for _ in range(count))
         return struct.pack(">III", COMMIT, waits, count) + parts
+
+    def commit_of_many_blocks(self):
+        """A commit that writes to one block more than it may."""
+        head = struct.pack(">III", COMMIT, 0, MOST_BLOCKS + 1)
+        parts = [struct.pack(">IQII", 1, 531 + i, 0, 4096) for i in range(MOST_BLOCKS + 1)]
+        return head + b"".join(part + bytes(4096) for part in parts)
 
     def mutated(self, body):
         """One to three words or bytes are others, or a piece is left out, doubled or cut off."""
@@ -163,7 +183,7 @@ def answers_of(stream):
 
 def check_answers(stream, whole, is_all_sent):
     """Wants one answer to each record that is whole. Behind a frame of a wrong length there may be
-    more. Answers how many there were."""
+    more. Answers their statuses."""
     statuses = [check_answer(answer) for answer in answers_of(stream)]
     if TOO_LONG in statuses[:-1]:
         raise Unexpected("the port reads on behind a record that is too long")
@@ -171,7 +191,7 @@ def check_answers(stream, whole, is_all_sent):
         raise Unexpected(f"{len(statuses)} answers to {whole} records")
     if is_all_sent and len(statuses) > whole:
         raise Unexpected(f"{len(statuses)} answers to {whole} records")
-    return len(statuses)
+    return statuses
 
 
 def exchange(peer, sent):
@@ -185,7 +205,8 @@ def exchange(peer, sent):
 
 
 def try_batch(peer, maker):
-    """Sends a batch of frames over a new connection. Answers how many frames, and answers."""
+    """Sends a batch of frames over a new connection. Answers how many these were, and the statuses
+    of their answers."""
     frames, size = maker.batch()
     sent = b"".join(frame.sent for frame in frames)[:size]
     whole, at = 0, 0
