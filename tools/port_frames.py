@@ -3,6 +3,7 @@
 The module of the step `fuzz` of check-clients.
 """
 
+import errno
 import socket
 import struct
 from typing import NamedTuple
@@ -16,6 +17,8 @@ KNOWN = frozenset({0, 2, 3, 4, 64, 66, 67, 68, 69, 70})
 TOO_LONG = 68
 # How many bytes are behind an operation that was done, where that is always the same.
 BYTES_DONE = {HELLO: 12, COMMIT: 16, FLUSH: 8, STAT: 16}
+# What a socket says whose peer has ended the connection.
+ENDED = (errno.EPIPE, errno.ECONNRESET, errno.ENOTCONN)
 MOST_IN_BATCH = 40
 # The kinds of frames, and how often each is made.
 OFTEN = {"good": 40, "mutated": 40, "random": 12, "wrong length": 8}
@@ -195,13 +198,19 @@ def check_answers(stream, whole, is_all_sent):
 
 
 def exchange(peer, sent):
-    """All that the port sends to some bytes and their end."""
+    """All that the port sends to some bytes and their end, and whether it took all of them. Where
+    it did not, the system may drop what it sent last."""
     found = bytearray()
-    peer.sendall(sent)
-    peer.shutdown(socket.SHUT_WR)
-    while piece := peer.recv(65536):
-        found += piece
-    return bytes(found)
+    try:
+        peer.sendall(sent)
+        peer.shutdown(socket.SHUT_WR)
+        while piece := peer.recv(65536):
+            found += piece
+    except OSError as fault:
+        if fault.errno not in ENDED:
+            raise
+        return bytes(found), False
+    return bytes(found), True
 
 
 def try_batch(peer, maker):
@@ -214,4 +223,9 @@ def try_batch(peer, maker):
         at += len(frame.sent)
         whole += frame.is_whole and at <= size
     is_all_whole = all(frame.is_whole for frame in frames)
-    return len(frames), check_answers(exchange(peer, sent), whole, is_all_whole)
+    stream, is_taken = exchange(peer, sent)
+    if is_taken:
+        return len(frames), check_answers(stream, whole, is_all_whole)
+    if is_all_whole:
+        raise Unexpected("the port ended the connection")
+    return len(frames), []
