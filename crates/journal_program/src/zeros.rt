@@ -1,6 +1,6 @@
 // Zeros on a block device.
-ghost use Rattle.std.specs.Prelude.{◌≡◌, ◌<◌, ◌≤◌};
-ghost use Rattle.journal_world.specs.declared.layout.TheConstants.{MAX_LAYOUT_BLOCKS};
+ghost use Rattle.std.specs.Prelude.{◌<◌, ◌≤◌, ◌*◌};
+ghost use Rattle.journal_world.specs.declared.layout.TheConstants.{BLOCK_BYTES, MAX_LAYOUT_BLOCKS};
 
 use journal_world::BLOCK_BYTES;
 use std::fs::{File, OpenFile};
@@ -77,11 +77,18 @@ pub(crate) fn zero(file: &File, span: Span) -> io::Result<()> {
     let zeros = [0u8; PIECE_BYTES];
     for piece in 0..(end - first + PIECE_BLOCKS - 1) / PIECE_BLOCKS {
         let at = first + piece * PIECE_BLOCKS;
-        let blocks = (end - at).min(PIECE_BLOCKS);
-        let bytes = blocks as usize * BLOCK_BYTES;
+        let bytes = piece_bytes(end - at);
         file.write_all_at(&zeros[..bytes], at * BLOCK_BYTES as u64)?;
     }
     Ok(())
+}
+
+// How many bytes are written at once where so many blocks are left.
+fn piece_bytes(left: u64) -> usize
+    ensures few { result ≤ PIECE_BYTES }
+    ensures left { result ≤ BLOCK_BYTES * left }
+{
+    left.min(PIECE_BLOCKS) as usize * BLOCK_BYTES
 }
 
 /// A block of the span which has another byte than zero, where one is found. Up to 1024 blocks are
