@@ -34,6 +34,7 @@
 enum { LISTENER = 1 << 24, LISTENER_COPY, FIRST_LINE, MOST_LINES = 64 };
 /* The program's words. No file has the name of its socket, for no call reaches the system. */
 #define SOCKET "/jnl inside this process"
+#define DEVICE_LOCK "/run/lock/palkhuveg-"
 #define MOST_LINES_WORD "64"
 enum { WORDS = 7, FILE_WORD = 2, PARKING_BYTES = 65536, MOST_SILENCE = 240, MOST_SAID = 512 };
 
@@ -80,6 +81,7 @@ static char *words[WORDS];
 static pthread_t host;
 static jmp_buf host_end;
 static int disk = -1;
+static int device_lock = -1; /* of the number of a disk's device, if it is on one */
 
 static __thread struct jnl_line *lent; /* whose stack this thread of C runs on */
 static volatile sig_atomic_t has_forked;
@@ -330,8 +332,9 @@ ssize_t jnl_line_receive(struct jnl_line *l, uint8_t *p, size_t n)
 static void in_child(void)
 {
     has_forked = 1;
-    /* The lock of the file is the parent's alone then. */
+    /* The locks of the file and of its device are the parent's alone then. */
     if (disk >= 0) close(disk);
+    if (device_lock >= 0) close(device_lock);
 }
 
 static void prepare(void)
@@ -467,7 +470,7 @@ void jnl_port_leave(struct jnl_port *p)
     end_program();
     pthread_mutex_lock(&lock);
     free(words[FILE_WORD]);
-    disk = -1;
+    disk = device_lock = -1;
     p->users = 0;
     is_changing = 0;
     pthread_cond_broadcast(&changed);
@@ -540,6 +543,7 @@ int jnl_os_open(const char *path, int flags, mode_t mode)
 {
     int fd = open(path, flags, mode);
     if (fd >= 0 && !strcmp(path, words[FILE_WORD])) disk = fd;
+    if (fd >= 0 && !strncmp(path, DEVICE_LOCK, sizeof DEVICE_LOCK - 1)) device_lock = fd;
     return fd;
 }
 

@@ -1,10 +1,12 @@
 // The command line.
 
+use crate::disks::AskedDevice;
 use crate::fault::Fault;
 use crate::regions::{AskedLayout, Regions, named_regions};
 use crate::serving::Service;
 use clap::{Arg, ArgAction, ArgMatches, Command, value_parser};
 use journal_form::LogForm;
+use journal_program::Zeros;
 use journal_service::Endpoint;
 use journal_world::SLOTS;
 use std::alloc::{AllocError, Global};
@@ -25,6 +27,12 @@ const NFS_NOTES: &str =
 const FILE: &str = "FILE";
 
 const BLOCKS: &str = "blocks";
+
+const DEVICE: &str = "device";
+
+const ZEROED: &str = "zeroed";
+
+const FORCE: &str = "force";
 
 const UNDO: &str = "undo";
 
@@ -56,6 +64,8 @@ pub enum Subcommand<'w> {
         blocks: u64,
         regions: Option<Regions>,
     },
+    /// Make an empty disk of all blocks of a block device.
+    CreateOnDevice(AskedDevice<'w>),
     /// Give the disk in a file a label with these regions, also one that has a label.
     Label {
         path: &'w str,
@@ -66,6 +76,11 @@ pub enum Subcommand<'w> {
     Grow {
         path: &'w str,
         blocks: u64,
+    },
+    /// Give the disk on a block device all blocks of the device.
+    GrowOnDevice {
+        path: &'w str,
+        zeros: Zeros,
     },
     /// Print what the disk in a file is.
     Info {
@@ -110,10 +125,7 @@ impl<'w> Subcommand<'w> {
                 regions: named_regions(given.get_strs(REGION))?,
                 again: given.get_flag(AGAIN),
             }),
-            "grow" => Ok(Subcommand::Grow {
-                path: word(given, FILE)?,
-                blocks: blocks_of(given)?,
-            }),
+            "grow" => parse_grow(given),
             "info" => Ok(Subcommand::Info {
                 path: word(given, FILE)?,
             }),
@@ -140,11 +152,39 @@ fn word<'w>(given: &ArgMatches<'w>, name: &str) -> Result<&'w str, Fault<'w>> {
 }
 
 fn parse_create<'w>(given: &ArgMatches<'w>) -> Result<Subcommand<'w>, Fault<'w>> {
+    if let Some(path) = given.get_str(DEVICE) {
+        return Ok(Subcommand::CreateOnDevice(AskedDevice {
+            path,
+            regions: named_regions(given.get_strs(REGION))?,
+            zeros: zeros_of(given),
+            force: given.get_flag(FORCE),
+        }));
+    }
     Ok(Subcommand::Create {
         path: word(given, FILE)?,
         blocks: blocks_of(given)?,
         regions: named_regions(given.get_strs(REGION))?,
     })
+}
+
+fn parse_grow<'w>(given: &ArgMatches<'w>) -> Result<Subcommand<'w>, Fault<'w>> {
+    if let Some(path) = given.get_str(DEVICE) {
+        let zeros = zeros_of(given);
+        return Ok(Subcommand::GrowOnDevice { path, zeros });
+    }
+    Ok(Subcommand::Grow {
+        path: word(given, FILE)?,
+        blocks: blocks_of(given)?,
+    })
+}
+
+// How the blocks of a device are to come to be zeros.
+fn zeros_of(given: &ArgMatches<'_>) -> Zeros {
+    if given.get_flag(ZEROED) {
+        Zeros::Found
+    } else {
+        Zeros::Written
+    }
 }
 
 // The number of blocks that a subcommand requires.
@@ -216,16 +256,29 @@ fn command<'w>(alloc: Global) -> Result<Command<'w>, AllocError> {
 }
 
 fn create_command<'w>(alloc: Global) -> Result<Command<'w>, AllocError> {
+    let force = Arg::new(alloc, FORCE)
+        .long(FORCE)
+        .action(ArgAction::SetTrue)
+        .requires_arg(DEVICE)?
+        .conflicts_with(FILE)?
+        .help("Destroys what the device holds");
+    let blocks = blocks_arg(
+        alloc,
+        "How many blocks of 4096 bytes the disk has, 532 to 1099511627776",
+    );
     Command::new(alloc, "create")
-        .about("Makes an empty disk with a sealed log in a new file")
+        .about("Makes an empty disk with a sealed log in a new file, or on a block device")
         .after_help(
-            "Refused where FILE is there. When it is done, FILE's name and the room of the log are stable. The other blocks take room once they are written. FILE keeps N and the regions in a label, and serve takes them from it. Without --region a disk of at most 33299 blocks has the regions 513:block 514:bit 515:record128 531:block, and a larger one is served with --region alone.",
+            "Give FILE and --blocks, or --device.\n\nRefused where FILE is there. When it is done, FILE's name and the room of the log are stable. The other blocks take room once they are written. FILE keeps N and the regions in a label, and serve takes them from it. Without --region a disk of at most 33299 blocks has the regions 513:block 514:bit 515:record128 531:block, and a larger one is served with --region alone.\n\nOn a block device the disk has all whole blocks of the device, and they become zeros; a line after each tenth says how far it is. Refused, unless --force is given, where the device holds a disk of jnl, a file system, a partition table, another known content, or other bytes than zeros where the log is to be. It is not seen whether the device is mounted: see that before --force. Where it is stopped, no program uses the device as a disk; call it again with --force.\n\nWith --zeroed the blocks are zeros already, as after blkdiscard -z PATH. Then 1024 of them are read, and the others are trusted: an object has at first what its block has.",
         )
-        .arg(file_arg(alloc, "The file to make"))?
-        .arg(blocks_arg(
+        .arg(or_device(file_arg(alloc, "The file to make"))?)?
+        .arg(or_device(blocks)?)?
+        .arg(device_arg(
             alloc,
-            "How many blocks of 4096 bytes the disk has, 532 to 1099511627776",
+            "The block device to make a disk of, in place of FILE",
         ))?
+        .arg(zeroed_arg(alloc)?)?
+        .arg(force)?
         .arg(region_arg(alloc))
 }
 
@@ -250,10 +303,15 @@ fn grow_command<'w>(alloc: Global) -> Result<Command<'w>, AllocError> {
     Command::new(alloc, "grow")
         .about("Gives a disk more blocks, which are zeros")
         .after_help(
-            "Refused while a program has FILE, where the disk has more blocks, where it is one of the file service, and above 33299 blocks where its label has no regions. The last region takes the new blocks. Where it was stopped, the disk has its old number of blocks or the new one; call it again.",
+            "Give FILE and --blocks, or --device.\n\nRefused while a program has FILE, where the disk has more blocks, where it is one of the file service, and above 33299 blocks where its label has no regions. The last region takes the new blocks. Where it was stopped, the disk has its old number of blocks or the new one; call it again.\n\nA disk on a block device takes all blocks of the device. It must have a label. The new blocks become zeros; a line after each tenth says how far it is. With --zeroed they are zeros already: 1024 of them are read, and the others are trusted.",
         )
-        .arg(file_arg(alloc, "The file of the disk"))?
-        .arg(blocks_arg(alloc, "How many blocks of 4096 bytes the disk has then"))
+        .arg(or_device(file_arg(alloc, "The file of the disk"))?)?
+        .arg(or_device(blocks_arg(alloc, "How many blocks of 4096 bytes the disk has then"))?)?
+        .arg(device_arg(
+            alloc,
+            "The block device of the disk, which has become longer, in place of FILE",
+        ))?
+        .arg(zeroed_arg(alloc)?)
 }
 
 fn info_command<'w>(alloc: Global) -> Result<Command<'w>, AllocError> {
@@ -355,6 +413,31 @@ fn blocks_arg<'w>(alloc: Global, help: &'w str) -> Arg<'w> {
         .required(true)
         .value_parser(value_parser!(u64).range(532..=1099511627776))
         .help(help)
+}
+
+// A block device, in place of a file.
+fn device_arg<'w>(alloc: Global, help: &'w str) -> Arg<'w> {
+    Arg::new(alloc, DEVICE)
+        .long(DEVICE)
+        .value_name("PATH")
+        .help(help)
+}
+
+// The same argument, which is required where no block device is named, and goes with none.
+fn or_device<'w>(arg: Arg<'w>) -> Result<Arg<'w>, AllocError> {
+    arg.required(false)
+        .required_unless_present(DEVICE)?
+        .conflicts_with(DEVICE)
+}
+
+// That the blocks of a device are zeros.
+fn zeroed_arg<'w>(alloc: Global) -> Result<Arg<'w>, AllocError> {
+    Arg::new(alloc, ZEROED)
+        .long(ZEROED)
+        .action(ArgAction::SetTrue)
+        .help("The blocks are zeros already, as after blkdiscard -z: only samples are read")
+        .requires_arg(DEVICE)?
+        .conflicts_with(FILE)
 }
 
 // The regions of a disk.

@@ -2,20 +2,33 @@
 
 use crate::checking::sound_version;
 use crate::fault::Fault;
-use crate::labels::label_of;
+use crate::labels::{label_of, print_label};
 use crate::regions::{RegionWords, Regions};
 use journal_disk::BlockDisk;
 use journal_form::{LogForm, change_form};
 use journal_inode::FormatVersion;
 use journal_program::{
-    DiskFacts, FoundDisk, Label, SizedDisk, ToCheck, create_labeled_disk, find_disk, is_disk_size,
-    open_to_check,
+    DiskFacts, FoundDisk, Label, SizedDisk, ToCheck, Zeros, create_labeled_disk, find_device,
+    find_disk, is_disk_size, open_to_check,
 };
 use journal_world::Refused;
 use std::alloc::Global;
 use std::fs::{File, Files};
 use std::io::Write;
 use std::{fs, io};
+
+/// A disk on a block device that is asked for.
+#[derive(Clone, Copy)]
+pub struct AskedDevice<'w> {
+    /// The path of the device.
+    pub path: &'w str,
+    /// The regions of its layout, where any are named.
+    pub regions: Option<Regions>,
+    /// How its blocks come to be zeros.
+    pub zeros: Zeros,
+    /// Whether what the device holds is to be destroyed.
+    pub force: bool,
+}
 
 /// Makes an empty disk of this number of blocks, 532 to 2^40, in a new file at the path. Its log is
 /// sealed, and its label has the number of blocks and the regions of its layout. Where none are
@@ -44,6 +57,46 @@ pub fn create<'w, R: Files<File = File>>(
     }
     sealed?;
     Ok(())
+}
+
+/// Makes an empty disk of all blocks of the block device at the path, and prints its label. The log
+/// and the label are as by `create`. What was on the device is gone. A line in `faults` after each
+/// tenth says how far it is.
+///
+/// Where it does not come to its end, no program uses the device as a disk.
+///
+/// # Errors
+/// - The path is not that of a block device, another program has it, or its lock cannot be had.
+/// - It has fewer blocks than a disk.
+/// - It holds something, and this is not to be destroyed.
+/// - It is to have zeros already, and a block has others. Nothing was written until then.
+/// - The system's reason, where the device cannot be read or written; and J1 `NoMemory`.
+pub fn create_on_device<'w, R: Files<File = File>, O: Write, E: Write>(
+    rt: &R,
+    alloc: Global,
+    device: AskedDevice<'w>,
+    output: &mut O,
+    faults: &mut E,
+) -> Result<(), Fault<'w>> {
+    let path = device.path;
+    let found = match find_device(rt, alloc, path) {
+        Ok(found) => found,
+        Err(why) => return Err(Fault::unopened(path, why)),
+    };
+    let blocks = found.blocks;
+    if let Some(content) = found.content
+        && !device.force
+    {
+        return Err(Fault::Holds { path, content });
+    }
+    let Some(label) = label_of(blocks, device.regions) else {
+        return Err(Fault::NoDisk { path, blocks });
+    };
+    match found.make(alloc, path, &label, device.zeros, faults) {
+        Ok(disk) => give_form(alloc, path, disk, LogForm::Sealed)?,
+        Err(why) => return Err(Fault::unopened(path, why)),
+    };
+    print_label(&label, output)
 }
 
 /// Prints the number of blocks of the disk, the form of its log, whether it is a disk of the file

@@ -2,7 +2,7 @@
 ghost use Rattle.std.specs.Prelude.{◌≤◌};
 
 use crate::regions::OtherRegions;
-use journal_program::{LabelFault, OpenFault};
+use journal_program::{DeviceFault, LabelFault, OpenFault};
 use journal_records::Refused as Answered;
 use journal_service::ServiceFault;
 use journal_world::{
@@ -54,6 +54,24 @@ pub enum Fault<'w> {
     Label {
         path: &'w str,
         why: LabelFault,
+    },
+    /// What is at the path cannot be used as a block device, or a disk is in no such file.
+    Device {
+        path: &'w str,
+        why: DeviceFault,
+    },
+    /// The device at the path holds this.
+    Holds {
+        path: &'w str,
+        content: &'static str,
+    },
+    /// The disk at the path is on a block device, which has its own number of blocks.
+    OnDevice {
+        path: &'w str,
+    },
+    /// The disk on the device at the path has no label, so its old number of blocks is not known.
+    HasNoLabel {
+        path: &'w str,
     },
     /// The disk in the file at the path has a label already.
     HasLabel {
@@ -128,6 +146,7 @@ impl<'w> Fault<'w> {
             OpenFault::File(why) => Fault::File { path, why },
             OpenFault::NoDisk { blocks } => Fault::NoDisk { path, blocks },
             OpenFault::Label(why) => Fault::Label { path, why },
+            OpenFault::Device(why) => Fault::Device { path, why },
             OpenFault::Refused(why) => Fault::Refused { path, why },
         }
     }
@@ -141,6 +160,7 @@ impl<'w> Fault<'w> {
             },
             ServiceFault::CannotListen => Fault::CannotListen,
             ServiceFault::Label(why) => Fault::Label { path, why },
+            ServiceFault::Device(why) => Fault::Device { path, why },
             ServiceFault::Refused(why) => Fault::Refused { path, why },
             ServiceFault::CannotWrite => Fault::CannotWrite,
         }
@@ -180,6 +200,10 @@ impl<'w> Fault<'w> {
             | Fault::NoDisk { .. }
             | Fault::NeedsRegions { .. }
             | Fault::Label { .. }
+            | Fault::Device { .. }
+            | Fault::Holds { .. }
+            | Fault::OnDevice { .. }
+            | Fault::HasNoLabel { .. }
             | Fault::HasLabel { .. }
             | Fault::OtherRegions { .. }
             | Fault::TellsNoRegions { .. }
@@ -235,6 +259,19 @@ impl<'w> Fault<'w> {
                 "jnl: {path} has {blocks} blocks, and more than {MAX_BLOCKS} are served by --region alone"
             ),
             Fault::Label { path, why } => writeln!(faults, "jnl: {path} {why}"),
+            Fault::Device { path, why } => writeln!(faults, "jnl: {path} {why}"),
+            Fault::Holds { path, content } => writeln!(
+                faults,
+                "jnl: {path} holds {content}, which create --device destroys with --force alone"
+            ),
+            Fault::OnDevice { path } => writeln!(
+                faults,
+                "jnl: {path} is a block device; grow --device takes all its blocks"
+            ),
+            Fault::HasNoLabel { path } => writeln!(
+                faults,
+                "jnl: {path} has no label, without which nobody knows which of its blocks are new"
+            ),
             Fault::HasLabel { path } => writeln!(
                 faults,
                 "jnl: {path} has a label already; with --again it gets another one"

@@ -8,9 +8,10 @@ ghost use Rattle.jnl.specs.Layouts.{told_of};
 use crate::fault::Fault;
 use crate::regions::{OtherRegions, RegionWords, Regions};
 use journal_program::{
-    DiskFacts, DiskToLabel, Label, LabelFault, OpenFault, UNTOLD, find_disk_to_label,
+    DeviceFault, DiskFacts, DiskToLabel, Label, LabelFault, OpenFault, UNTOLD, Zeros,
+    find_disk_to_label,
 };
-use journal_world::Layout;
+use journal_world::{Layout, MAX_LAYOUT_BLOCKS};
 use std::alloc::Global;
 use std::fs::{File, Files};
 use std::io::Write;
@@ -78,8 +79,8 @@ pub fn label<'w, R: Files<File = File>, O: Write>(
 /// Gives the disk in the file at the path `blocks` blocks, and prints its label. The new blocks are
 /// zeros. A disk without a label gets one, with the regions of files.
 ///
-/// Refused as a disk is that is opened to be written, where it has more blocks, where it is a disk
-/// of the file service, and where it would have more than 33299 blocks and no label names its
+/// Refused as a disk is that is opened to be written, where it is on a block device, where it has
+/// more blocks, where it is a disk of the file service, and where it would have more than 33299 blocks and no label names its
 /// regions.
 pub fn grow<'w, R: Files<File = File>, O: Write>(
     rt: &R,
@@ -88,16 +89,10 @@ pub fn grow<'w, R: Files<File = File>, O: Write>(
     blocks: u64,
     output: &mut O,
 ) -> Result<(), Fault<'w>> {
-    let found = find_to_label(rt, alloc, path)?;
+    let found = find_to_grow(rt, alloc, path)?;
     let facts = found.facts;
-    if found.has_bad_label {
-        return Err(Fault::Label {
-            path,
-            why: LabelFault::Bad,
-        });
-    }
-    if facts.has_files {
-        return Err(Fault::CannotGrow { path });
+    if found.is_device {
+        return Err(Fault::OnDevice { path });
     }
     if blocks < facts.blocks {
         return Err(Fault::Smaller {
@@ -110,6 +105,63 @@ pub fn grow<'w, R: Files<File = File>, O: Write>(
     };
     done(path, found.grow(alloc, &label))?;
     print_label(&label, output)
+}
+
+/// Gives the disk on the block device at the path all blocks of the device, and prints its label.
+/// The new blocks are zeros. A line in `faults` after each tenth says how far it is.
+///
+/// Where it does not come to its end, the disk has its old number of blocks.
+///
+/// # Errors
+/// - As for a disk that is opened to be written.
+/// - It is not on a block device, it is a disk of the file service, or it has no label.
+/// - It would have more than 33299 blocks, and its label does not tell its regions.
+/// - The new blocks are to be zeros already, and one is not. Nothing was written.
+pub fn grow_on_device<'w, R: Files<File = File>, O: Write, E: Write>(
+    rt: &R,
+    alloc: Global,
+    path: &'w str,
+    zeros: Zeros,
+    output: &mut O,
+    faults: &mut E,
+) -> Result<(), Fault<'w>> {
+    let found = find_to_grow(rt, alloc, path)?;
+    let facts = found.facts;
+    if !found.is_device {
+        return Err(Fault::Device {
+            path,
+            why: DeviceFault::NoDevice,
+        });
+    }
+    if facts.label.is_none() {
+        return Err(Fault::HasNoLabel { path });
+    }
+    let blocks = found.in_file.min(MAX_LAYOUT_BLOCKS);
+    let Some(label) = grown_label(&facts, blocks) else {
+        return Err(Fault::TellsNoRegions { path });
+    };
+    done(path, found.grow_device(alloc, path, &label, zeros, faults))?;
+    print_label(&label, output)
+}
+
+// Looks at the disk at the path, which is to get more blocks: its label is well formed or is not
+// there, and it is no disk of the file service.
+fn find_to_grow<'w, R: Files<File = File>>(
+    rt: &R,
+    alloc: Global,
+    path: &'w str,
+) -> Result<DiskToLabel, Fault<'w>> {
+    let found = find_to_label(rt, alloc, path)?;
+    if found.has_bad_label {
+        return Err(Fault::Label {
+            path,
+            why: LabelFault::Bad,
+        });
+    }
+    if found.facts.has_files {
+        return Err(Fault::CannotGrow { path });
+    }
+    Ok(found)
 }
 
 // The label of a disk that is to have `blocks` blocks. A disk without a label has the regions of
@@ -168,8 +220,8 @@ fn done<'w>(path: &'w str, written: Result<(), OpenFault>) -> Result<(), Fault<'
     }
 }
 
-// Prints the number of blocks and the regions of a label.
-fn print_label<'w, O: Write>(label: &Label, output: &mut O) -> Result<(), Fault<'w>> {
+/// Prints the number of blocks and the regions of a label.
+pub fn print_label<'w, O: Write>(label: &Label, output: &mut O) -> Result<(), Fault<'w>> {
     let regions = RegionWords(label.told());
     let printed = writeln!(output, "blocks {}\nregions {regions}", label.blocks);
     match printed.and_then(|()| output.flush()) {

@@ -1,4 +1,5 @@
-//! The journal at the command line. `jnl create` makes an empty disk in a file, `jnl info` prints
+//! The journal at the command line. `jnl create` makes an empty disk in a file or on a block device,
+//! `jnl info` prints
 //! what a disk is, `jnl check` whether it is sound, and `jnl seal` gives its log the form with one
 //! barrier a group, or the plain form again. `jnl label` gives a disk its label, and `jnl grow` more
 //! blocks. `jnl serve` serves a disk to programs in any language,
@@ -82,12 +83,18 @@ fn obey<
             blocks,
             regions,
         } => disks::create(rt, alloc, path, blocks, regions),
+        Subcommand::CreateOnDevice(device) => {
+            disks::create_on_device(rt, alloc, device, output, faults)
+        }
         Subcommand::Label {
             path,
             regions,
             again,
         } => labels::label(rt, alloc, path, regions, again, output),
         Subcommand::Grow { path, blocks } => labels::grow(rt, alloc, path, blocks, output),
+        Subcommand::GrowOnDevice { path, zeros } => {
+            labels::grow_on_device(rt, alloc, path, zeros, output, faults)
+        }
         Subcommand::Info { path } => disks::info(rt, alloc, path, output, faults),
         Subcommand::Check { path } => disks::check(rt, alloc, path, output, faults),
         Subcommand::Seal { path, form } => disks::seal(rt, alloc, path, form, output),

@@ -4,12 +4,12 @@ use crate::fault::Fault;
 use journal_records::{Answer, Input, Next, Request, VERSION, write_request};
 use std::alloc::Global;
 use std::fs::Files;
-use std::io::{Read, Write};
+use std::io::{ErrorKind, Read, Write};
 use std::net::Net;
 use std::os::unix::fs::MetadataExt;
 use std::os::unix::net::UnixStream;
-use std::time::{Clock, Duration};
-use std::{fs, thread};
+use std::time::{Clock, Duration, SystemTime};
+use std::{fs, io, thread};
 
 // The most bytes that are read at once.
 const PIECE_BYTES: usize = 4096;
@@ -34,7 +34,7 @@ pub fn stop<'w, R: Files + Net + Clock>(
     ask_to_stop(rt, alloc, socket)?;
     for _ in 0..LOOKS {
         // A service removes its socket once its disk is closed. Another one may be there by then.
-        if node_at(rt, socket) != node {
+        if !is_there(rt, socket, &node) {
             return Ok(());
         }
         thread::sleep(rt, Duration::from_millis(PAUSE_MILLIS));
@@ -42,10 +42,30 @@ pub fn stop<'w, R: Files + Net + Clock>(
     Err(Fault::NotEnded { socket })
 }
 
-// The number of the socket's node in its file system, where there is one.
-fn node_at<R: Files>(rt: &R, socket: &str) -> Option<u64> {
-    let found = fs::symlink_metadata(rt, socket).ok()?;
-    Some(found.ino())
+// What a node is known by: its number in its file system, and the moment since which it is there. A
+// file system may give a number again.
+#[derive(Clone, Copy, PartialEq, Eq)]
+struct Node {
+    number: u64,
+    born: Option<SystemTime>,
+}
+
+// The node at the path of a socket.
+fn node_at<R: Files>(rt: &R, socket: &str) -> io::Result<Node> {
+    let found = fs::symlink_metadata(rt, socket)?;
+    Ok(Node {
+        number: found.ino(),
+        born: found.created().ok(),
+    })
+}
+
+// True if the node is at the path, or the system does not say whether it is.
+fn is_there<R: Files>(rt: &R, socket: &str, node: &io::Result<Node>) -> bool {
+    match (node_at(rt, socket), node) {
+        (Ok(found), Ok(node)) => found == *node,
+        (Err(why), _) => why.kind() != ErrorKind::NotFound,
+        (Ok(_), Err(_)) => true,
+    }
 }
 
 // Asks the service at the socket to end, and waits until all its commits are stable.

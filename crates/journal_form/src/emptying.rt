@@ -1,5 +1,5 @@
 // The log becomes empty: each of its updates is brought home.
-ghost use Rattle.std.specs.Prelude.{◌≡◌, ◌<◌, ◌≤◌, ◌+◌, false, IsTrue, OnOk, OnErr, IfErr};
+ghost use Rattle.std.specs.Prelude.{◌≡◌, ◌<◌, ◌≤◌, ◌+◌, false, IsTrue, IsOk, OnOk, OnErr, IfErr};
 ghost use Rattle.journal_disk.specs.Disks.{Keeps};
 ghost use Rattle.journal_circ.specs.Ring.{IsFault};
 ghost use Rattle.journal_form.specs.Emptying.{Rests, StaysThroughout, BringsUpdate, BringsHome, IsEmptied};
@@ -24,6 +24,7 @@ pub(crate) fn empty<D: BlockDisk>(
     ensures keeps { Keeps circ.old.disk circ.new.disk }
     ensures crash { IsTrue circ.old.disk.honest → StaysThroughout circ.old circ.new.disk.past }
     ensures emptied { OnOk result (IsEmptied circ.old circ.new) }
+    ensures nothing { circ.old.extent.start ≡ circ.old.extent.end → IsOk result × (circ.new ≡ circ.old) }
 {
     let (start, end) = (circ.start(), circ.end());
     if start == end {

@@ -1,5 +1,6 @@
 -- What a disk tells of itself in block 1: the label.
 use Rattle.std.specs.Prelude.{ℕ, ◌≡◌, ◌≢◌, ◌<◌, ◌≤◌, ◌+◌, ◌*◌, IsTrue, List, length, Option, Some, None, ◌==◌, if◌then◌else◌, slice_index_or}
+use Rattle.journal_world.specs.declared.address.Kind.TheVariants.{Block}
 use Rattle.journal_world.specs.declared.layout.Region.{Region}
 use Rattle.journal_world.specs.declared.layout.TheConstants.{MIN_BLOCKS, MAX_LAYOUT_BLOCKS, REGIONS, UNUSED}
 use Rattle.journal_world.specs.Addresses.{are_regions, bits_of}
@@ -16,8 +17,14 @@ first_of regions = (slice_index_or regions 0 no_region).first
 abbrev pub AreUnused : List Region → Type 0
 AreUnused regions = (k : ℕ) → k < REGIONS → (slice_index_or regions k no_region).first ≡ UNUSED
 
--- A layout has such regions, or none is in use
+-- each region that is not in use is written as one of blocks
+abbrev pub UnusedAreBlocks : List Region → Type 0
+UnusedAreBlocks regions = (k : ℕ) → k < REGIONS → (slice_index_or regions k no_region).first ≡ UNUSED
+    → (slice_index_or regions k no_region).kind ≡ Block
+
+-- A layout has such regions, or none is in use; and those that are not in use are those of blocks
 pub record AreTold (regions : List Region) : Type 0 where
+  pub kinds : UnusedAreBlocks regions
   pub used : first_of regions ≢ UNUSED → IsTrue (are_regions regions)
   pub unused : first_of regions ≡ UNUSED → AreUnused regions
 

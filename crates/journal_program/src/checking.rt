@@ -1,15 +1,15 @@
 // Disks that are opened to be checked.
 
+use crate::device::{DeviceLock, Medium, lock_medium, medium_of};
 use crate::disk::SizedDisk;
-use crate::fault::OpenFault;
-use crate::file::{lock, open_file, open_to_write};
+use crate::fault::{DeviceFault, OpenFault};
+use crate::file::{LockedFile, lock, open_file, open_to_write};
 use crate::inspecting::{DiskFacts, inspect_file};
 use crate::settled::Settled;
 use crate::system::{KEEPS_NO_LOCKS, TAKES_NO_SYNC, is_done, may_only_be_read};
 use os::RangeLock;
 use std::alloc::Global;
 use std::fs::{File, Files, OpenFile, OpenOptions};
-use std::io;
 use std::io::Write;
 
 /// A disk that is to be checked.
@@ -33,11 +33,11 @@ pub fn open_to_check<R: Files<File = File>, E: Write>(
     path: &str,
     faults: &mut E,
 ) -> Result<ToCheck, OpenFault> {
-    let file = open_file_to_check(rt, path, faults)?;
+    let LockedFile { file, lock } = open_file_to_check(rt, alloc, path, faults)?;
     let facts = inspect_file(alloc, &file)?;
     let disk = SizedDisk::over(file, facts.blocks)?;
     Ok(ToCheck {
-        disk: Settled::unwritten(disk),
+        disk: Settled::unwritten(disk.locked(lock)),
         facts,
     })
 }
@@ -46,31 +46,49 @@ pub fn open_to_check<R: Files<File = File>, E: Write>(
 // system lets.
 fn open_file_to_check<R: Files<File = File>, E: Write>(
     rt: &R,
+    alloc: Global,
     path: &str,
     faults: &mut E,
-) -> io::Result<File> {
-    match open_to_write(rt, path) {
-        Ok(file) => {
-            file.sync_data()?;
-            Ok(file)
+) -> Result<LockedFile, OpenFault> {
+    match open_to_write(rt, alloc, path) {
+        Ok(locked) => {
+            locked.file.sync_data()?;
+            Ok(locked)
         }
-        Err(e) if may_only_be_read(&e) => open_to_read(rt, path, faults),
-        Err(e) => Err(e),
+        Err(OpenFault::File(e)) if may_only_be_read(&e) => open_to_read(rt, alloc, path, faults),
+        Err(why) => Err(why),
     }
 }
 
 // Opens a file that may only be read. Where a warning cannot be printed, nobody can be warned.
 fn open_to_read<R: Files<File = File>, E: Write>(
     rt: &R,
+    alloc: Global,
     path: &str,
     faults: &mut E,
-) -> io::Result<File> {
+) -> Result<LockedFile, OpenFault> {
     let file = open_file(rt, &mut OpenOptions::new(), path)?;
-    if !is_done(lock(&file, RangeLock::Shared), KEEPS_NO_LOCKS)? {
+    let medium = medium_of(&file)?;
+    let is_locked = is_done(lock(&file, RangeLock::Shared), KEEPS_NO_LOCKS)?;
+    let lock = lock_to_read(rt, alloc, medium)?;
+    if !is_locked || lock.is_none() && medium != Medium::Ordinary {
         let _ = writeln!(faults, "{path} is checked without a lock");
     }
     if !is_done(file.sync_data(), TAKES_NO_SYNC)? {
         let _ = writeln!(faults, "{path} is checked without a sync");
     }
-    Ok(file)
+    Ok(LockedFile { file, lock })
+}
+
+// Locks the device that the medium is, together with others that read it. `None` also where the
+// file of its lock cannot be had.
+fn lock_to_read<R: Files<File = File>>(
+    rt: &R,
+    alloc: Global,
+    medium: Medium,
+) -> Result<Option<DeviceLock>, OpenFault> {
+    match lock_medium(rt, alloc, medium, RangeLock::Shared) {
+        Err(OpenFault::Device(DeviceFault::NoLock { .. })) => Ok(None),
+        locked => locked,
+    }
 }

@@ -3,6 +3,7 @@ ghost use Rattle.std.specs.Prelude.{◌≡◌, ◌<◌, ◌≤◌, IsTrue, OnOk,
 ghost use Rattle.journal_disk.specs.Disks.{Keeps, HasFailed, MayHaveHappened, write, barrier, read_of, past_after};
 ghost use Rattle.journal_disk.specs.FileDisks.{file_state, with_told, with_failure};
 
+use crate::device::DeviceLock;
 use journal_block::Block;
 use journal_disk::{BlockDisk, DiskFault, FileDisk};
 use std::fs::File;
@@ -18,6 +19,9 @@ use std::marker::Model;
 pub struct SizedDisk {
     file: FileDisk,
     blocks: u64,
+    // The lock of the device by its number, where the file is one. It is held as long as the disk
+    // is open.
+    _lock: Option<DeviceLock>,
     ghost inside: { blocks ≤ file.size },
 }
 
@@ -41,7 +45,22 @@ impl SizedDisk {
         if file.size() < blocks {
             return Err(io::Error::from(ErrorKind::UnexpectedEof));
         }
-        Ok(SizedDisk { file, blocks })
+        Ok(SizedDisk {
+            file,
+            blocks,
+            _lock: None,
+        })
+    }
+
+    /// The same disk, which holds the lock of its device.
+    pub(crate) fn locked(self, lock: Option<DeviceLock>) -> SizedDisk
+        ensures { result ≡ self }
+    {
+        SizedDisk {
+            file: self.file,
+            blocks: self.blocks,
+            _lock: lock,
+        }
     }
 }
 

@@ -1,5 +1,6 @@
 // Why a disk in a file is not opened.
 
+use crate::device::DeviceNumber;
 use journal_world::{MAX_LAYOUT_BLOCKS, MIN_BLOCKS, Refusal};
 use std::{fmt, io};
 
@@ -12,6 +13,8 @@ pub enum OpenFault {
     NoDisk { blocks: u64 },
     /// The label of the disk is not that of the file.
     Label(LabelFault),
+    /// It cannot be used as a block device, or is none.
+    Device(DeviceFault),
     /// J1 `NoMemory` where memory is refused, J6 `DeviceFailed` where the device fails, and J7
     /// `BadLog` where the log is not well formed.
     Refused(Refusal<()>),
@@ -24,6 +27,25 @@ pub enum LabelFault {
     Cut { blocks: u64, labeled: u64 },
     /// The label begins with its name, and is not well formed.
     Bad,
+}
+
+/// Why something cannot be used as a block device, or is none.
+#[derive(Debug, Drop)]
+pub enum DeviceFault {
+    /// It is neither a file nor a block device.
+    NoMedium,
+    /// It is no block device.
+    NoDevice,
+    /// The file of the lock of this device cannot be opened, made or locked, for the system's
+    /// reason.
+    NoLock {
+        number: DeviceNumber,
+        why: io::Error,
+    },
+    /// This block is to be zeros, and has another byte.
+    NotZeros {
+        block: u64,
+    },
 }
 
 impl From<io::Error> for OpenFault {
@@ -42,6 +64,7 @@ impl fmt::Display for OpenFault {
                 "has {blocks} blocks, and a disk has {MIN_BLOCKS} to {MAX_LAYOUT_BLOCKS}"
             ),
             OpenFault::Label(why) => write!(f, "{why}"),
+            OpenFault::Device(why) => write!(f, "{why}"),
             OpenFault::Refused(why) => write!(f, "is refused: {}", why.name()),
         }
     }
@@ -58,6 +81,25 @@ impl fmt::Display for LabelFault {
                 )
             }
             LabelFault::Bad => f.write_str("has a label that is not well formed"),
+        }
+    }
+}
+
+/// What follows the path of the device in a line.
+impl fmt::Display for DeviceFault {
+    fn fmt<W: fmt::Write>(&self, f: &mut fmt::Formatter<W>) -> fmt::Result {
+        match self {
+            DeviceFault::NoMedium => f.write_str("is neither a file nor a block device"),
+            DeviceFault::NoDevice => f.write_str("is no block device"),
+            DeviceFault::NoLock { number, why } => {
+                write!(
+                    f,
+                    "is locked by {number}, which this user must be able to write, or to make: {why}"
+                )
+            }
+            DeviceFault::NotZeros { block } => {
+                write!(f, "has other bytes than zeros in block {block}")
+            }
         }
     }
 }

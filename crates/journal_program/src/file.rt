@@ -3,6 +3,7 @@ ghost use Rattle.std.specs.Prelude.{◌≡◌, ◌≤◌, IfOk};
 ghost use Rattle.journal_world.specs.declared.layout.TheConstants.{MIN_BLOCKS, MAX_LAYOUT_BLOCKS};
 ghost use Rattle.journal_program.specs.Labels.{IsLabel};
 
+use crate::device::{DeviceLock, lock_medium, medium_of};
 use crate::disk::SizedDisk;
 use crate::fault::OpenFault;
 use crate::label::Label;
@@ -127,11 +128,28 @@ fn keep<R: Files<File = File>>(rt: &R, path: &str, file: &File) -> io::Result<()
     sync_folder(rt, path)
 }
 
-/// Opens the file to be read and written, and locks it.
-pub(crate) fn open_to_write<R: Files<File = File>>(rt: &R, path: &str) -> io::Result<File> {
+/// A file, or a block device, that no other program of this machine uses as long as it is open.
+#[derive(Drop)]
+pub(crate) struct LockedFile {
+    pub(crate) file: File,
+    /// The lock of the device by its number, if it is one.
+    pub(crate) lock: Option<DeviceLock>,
+}
+
+/// Opens the file or the block device to be read and written, and locks it.
+///
+/// Refused for the system's reason, which is `WouldBlock` where another program has it; where it is
+/// neither; where the lock of a device cannot be had; and by J1 `NoMemory`.
+pub(crate) fn open_to_write<R: Files<File = File>>(
+    rt: &R,
+    alloc: Global,
+    path: &str,
+) -> Result<LockedFile, OpenFault> {
     let file = open_file(rt, OpenOptions::new().write(true), path)?;
+    let medium = medium_of(&file)?;
     lock(&file, RangeLock::Exclusive)?;
-    Ok(file)
+    let lock = lock_medium(rt, alloc, medium, RangeLock::Exclusive)?;
+    Ok(LockedFile { file, lock })
 }
 
 /// Opens the file to be read, and what else the options say.

@@ -4,7 +4,7 @@ ghost use Rattle.journal_world.specs.declared.layout.Region.{Region};
 ghost use Rattle.journal_world.specs.declared.layout.TheConstants.{MIN_BLOCKS, MAX_LAYOUT_BLOCKS};
 ghost use Rattle.journal_world.specs.Addresses.{are_regions, bits_of};
 ghost use Rattle.journal_block.specs.Block.{u64_at};
-ghost use Rattle.journal_program.specs.Labels.{IsLabel, AreTold, AreUnused, regions_told, HasRegions, HasZeros, HasLabel};
+ghost use Rattle.journal_program.specs.Labels.{IsLabel, AreTold, AreUnused, UnusedAreBlocks, regions_told, HasRegions, HasZeros, HasLabel};
 
 use journal_block::Block;
 use journal_world::{
@@ -64,7 +64,8 @@ impl Label {
     /// The label of a disk of so many blocks with these regions.
     ///
     /// `None` where there are fewer than 532 or more than 2^40 blocks; and where regions are in
-    /// use, but do not begin at block 513, do not rise, or have one in use behind one that is not.
+    /// use, but do not begin at block 513, do not rise, or have one in use behind one that is not;
+    /// and where one that is not in use has another kind than that of blocks.
     pub fn new(blocks: u64, regions: [Region; REGIONS]) -> Option<Label>
         ensures valid { IsSome result ↔ IsLabel (record { blocks = blocks; regions = regions }) }
         ensures value { IfSome result (λ label. label ≡ record { blocks = blocks; regions = regions }) }
@@ -94,6 +95,16 @@ impl Label {
         block.put_u64(BLOCKS_AT, self.blocks);
         write_regions(block, &self.regions);
         write_zeros(block);
+    }
+
+    /// Writes the name of a label into block 1, and no label of any version: `Label::read` refuses
+    /// it. So each program refuses a disk that is not made to its end.
+    pub(crate) fn write_unfinished(block: &mut Block)
+        ensures named { u64_at block.new 8 ≡ MAGIC }
+        ensures no_label { (label : Label) → HasLabel block.new label → ⊥ }
+    {
+        block.put_u64(MAGIC_AT, MAGIC);
+        block.put_u64(VERSION_AT, 0);
     }
 
     /// Reads the label in block 1: `None` where it does not begin with the label's name.
@@ -136,6 +147,9 @@ pub fn is_disk_size(blocks: u64) -> bool
 fn are_told(regions: &[Region; REGIONS]) -> bool
     ensures { IsTrue result ↔ AreTold regions.now }
 {
+    if !unused_are_blocks(regions) {
+        return false;
+    }
     if regions[0].first == UNUSED {
         return are_unused(regions);
     }
@@ -153,6 +167,25 @@ fn are_unused(regions: &[Region; REGIONS]) -> bool
         }
     }
     true
+}
+
+// True if each region that is not in use has the kind of blocks, as `Label::write` has it.
+fn unused_are_blocks(regions: &[Region; REGIONS]) -> bool
+    ensures { IsTrue result ↔ UnusedAreBlocks regions.now }
+{
+    for index in 0..REGIONS {
+        if regions[index].first == UNUSED && !is_block(regions[index].kind) {
+            return false;
+        }
+    }
+    true
+}
+
+// True if the kind is that of blocks.
+fn is_block(kind: Kind) -> bool
+    ensures { IsTrue result ↔ (kind ≡ Kind.Block) }
+{
+    matches!(kind, Kind::Block)
 }
 
 // Writes the two numbers of each region.

@@ -46,11 +46,28 @@ pub(crate) fn write_label(alloc: Global, file: &File, label: &Label) -> Result<(
     Ok(())
 }
 
+/// Writes block 1 of a file as that of a disk which is not made to its end: each program refuses
+/// the label. The start of the log becomes 0.
+///
+/// Refused for the system's reason, and by J1 `NoMemory`.
+pub(crate) fn write_unfinished_label(alloc: Global, file: &File) -> Result<(), OpenFault> {
+    let mut block = new_block(alloc)?;
+    Label::write_unfinished(&mut block);
+    file.write_all_at(block.as_bytes(), LABEL_AT)?;
+    Ok(())
+}
+
 // Reads block 1.
 fn read_label_block(alloc: Global, file: &File) -> Result<Block, OpenFault> {
-    let Ok(mut block) = Block::try_new::<()>(alloc) else {
-        return Err(OpenFault::Refused(Refusal::NoMemory));
-    };
+    let mut block = new_block(alloc)?;
     file.read_exact_at(block.as_mut_bytes(), LABEL_AT)?;
     Ok(block)
+}
+
+// A block of zeros.
+fn new_block(alloc: Global) -> Result<Block, OpenFault> {
+    match Block::try_new::<()>(alloc) {
+        Ok(block) => Ok(block),
+        Err(_) => Err(OpenFault::Refused(Refusal::NoMemory)),
+    }
 }

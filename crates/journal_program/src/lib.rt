@@ -2,7 +2,8 @@
 //! they keep what they print apart from the disk, and they run the logger and the installer of a
 //! journal in threads of their own.
 //!
-//! All programs take one lock, so a disk has one program at a time. A disk is opened as a journal
+//! All programs take one lock, so a disk has one program at a time. On a block device they take a
+//! second one, by the device's number, because the first is that of one node. A disk is opened as a journal
 //! only once nothing is pending on it: `Settled`. One that is to be written is looked at first, and
 //! then settled (`FoundDisk`): its log is written as it reads, and all writes are made stable. For
 //! where a sync failed before, reads give what the device lacks and no later sync keeps.
@@ -13,28 +14,35 @@
 
 mod checking;
 mod daemon;
+mod device;
 mod disk;
 mod fault;
 mod file;
 mod inspecting;
 mod label;
 mod labeling;
+mod making;
 mod opening;
 mod relabeling;
 mod rewriting;
 mod room;
 mod settled;
+mod signatures;
 mod streams;
 mod system;
+mod zeros;
 
 pub use checking::{ToCheck, open_to_check};
 pub use daemon::Daemon;
+pub use device::DeviceNumber;
 pub use disk::SizedDisk;
-pub use fault::{LabelFault, OpenFault};
+pub use fault::{DeviceFault, LabelFault, OpenFault};
 pub use file::{create_disk, create_labeled_disk, create_new_disk};
 pub use inspecting::DiskFacts;
 pub use label::{BadLabel, Label, UNTOLD, is_disk_size};
+pub use making::{FoundDevice, find_device};
 pub use opening::{FoundDisk, find_disk, open_settled};
 pub use relabeling::{DiskToLabel, find_disk_to_label};
 pub use settled::Settled;
 pub use streams::hold_closed_streams;
+pub use zeros::Zeros;

@@ -1,9 +1,10 @@
 // Disks that are opened to be written.
 ghost use Rattle.std.specs.Prelude.{◌≡◌, IfOk};
 
+use crate::device::DeviceLock;
 use crate::disk::SizedDisk;
 use crate::fault::OpenFault;
-use crate::file::open_to_write;
+use crate::file::{LockedFile, open_to_write};
 use crate::inspecting::{DiskFacts, inspect_file};
 use crate::rewriting::rewrite_log;
 use crate::settled::Settled;
@@ -17,8 +18,9 @@ use std::io;
 pub struct FoundDisk {
     /// What its blocks tell of it.
     pub facts: DiskFacts,
-    // The file of the disk.
+    // The file of the disk, and the lock of its device.
     file: File,
+    lock: Option<DeviceLock>,
 }
 
 impl FoundDisk {
@@ -34,7 +36,7 @@ impl FoundDisk {
         rewrite_log(&self.file)?;
         self.file.sync_data()?;
         let disk = SizedDisk::over(self.file, self.facts.blocks)?;
-        Ok(Settled::synced(disk))
+        Ok(Settled::synced(disk.locked(self.lock)))
     }
 }
 
@@ -43,7 +45,8 @@ impl FoundDisk {
 /// wants.
 ///
 /// The first that applies of these refuses it, with nothing written: the system's reason, which is
-/// `WouldBlock` where another program has the file's lock; a label that is not well formed, or that
+/// `WouldBlock` where another program has the file's lock, or that of the device by its number; that
+/// it is neither a file nor a block device, or that the device's lock cannot be had; a label that is not well formed, or that
 /// says more blocks than the file has; a number of blocks that no disk has; J1 `NoMemory` where
 /// memory is refused, J6 `DeviceFailed` where the device fails, and J7 `BadLog` where the log is
 /// not well formed.
@@ -52,9 +55,9 @@ pub fn find_disk<R: Files<File = File>>(
     alloc: Global,
     path: &str,
 ) -> Result<FoundDisk, OpenFault> {
-    let file = open_to_write(rt, path)?;
+    let LockedFile { file, lock } = open_to_write(rt, alloc, path)?;
     let facts = inspect_file(alloc, &file)?;
-    Ok(FoundDisk { facts, file })
+    Ok(FoundDisk { facts, file, lock })
 }
 
 /// The disk in the file at the path, on which nothing is pending, and which no other program uses

@@ -3,15 +3,19 @@ ghost use Rattle.std.specs.Prelude.{◌≤◌, IfOk};
 ghost use Rattle.std.specs.Option.{ForSome};
 ghost use Rattle.journal_program.specs.Labels.{IsLabel};
 
+use crate::device::DeviceLock;
 use crate::fault::{LabelFault, OpenFault};
-use crate::file::open_to_write;
+use crate::file::{LockedFile, open_to_write};
 use crate::inspecting::{DiskFacts, blocks_in, inspect_labeled};
 use crate::label::Label;
 use crate::labeling::{read_label, write_label};
+use crate::making::refuse_others;
 use crate::rewriting::rewrite_log;
+use crate::zeros::{Span, Zeros, zero_by_tenths};
 use journal_world::BLOCK_BYTES;
 use std::alloc::Global;
 use std::fs::{File, Files, OpenFile};
+use std::io::Write;
 
 /// A disk in a file that no other program uses as long as it is open, and that is to have another
 /// label. Its log is well formed, and nothing was written to it.
@@ -21,8 +25,13 @@ pub struct DiskToLabel {
     pub facts: DiskFacts,
     /// Whether it has a label that is not well formed.
     pub has_bad_label: bool,
-    // The file of the disk.
+    /// How many whole blocks its file or its device has.
+    pub in_file: u64,
+    /// Whether it is on a block device.
+    pub is_device: bool,
+    // The file of the disk, and the lock of its device.
     file: File,
+    _lock: Option<DeviceLock>,
 }
 
 impl DiskToLabel {
@@ -51,6 +60,39 @@ impl DiskToLabel {
         self.label(alloc, label)
     }
 
+    /// Gives the disk on a block device as many blocks as the label says, which are zeros, and the
+    /// label. The log is written as it reads before. The label is written once the zeros are stable,
+    /// so that no moment leaves a disk with other new blocks. `progress` gets a line after each
+    /// tenth of the zeros that are written.
+    ///
+    /// # Errors
+    /// - The new blocks are to be zeros already, and one is not. Nothing was written.
+    /// - The system's reason, and J1 `NoMemory`. The disk has the label or not.
+    pub fn grow_device<E: Write>(
+        self,
+        alloc: Global,
+        path: &str,
+        label: &Label,
+        zeros: Zeros,
+        progress: &mut E,
+    ) -> Result<(), OpenFault>
+        requires label { IsLabel label.now }
+        requires longer { self.facts.blocks ≤ label.now.blocks }
+    {
+        let added = Span {
+            first: self.facts.blocks,
+            end: label.blocks,
+        };
+        if zeros == Zeros::Found {
+            refuse_others(&self.file, added)?;
+        }
+        self.settle()?;
+        if zeros == Zeros::Written {
+            zero_by_tenths(path, &self.file, added, progress)?;
+        }
+        self.label(alloc, label)
+    }
+
     // Makes stable what the disk reads.
     fn settle(&self) -> Result<(), OpenFault> {
         rewrite_log(&self.file)?;
@@ -75,14 +117,17 @@ pub fn find_disk_to_label<R: Files<File = File>>(
     alloc: Global,
     path: &str,
 ) -> Result<DiskToLabel, OpenFault> {
-    let file = open_to_write(rt, path)?;
+    let LockedFile { file, lock } = open_to_write(rt, alloc, path)?;
     let in_file = blocks_in(&file)?;
     let OldLabel { label, is_bad } = read_old_label(alloc, &file, in_file)?;
     let facts = inspect_labeled(alloc, &file, label, in_file)?;
     Ok(DiskToLabel {
         facts,
         has_bad_label: is_bad,
+        in_file,
+        is_device: lock.is_some(),
         file,
+        _lock: lock,
     })
 }
 

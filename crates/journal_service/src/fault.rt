@@ -1,6 +1,6 @@
 // Why a disk was not made in a file, or not served.
 
-use journal_program::{LabelFault, OpenFault};
+use journal_program::{DeviceFault, LabelFault, OpenFault};
 use journal_world::Refusal;
 
 /// Why a disk was not made in a file, or not served to the end.
@@ -12,6 +12,8 @@ pub enum ServiceFault {
     CannotListen,
     /// The label of the disk is not that of the file.
     Label(LabelFault),
+    /// It cannot be used as a block device, or a disk is in no such file.
+    Device(DeviceFault),
     /// What the service needs was refused, or the mount, or the close.
     Refused(Refusal<()>),
     /// The output failed.
@@ -26,6 +28,7 @@ impl ServiceFault {
             OpenFault::File(_) => ServiceFault::BadFile,
             OpenFault::NoDisk { .. } => ServiceFault::Refused(Refusal::BadSuper),
             OpenFault::Label(why) => ServiceFault::Label(why),
+            OpenFault::Device(why) => ServiceFault::Device(why),
             OpenFault::Refused(why) => ServiceFault::Refused(why),
         }
     }

@@ -6,7 +6,7 @@ use Rattle.journal_script.specs.declared.script_fault.ScriptFault.{ScriptFault}
 use Rattle.journal_script.specs.declared.script_fault.ScriptFault.TheVariants as stops
 use Rattle.journal_script.specs.Transcripts.{IsTranscript}
 use Rattle.jtool.specs.declared.fault.Fault.{Fault}
-use Rattle.jtool.specs.declared.fault.Fault.TheVariants.{Usage, BadSize, BadLine, BadFile, Label, CannotListen, Refused, CannotRead, CannotWrite}
+use Rattle.jtool.specs.declared.fault.Fault.TheVariants.{Usage, BadSize, BadLine, BadFile, Label, Device, CannotListen, Refused, CannotRead, CannotWrite}
 
 -- the status of a program that does not end well
 abbrev pub status_of : Fault → ℕ
@@ -15,6 +15,7 @@ status_of BadSize = 2
 status_of BadLine = 2
 status_of (BadFile path) = 1
 status_of (Label path why) = 1
+status_of (Device path why) = 1
 status_of CannotListen = 1
 status_of (Refused why) = 1
 status_of CannotRead = 1

@@ -3,7 +3,7 @@ ghost use Rattle.std.specs.Prelude.{◌≡◌};
 ghost use Rattle.jtool.specs.Programs.{status_of};
 
 use journal_command::AskFault;
-use journal_program::LabelFault;
+use journal_program::{DeviceFault, LabelFault};
 use journal_script::ScriptFault;
 use journal_service::ServiceFault;
 use journal_world::Refusal;
@@ -27,6 +27,8 @@ pub enum Fault<'w> {
     BadFile(&'w str),
     /// The label of the disk in the file at this path is not that of the file.
     Label(&'w str, LabelFault),
+    /// What is at this path cannot be used as a block device, or a disk is in no such file.
+    Device(&'w str, DeviceFault),
     /// The port is not to be had, or the system refused a connection.
     CannotListen,
     /// What comes before the first line was refused, or what the service needs, or the close.
@@ -45,6 +47,7 @@ impl<'w> Fault<'w> {
         match fault {
             ServiceFault::BadFile => Fault::BadFile(path),
             ServiceFault::Label(why) => Fault::Label(path, why),
+            ServiceFault::Device(why) => Fault::Device(path, why),
             ServiceFault::CannotListen => Fault::CannotListen,
             ServiceFault::Refused(why) => Fault::Refused(why),
             ServiceFault::CannotWrite => Fault::CannotWrite,
@@ -61,6 +64,7 @@ impl<'w> Fault<'w> {
             Fault::Usage | Fault::BadSize | Fault::BadLine => 2,
             Fault::BadFile(_)
             | Fault::Label(_, _)
+            | Fault::Device(_, _)
             | Fault::CannotListen
             | Fault::Refused(_)
             | Fault::CannotRead
@@ -75,6 +79,7 @@ impl<'w> Fault<'w> {
             Fault::BadLine => Ok(()),
             Fault::BadFile(path) => writeln!(faults, "cannot use {path}"),
             Fault::Label(path, why) => writeln!(faults, "{path} {why}"),
+            Fault::Device(path, why) => writeln!(faults, "{path} {why}"),
             Fault::CannotListen => writeln!(faults, "cannot listen"),
             Fault::Refused(why) => writeln!(faults, "refused {}", why.name()),
             Fault::CannotRead => writeln!(faults, "cannot read standard input"),
