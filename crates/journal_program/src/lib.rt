@@ -19,6 +19,7 @@ mod file;
 mod inspecting;
 mod label;
 mod labeling;
+mod noted;
 mod opening;
 mod relabeling;
 mod rewriting;

@@ -47,6 +47,7 @@ impl<'w> Fault<'w> {
             ServiceFault::Label(why) => Fault::Label(path, why),
             ServiceFault::CannotListen => Fault::CannotListen,
             ServiceFault::Refused(why) => Fault::Refused(why),
+            ServiceFault::DeviceFailed(_) => Fault::Refused(Refusal::DeviceFailed(())),
             ServiceFault::CannotWrite => Fault::CannotWrite,
         }
     }
