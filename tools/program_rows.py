@@ -535,11 +535,11 @@ def kill(process):
 class Service:
     """A run of a program that listens, and the row's connection to it."""
 
-    def __init__(self, room, words):
+    def __init__(self, room, words, more):
         self.room, self.connection, self.faults = room, None, tempfile.TemporaryFile()
         self.port = self.path = None
         self.began = self.listens = time.time_ns()
-        self.process = room.popen(words, stdout=subprocess.PIPE, stderr=self.faults)
+        self.process = room.popen(words, stdout=subprocess.PIPE, stderr=self.faults, **more)
 
     def listen(self):
         """Waits for the line by which it says where it listens."""
@@ -654,10 +654,10 @@ class Room:
                 kill(process)
         return Ended(output, faults, process.returncode)
 
-    def start(self, words):
-        """Starts a service."""
+    def start(self, words, **more):
+        """Starts a service. More says how it is run."""
         self.moments.forget("MOUNTED")
-        self.services.append(Service(self, words))
+        self.services.append(Service(self, words, more))
         self.service.listen()
         return self.service
 

@@ -35,6 +35,7 @@ LISTENING = r"listening (on 127\.0\.0\.1:)?[0-9]+\n"
 # On standard error, of jtool or of jnl.
 CANNOT_USE = r"(jnl: )?cannot use {disk}(: .+)?\n"
 REFUSED = r"(refused|jnl: {disk} is refused:) J6 DeviceFailed\n"
+FAILED = r"jnl: {disk} has failed: Input/output error \(os error 5\)\n"
 
 
 class How(Enum):
@@ -202,10 +203,12 @@ class JnlRuns(Runs):
         return self.disk.read_bytes()
 
     def mount_files(self):
-        """`nfs`, up to the line that says that it listens."""
+        """`nfs`: the sync of the opening fails, then that of a call; then none, up to the line that says that it listens."""
         words = [self.program, "nfs", self.disk, "--port", "0"]
         self.lay(disk_of_files(2))
         self.want(words, 1, NOTHING, CANNOT_USE)
+        self.lay(disk_of_files(2))
+        self.fail_call(words)
         self.lay(disk_of_files(2))
         with subprocess.Popen(words, stdout=subprocess.PIPE, text=True, env=self.environment(0)) as run:
             try:
@@ -213,6 +216,25 @@ class JnlRuns(Runs):
                 self.want_order(How.OPENS, disk_of_files(2), words)
             finally:
                 run.kill()
+
+    def fail_call(self, words):
+        """Wants that a call is not answered as done where its sync fails, and that the service ends."""
+        pipes = {"stdout": subprocess.PIPE, "stderr": subprocess.PIPE, "text": True}
+        with subprocess.Popen(words, **pipes, env=self.environment(2)) as run:
+            try:
+                client = nfs_client.Service(int(run.stdout.readline().split()[1]))
+                nfs_client.put(client, "f002", "text")
+                raise Wrong(f"{told(words, 2)}: the call is answered as done")
+            except (nfs_client.Refused, OSError):
+                self.want_end(run, words)
+            finally:
+                run.kill()
+
+    def want_end(self, run, words):
+        """Wants that a service whose second sync has failed ends by itself with status 1, and says why."""
+        status, faults = run.wait(SECONDS), run.stderr.read()
+        if status != 1 or not re.fullmatch(FAILED.format(disk=re.escape(str(self.disk))), faults):
+            raise Wrong(f"{told(words, 2)}: {faults!r}, status {status}")
 
     def serve_objects(self, disk):
         """`serve`: the sync of the opening fails, then that of a commit, then none."""
@@ -226,7 +248,8 @@ class JnlRuns(Runs):
         self.want_values(words)
 
     def fail_commit(self, words):
-        """Wants that neither a commit nor the end of the service is answered as done where the commit's sync fails."""
+        """Wants that neither a commit nor the end of the service is answered as done where the commit's sync fails. The service then
+        ends by itself."""
         service = Service(self.program, self.disk, self.folder, self.environment(2))
         try:
             with service.connect() as connection:
@@ -234,6 +257,7 @@ class JnlRuns(Runs):
                     raise Wrong(f"{told(words, 2)}: the commit is answered as stable")
             if self.stop() == 0:
                 raise Wrong(f"{told(words, 2)}: stop says that all is stable")
+            self.want_end(service.run, words)
         except Ended as why:
             raise Wrong(f"{told(words, 2)}: {why}") from None
         finally:

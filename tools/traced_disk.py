@@ -80,14 +80,14 @@ class Service:
     def __init__(self, jnl, disk, folder, env=None):
         self.socket = folder / "traced.sock"
         words = [jnl, "serve", disk, "--socket", self.socket]
-        self.run = subprocess.Popen(words, env=env, stdout=subprocess.DEVNULL, stderr=subprocess.PIPE)
+        self.run = subprocess.Popen(words, env=env, stdout=subprocess.DEVNULL, stderr=subprocess.PIPE, text=True)
 
     def connect(self):
         """A connection, once the service listens."""
         end = time.monotonic() + SECONDS
         while time.monotonic() < end:
             if self.run.poll() is not None:
-                raise Ended(f"the service ended: {self.run.stderr.read().decode().strip()}")
+                raise Ended(f"the service ended: {self.run.stderr.read().strip()}")
             try:
                 return jnl.connect(str(self.socket), timeout=SECONDS)
             except (jnl.NoPort, OSError):

@@ -2,7 +2,7 @@
 ghost use Rattle.std.specs.Prelude.{◌≤◌};
 
 use crate::regions::OtherRegions;
-use journal_program::{DeviceFault, LabelFault, OpenFault};
+use journal_program::{DeviceFault, LabelFault, OpenFault, SizedDisk};
 use journal_records::Refused as Answered;
 use journal_service::ServiceFault;
 use journal_world::{
@@ -102,6 +102,12 @@ pub enum Fault<'w> {
         path: &'w str,
         why: Refusal<()>,
     },
+    /// The device of the disk in the file at the path failed while it was served, for the system's
+    /// reason.
+    DeviceFailed {
+        path: &'w str,
+        why: io::Error,
+    },
     /// The disk in the file at the path is one of the file service.
     HasFiles {
         path: &'w str,
@@ -125,6 +131,10 @@ pub enum Fault<'w> {
         socket: &'w str,
         why: Answered,
     },
+    /// The service at the socket has ended because its device had failed.
+    NotStable {
+        socket: &'w str,
+    },
     /// Memory was refused, or a thread.
     NoMemory,
     /// Standard output failed.
@@ -137,6 +147,18 @@ impl<'w> Fault<'w> {
         Fault::Refused {
             path,
             why: why.with_cause(()),
+        }
+    }
+
+    /// A call of the disk in the file at the path failed, or else the disk was refused.
+    pub fn failed_or_refused<C: Drop>(
+        path: &'w str,
+        disk: SizedDisk,
+        why: Refusal<C>,
+    ) -> Fault<'w> {
+        match disk.into_failure() {
+            Some(why) => Fault::DeviceFailed { path, why },
+            None => Fault::refused(path, why),
         }
     }
 
@@ -162,6 +184,7 @@ impl<'w> Fault<'w> {
             ServiceFault::Label(why) => Fault::Label { path, why },
             ServiceFault::Device(why) => Fault::Device { path, why },
             ServiceFault::Refused(why) => Fault::Refused { path, why },
+            ServiceFault::DeviceFailed(why) => Fault::DeviceFailed { path, why },
             ServiceFault::CannotWrite => Fault::CannotWrite,
         }
     }
@@ -210,12 +233,14 @@ impl<'w> Fault<'w> {
             | Fault::Smaller { .. }
             | Fault::CannotGrow { .. }
             | Fault::Refused { .. }
+            | Fault::DeviceFailed { .. }
             | Fault::HasFiles { .. }
             | Fault::HasNoFiles { .. }
             | Fault::CannotListen
             | Fault::NoAnswer { .. }
             | Fault::NotEnded { .. }
             | Fault::NotStopped { .. }
+            | Fault::NotStable { .. }
             | Fault::NoMemory
             | Fault::CannotWrite => 1,
         }
@@ -294,6 +319,7 @@ impl<'w> Fault<'w> {
             Fault::Refused { path, why } => {
                 writeln!(faults, "jnl: {path} is refused: {}", why.name())
             }
+            Fault::DeviceFailed { path, why } => writeln!(faults, "jnl: {path} has failed: {why}"),
             Fault::HasFiles { path } => writeln!(
                 faults,
                 "jnl: {path} is a disk of the file service, whose files would not stay sound"
@@ -312,6 +338,10 @@ impl<'w> Fault<'w> {
             Fault::NotStopped { socket, why } => {
                 writeln!(faults, "jnl: the service at {socket} goes on: {why:?}")
             }
+            Fault::NotStable { socket } => writeln!(
+                faults,
+                "jnl: the service at {socket} has ended, and not all is stable: its device has failed"
+            ),
             Fault::NoMemory => writeln!(faults, "jnl: no memory"),
             Fault::CannotWrite => writeln!(faults, "jnl: cannot write standard output"),
         }

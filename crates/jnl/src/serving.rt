@@ -51,6 +51,9 @@ struct LaidOut {
 /// first connection is accepted, and that it has stopped once all commits are stable and the socket
 /// is gone.
 ///
+/// Where the device fails, what is under way is answered, all else is refused, and the service ends
+/// by `DeviceFailed`. All that was answered as stable is there at the next start.
+///
 /// Refused where another program uses the disk, where its label is not that of the file or tells
 /// other regions, where the disk is one of the file service, whose files would not stay sound,
 /// where the layout is not one of so many blocks, and as the opening of the journal is. Nothing
@@ -175,7 +178,9 @@ fn serve_book<'w, J: Naming + Send + Sync, R: Clock + Threads + Wait + Sync, O: 
     let opened = Journal::open_layout(alloc, book, cell, layout, disk, &AnyMap, MAX_CACHED_BLOCKS);
     let journal: FileJournal<J> = match opened {
         Ok(journal) => journal,
-        Err(Refused { refusal, .. }) => return Err(Fault::refused(service.path, refusal)),
+        Err(Refused { refusal, disk }) => {
+            return Err(Fault::failed_or_refused(service.path, disk, refusal));
+        }
     };
     let open = OpenDisk {
         alloc,
@@ -184,11 +189,18 @@ fn serve_book<'w, J: Naming + Send + Sync, R: Clock + Threads + Wait + Sync, O: 
     };
     let served = serve_beside_daemon(rt, &open, service, listeners, output);
     drop(open);
-    let _disk = journal.into_disk();
-    served
+    let disk = journal.into_disk().disk;
+    match disk.into_failure() {
+        Some(why) => Err(Fault::DeviceFailed {
+            path: service.path,
+            why,
+        }),
+        None => served,
+    }
 }
 
-// Serves while the daemon runs, and ends it. All commits are stable then.
+// Serves while the daemon runs, and ends it. All commits are stable then. The daemon ends by itself
+// only where the device failed, and the service with it.
 fn serve_beside_daemon<'w, 'b, J: Naming + Send + Sync, R: Clock + Threads + Wait + Sync, O: Write>(
     rt: &R,
     disk: &OpenDisk<'_, 'b, J>,
@@ -196,15 +208,23 @@ fn serve_beside_daemon<'w, 'b, J: Naming + Send + Sync, R: Clock + Threads + Wai
     listeners: &Listeners,
     output: &mut O,
 ) -> Result<(), Fault<'w>> {
+    let Ok(workers) = Workers::new(disk, listeners) else {
+        return Err(Fault::CannotListen);
+    };
     let journal = disk.journal;
     let daemon = Daemon::new();
     thread::scope(thread::scope_env(), rt, |scope| -> Result<(), Fault<'_>> {
-        let runs = scope.spawn(|| daemon.run(rt, journal)).is_ok() && daemon.is_running(rt);
+        let run_daemon = || {
+            daemon.run(rt, journal);
+            workers.fail(rt);
+        };
+        let runs = scope.spawn(run_daemon).is_ok() && daemon.is_running(rt);
         let served = if runs {
-            serve_clients(rt, disk, service, listeners, output)
+            serve_clients(rt, &workers, service, listeners, output)
         } else {
             Err(Fault::NoMemory)
         };
+        workers.end(rt);
         let flushed = flush(rt, journal, service.path);
         journal.stop(rt);
         served?;
@@ -215,14 +235,11 @@ fn serve_beside_daemon<'w, 'b, J: Naming + Send + Sync, R: Clock + Threads + Wai
 // Prints that the service listens, and serves what comes in.
 fn serve_clients<'w, 'b, J: Naming + Send + Sync, R: Clock + Threads + Wait + Sync, O: Write>(
     rt: &R,
-    disk: &OpenDisk<'_, 'b, J>,
+    workers: &Workers<'_, '_, 'b, J>,
     service: Service<'w>,
     listeners: &Listeners,
     output: &mut O,
 ) -> Result<(), Fault<'w>> {
-    let Ok(workers) = Workers::new(disk, listeners) else {
-        return Err(Fault::CannotListen);
-    };
     print_line(output, "listening on ", service.socket)?;
     match workers.serve(rt, service.connections, listeners) {
         Ok(()) => Ok(()),

@@ -1,7 +1,7 @@
 // A service is ended.
 
 use crate::fault::Fault;
-use journal_records::{Answer, Input, Next, Request, VERSION, write_request};
+use journal_records::{Answer, Input, Next, Refused as Answered, Request, VERSION, write_request};
 use std::alloc::Global;
 use std::fs::Files;
 use std::io::{ErrorKind, Read, Write};
@@ -24,17 +24,41 @@ const PAUSE_MILLIS: u64 = 10;
 /// and unlocked, and the socket is gone.
 ///
 /// Refused where no service answers there, where it refuses to end, and where it has not ended
-/// within a minute.
+/// within a minute. One whose device has failed ends by itself: that is waited for, and then
+/// refused by `NotStable`.
 pub fn stop<'w, R: Files + Net + Clock>(
     rt: &R,
     alloc: Global,
     socket: &'w str,
 ) -> Result<(), Fault<'w>> {
     let node = node_at(rt, socket);
-    ask_to_stop(rt, alloc, socket)?;
+    let is_stable = match ask_to_stop(rt, alloc, socket) {
+        Ok(()) => true,
+        Err(
+            Fault::NotStopped {
+                why: Answered::DeviceFailed,
+                ..
+            },
+        ) => false,
+        Err(fault) => return Err(fault),
+    };
+    await_end(rt, socket, &node)?;
+    if is_stable {
+        Ok(())
+    } else {
+        Err(Fault::NotStable { socket })
+    }
+}
+
+// Waits until the node is gone from the socket's path. A service removes its socket once its disk
+// is closed. Another one may be there by then.
+fn await_end<'w, R: Files + Clock>(
+    rt: &R,
+    socket: &'w str,
+    node: &io::Result<Node>,
+) -> Result<(), Fault<'w>> {
     for _ in 0..LOOKS {
-        // A service removes its socket once its disk is closed. Another one may be there by then.
-        if !is_there(rt, socket, &node) {
+        if !is_there(rt, socket, node) {
             return Ok(());
         }
         thread::sleep(rt, Duration::from_millis(PAUSE_MILLIS));

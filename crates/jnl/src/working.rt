@@ -13,8 +13,11 @@ use std::alloc::Global;
 use std::sync::Wait;
 use std::sync::atomic::{AtomicBool, Ordering};
 use std::thread::Threads;
-use std::time::Clock;
+use std::time::{Clock, Duration};
 use std::{io, thread};
+
+// How many milliseconds a service goes on after its device has failed.
+const LAST_MILLIS: u64 = 250;
 
 /// A journal over a file that admits every map.
 pub type FileJournal<'b, J> = Journal<'b, SizedDisk, AnyMap, J>;
@@ -100,7 +103,7 @@ impl<'s, 'j, 'b, J: Naming + Send + Sync> Workers<'s, 'j, 'b, J> {
     }
 
     /// Serves what comes in by the listeners, up to `connections` at once, until a client ends the
-    /// service.
+    /// service or its device fails.
     pub fn serve<R: Clock + Threads + Wait + Sync>(
         &self,
         rt: &R,
@@ -133,9 +136,19 @@ impl<'s, 'j, 'b, J: Naming + Send + Sync> Workers<'s, 'j, 'b, J> {
         Ok(())
     }
 
-    // Ends the service: no connection is accepted, and nothing more is read of those that are
-    // served.
-    fn end<W: Wait>(&self, rt: &W) {
+    /// Ends the service because its device has failed, unless it has ended. A moment before, each
+    /// request is still answered, by J6.
+    pub fn fail<R: Clock + Wait>(&self, rt: &R) {
+        if self.queue.has_ended() {
+            return;
+        }
+        thread::sleep(rt, Duration::from_millis(LAST_MILLIS));
+        self.end(rt);
+    }
+
+    /// Ends the service: no connection is accepted, and nothing more is read of those that are
+    /// served.
+    pub fn end<W: Wait>(&self, rt: &W) {
         self.queue.end(rt);
         self.socket.close();
         if let Some(port) = &self.port {

@@ -4,6 +4,7 @@ ghost use Rattle.journal_disk.specs.Disks.{Keeps, HasFailed, MayHaveHappened, wr
 ghost use Rattle.journal_disk.specs.FileDisks.{file_state, with_told, with_failure};
 
 use crate::device::DeviceLock;
+use crate::noted::NotedFile;
 use journal_block::Block;
 use journal_disk::{BlockDisk, DiskFault, FileDisk};
 use std::fs::File;
@@ -17,7 +18,7 @@ use std::marker::Model;
 /// which is stated of no file of the system.
 #[derive(Drop)]
 pub struct SizedDisk {
-    file: FileDisk,
+    file: FileDisk<NotedFile>,
     blocks: u64,
     // The lock of the device by its number, where the file is one. It is held as long as the disk
     // is open.
@@ -41,7 +42,7 @@ impl SizedDisk {
     pub(crate) fn over(file: File, blocks: u64) -> io::Result<SizedDisk>
         ensures { IfOk result (λ disk. disk.size ≡ blocks) }
     {
-        let file = FileDisk::over(file)?;
+        let file = FileDisk::on(NotedFile::new(file))?;
         if file.size() < blocks {
             return Err(io::Error::from(ErrorKind::UnexpectedEof));
         }
@@ -61,6 +62,12 @@ impl SizedDisk {
             blocks: self.blocks,
             _lock: lock,
         }
+    }
+
+    /// The system's reason for which the first call of the disk failed that did. The file is
+    /// closed.
+    pub fn into_failure(self) -> Option<io::Error> {
+        self.file.into_file().into_failure()
     }
 }
 

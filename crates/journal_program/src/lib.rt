@@ -22,6 +22,7 @@ mod inspecting;
 mod label;
 mod labeling;
 mod making;
+mod noted;
 mod opening;
 mod relabeling;
 mod rewriting;

@@ -1,7 +1,8 @@
 // Why a disk was not made in a file, or not served.
 
-use journal_program::{DeviceFault, LabelFault, OpenFault};
+use journal_program::{DeviceFault, LabelFault, OpenFault, SizedDisk};
 use journal_world::Refusal;
+use std::io;
 
 /// Why a disk was not made in a file, or not served to the end.
 #[derive(Debug, Drop)]
@@ -16,6 +17,8 @@ pub enum ServiceFault {
     Device(DeviceFault),
     /// What the service needs was refused, or the mount, or the close.
     Refused(Refusal<()>),
+    /// The device failed while the disk was served, for the system's reason.
+    DeviceFailed(io::Error),
     /// The output failed.
     CannotWrite,
 }
@@ -30,6 +33,14 @@ impl ServiceFault {
             OpenFault::Label(why) => ServiceFault::Label(why),
             OpenFault::Device(why) => ServiceFault::Device(why),
             OpenFault::Refused(why) => ServiceFault::Refused(why),
+        }
+    }
+
+    /// The same fault, or where a call of the disk failed, the reason for that.
+    pub(crate) fn or_of_device(self, disk: SizedDisk) -> ServiceFault {
+        match disk.into_failure() {
+            Some(why) => ServiceFault::DeviceFailed(why),
+            None => self,
         }
     }
 

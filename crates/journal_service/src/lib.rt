@@ -5,7 +5,8 @@
 //! disk of either version, runs the logger and the installer beside the workers, and answers the
 //! connections that come to a port of this machine. It ends by a flush, a stop, a close and a
 //! barrier, so that all commits are stable in the file then. `export` does the same by other
-//! programs than the nine procedures, for example by NFS and MOUNT, and at any address.
+//! programs than the nine procedures, for example by NFS and MOUNT, and at any address. It ends
+//! where its device fails, while `serve` answers each call by IO from then on.
 //!
 //! A disk is mounted under the rule of version 2, and where that refuses it by J8 `BadSuper` under
 //! the rule of version 1: each with a book of its own, since a book is of one rule.
@@ -16,6 +17,7 @@
 
 mod checking;
 mod clock;
+mod closing;
 mod fault;
 mod file;
 mod migrating;

@@ -3,6 +3,7 @@ ghost use Rattle.std.specs.Prelude.{◌≡◌};
 ghost use Rattle.journal_world.specs.Files.{files};
 
 use crate::clock::{WallClock, verifier_of};
+use crate::closing::{Closer, OpenPort};
 use crate::fault::ServiceFault;
 use crate::mounting::{Tried, mount, slot_cell};
 use crate::printing::{give_up, print_line};
@@ -14,9 +15,7 @@ use journal_history::{Book, Naming};
 use journal_inode::{SoundFiles, Version, VersionOne, VersionTwo};
 use journal_lockmap::SlotCell;
 use journal_program::{Daemon, Settled, SizedDisk};
-use journal_server::{
-    Listening, NineProcedures, Programs, Protocol, WaitingConnections, serve_all_by,
-};
+use journal_server::{Listening, NineProcedures, Programs, Protocol, serve_all_by};
 use journal_world::{Layout, Refusal, Refused};
 use std::alloc::Global;
 use std::fs::{File, Files};
@@ -49,16 +48,19 @@ pub struct Endpoint {
     pub port: u16,
 }
 
-// Where connections come from, and how many are served.
+// Where connections come from, how many are served, and whether the service ends before where its
+// device fails.
 #[derive(Clone, Copy)]
 struct Plan {
     address: Ipv4Addr,
     port: u16,
     connections: u64,
+    ends_by_device: bool,
 }
 
 /// Serves the files of the disk, of either version, by the programs `P`, until the program is
-/// ended. It prints the port before the first connection is taken. Else it does as `serve`, and is
+/// ended. It prints the port before the first connection is taken. Where the device fails, the
+/// calls under way are answered, and it ends by `DeviceFailed`. Else it does as `serve`, and is
 /// refused as that is.
 pub fn export<
     P: Programs + Protocol<VersionTwo> + Protocol<VersionOne> + Sync + Drop,
@@ -83,6 +85,7 @@ pub fn export<
         address,
         port,
         connections: u64::MAX,
+        ends_by_device: true,
     };
     carry_out::<P, R, O, E>(rt, alloc, disk, plan, output, faults)
 }
@@ -118,6 +121,7 @@ pub fn serve<
         address: Ipv4Addr::LOCALHOST,
         port,
         connections,
+        ends_by_device: false,
     };
     let disk = file::open(rt, alloc, path)?;
     carry_out::<NineProcedures, R, O, E>(rt, alloc, disk, plan, output, faults)
@@ -214,11 +218,15 @@ fn serve_mounted<
     let programs = P::on(layout, verifier_of(clock::moment_of_mount(rt, faults)));
     let served = serve_beside_daemon(rt, alloc, &files, &programs, plan, output);
     let closed = close(rt, files);
-    served?;
-    Ok(Tried::Sound(closed?))
+    match (served, closed) {
+        (Err(fault), Ok(disk)) => Err(fault.or_of_device(disk)),
+        (Err(fault), Err(_)) => Err(fault),
+        (Ok(()), closed) => Ok(Tried::Sound(closed?)),
+    }
 }
 
-// Serves while the daemon runs, and ends it. All commits are stable then.
+// Serves while the daemon runs, and ends it. All commits are stable then. The daemon ends by itself
+// only where the device failed.
 fn serve_beside_daemon<
     'b,
     P: Programs + Protocol<V> + Sync,
@@ -234,15 +242,29 @@ fn serve_beside_daemon<
     plan: Plan,
     output: &mut O,
 ) -> Result<(), ServiceFault> {
+    let Ok(listener) = TcpListener::bind(rt, (plan.address, plan.port)) else {
+        return Err(ServiceFault::CannotListen);
+    };
+    let closer = Closer::of(&listener)?;
+    let port = OpenPort {
+        listener,
+        waiting: &closer.connections,
+        connections: plan.connections,
+    };
     let daemon = Daemon::new();
     thread::scope(
         thread::scope_env(),
         rt,
         |scope| -> Result<(), ServiceFault> {
-            let runs = scope.spawn(|| daemon.run(rt, files.journal())).is_ok()
-                && daemon.is_running(rt);
+            let run_daemon = || {
+                daemon.run(rt, files.journal());
+                if plan.ends_by_device {
+                    closer.close();
+                }
+            };
+            let runs = scope.spawn(run_daemon).is_ok() && daemon.is_running(rt);
             let served = if runs {
-                listen(rt, alloc, files, programs, plan, output)
+                listen(rt, alloc, files, programs, port, output)
             } else {
                 Err(ServiceFault::Refused(Refusal::NoMemory))
             };
@@ -267,18 +289,19 @@ fn listen<
     alloc: Global,
     files: &FileStore<'b, SizedDisk, J, V>,
     programs: &P,
-    plan: Plan,
+    port: OpenPort<'_>,
     output: &mut O,
 ) -> Result<(), ServiceFault> {
-    let Ok(listener) = TcpListener::bind(rt, (plan.address, plan.port)) else {
-        return Err(ServiceFault::CannotListen);
-    };
+    let OpenPort {
+        listener,
+        waiting,
+        connections,
+    } = port;
     let Ok(there) = listener.local_addr() else {
         return Err(ServiceFault::CannotListen);
     };
     print_line(output, "listening", u64::from(there.port()))?;
-    let waiting = WaitingConnections::new();
-    let source = Listening::new(rt, listener, plan.connections, &waiting);
+    let source = Listening::new(rt, listener, connections, waiting);
     let clock = WallClock(rt);
     let pool = programs.pool();
     let (served, source) = serve_all_by(

@@ -50,6 +50,7 @@ impl<'w> Fault<'w> {
             ServiceFault::Device(why) => Fault::Device(path, why),
             ServiceFault::CannotListen => Fault::CannotListen,
             ServiceFault::Refused(why) => Fault::Refused(why),
+            ServiceFault::DeviceFailed(_) => Fault::Refused(Refusal::DeviceFailed(())),
             ServiceFault::CannotWrite => Fault::CannotWrite,
         }
     }
