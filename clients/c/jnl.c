@@ -108,7 +108,7 @@ static int is_refusal(uint32_t status)
 {
     switch (status) {
     case 1: case 2: case 3: case 4: case 6: case 9: case 10: case 11: case 13: case 14:
-    case 64: case 66: case 67: case 68: case 69: case 70:
+    case 64: case 66: case 67: case 68: case 69: case 70: case 71:
         return 1;
     default:
         return 0;
@@ -612,6 +612,7 @@ const char *jnl_strerror(int status)
     case JNL_UNSURE: return "the transaction is not known to be stable";
     case JNL_OTHER_VERSION: return "the version is not spoken";
     case JNL_FORBIDDEN: return "this connection may not end the service";
+    case JNL_READ_ONLY: return "the service only reads the disk";
     case JNL_LOST: return "no answer came";
     case JNL_NO_PORT: return "no port answers";
     case JNL_PROTOCOL: return "the port answers what the protocol does not have";

@@ -46,10 +46,12 @@ pub enum Refusal {
     OtherVersion = 69,
     /// This connection may not end the service.
     Forbidden = 70,
+    /// The service only reads the disk, and the transaction writes.
+    ReadOnly = 71,
 }
 
 impl Refusal {
-    const ALL: [Refusal; 15] = [
+    const ALL: [Refusal; 16] = [
         Refusal::NoMemory,
         Refusal::BadAddress,
         Refusal::BadSize,
@@ -65,6 +67,7 @@ impl Refusal {
         Refusal::TooLong,
         Refusal::OtherVersion,
         Refusal::Forbidden,
+        Refusal::ReadOnly,
     ];
 
     pub(crate) fn of(status: u32) -> Option<Refusal> {
@@ -91,6 +94,7 @@ impl Refusal {
             Refusal::TooLong => "the record is too long",
             Refusal::OtherVersion => "the version is not spoken",
             Refusal::Forbidden => "this connection may not end the service",
+            Refusal::ReadOnly => "the service only reads the disk",
         }
     }
 }

@@ -12,6 +12,7 @@
 #![tactic(auto)]
 
 mod checking;
+mod copying;
 mod daemon;
 mod disk;
 mod fault;
@@ -25,10 +26,12 @@ mod relabeling;
 mod rewriting;
 mod room;
 mod settled;
+mod sharing;
 mod streams;
 mod system;
 
 pub use checking::{ToCheck, open_to_check};
+pub use copying::{CopyFault, CopyPaths, copy_disk};
 pub use daemon::Daemon;
 pub use disk::SizedDisk;
 pub use fault::{LabelFault, OpenFault};
@@ -37,5 +40,7 @@ pub use inspecting::DiskFacts;
 pub use label::{BadLabel, Label, UNTOLD, is_disk_size};
 pub use opening::{FoundDisk, find_disk, open_settled};
 pub use relabeling::{DiskToLabel, find_disk_to_label};
+pub use room::Room;
 pub use settled::Settled;
+pub use sharing::{SharedDisk, share_disk};
 pub use streams::hold_closed_streams;
