@@ -1,5 +1,5 @@
-"""Loop devices and mounts, for the tools that need them. A module: `take-over`, `stop-serve` and
-`backup-serve` use it.
+"""Loop devices and mounts, for the tools that need them. A module: `take-over`, `stop-serve`,
+`backup-serve` and `fill-disk` use it.
 """
 
 import os
@@ -17,6 +17,13 @@ def what_lacks(*programs):
         return "this system has no loop devices (/dev/loop-control)"
     absent = [name for name in ("losetup", *programs) if not shutil.which(name)]
     return f"these programs are not there: {', '.join(absent)}" if absent else ""
+
+
+def what_lacks_mounts():
+    """What a tool lacks that mounts file systems, in words, or nothing."""
+    if os.geteuid() != 0:
+        return "it mounts a file system, so it must be run as root"
+    return ""
 
 
 class Loop:
@@ -67,3 +74,24 @@ class Mount:
     def __exit__(self, *_):
         must("umount", self.folder)
         self.folder.rmdir()
+
+
+class Tmpfs:
+    """A file system of so many bytes in memory that is mounted in a new folder, until it is
+    closed."""
+
+    def __init__(self, folder, size):
+        self.folder = folder
+        folder.mkdir()
+        must("mount", "-t", "tmpfs", "-o", f"size={size}", "tmpfs", folder)
+
+    def __enter__(self):
+        return self
+
+    def __exit__(self, *_):
+        must("umount", self.folder)
+        self.folder.rmdir()
+
+    def resize(self, size):
+        """Gives it so many bytes."""
+        must("mount", "-o", f"remount,size={size}", self.folder)

@@ -1,5 +1,5 @@
-"""Runs of `jnl serve`, for the tools that try it. A module: `take-over`, `stop-serve` and
-`backup-serve` use it.
+"""Runs of `jnl serve`, for the tools that try it. A module: `take-over`, `stop-serve`,
+`backup-serve` and `fill-disk` use it.
 
 Each service that is started by itself ends with the tool, however that ends (by `setpriv` of
 util-linux).
@@ -57,15 +57,15 @@ def must(*words):
 
 
 class Service:
-    """A run of `jnl serve` over a disk, or of a program that runs it (`by`)."""
+    """A run of `jnl serve` over a disk, with more words, or of a program that runs it (`by`)."""
 
-    def __init__(self, jnl, disk, socket, by=()):
+    def __init__(self, jnl, disk, socket, by=(), words=()):
         self.jnl, self.socket = jnl, Path(socket)
-        words = ["setpriv", "--pdeathsig", "KILL", *by, jnl, "serve", disk, "--socket", socket]
-        words = [str(word) for word in words]
+        line = ["setpriv", "--pdeathsig", "KILL", *by, jnl, "serve", disk, "--socket", socket]
+        line = [str(word) for word in [*line, *words]]
         # A session of its own, so that a program by which it is run can be killed together with it.
         self.process = subprocess.Popen(
-            words,
+            line,
             stdout=subprocess.DEVNULL,
             stderr=subprocess.PIPE,
             text=True,

@@ -83,7 +83,7 @@ def jnl_rows(sealed, plain):
     return [
         Row(How.MAKES, "create {disk} --blocks 600", None, NOTHING, [(NOTHING, CANNOT_USE), (NOTHING, CANNOT_USE), (NOTHING, REFUSED)]),
         Row(How.READS, "info {disk}", sealed, r"blocks 600\n(?s:.*)", [(NOTHING, CANNOT_USE)]),
-        Row(How.READS, "check {disk}", sealed, r"sound\n", [(NOTHING, CANNOT_USE)]),
+        Row(How.READS, "check {disk}", sealed, r"log well formed\n", [(NOTHING, CANNOT_USE)]),
         Row(How.OPENS, "seal {disk}", sealed, r"sealed already\n", [(NOTHING, CANNOT_USE)]),
         Row(How.OPENS, "seal {disk}", plain, r"sealed\n", changes),
         Row(How.OPENS, "seal {disk} --undo", sealed, r"plain\n", changes),

@@ -56,7 +56,7 @@ static int is_refusal(uint32_t status)
 {
     switch (status) {
     case 1: case 2: case 3: case 4: case 6: case 9: case 10: case 11: case 13: case 14:
-    case 64: case 66: case 67: case 68: case 69: case 70:
+    case 64: case 66: case 67: case 68: case 69: case 70: case 71:
         return 1;
     default:
         return 0;

@@ -553,6 +553,7 @@ const char *jnl_strerror(int status)
     case JNL_UNSURE: return "the transaction is not known to be stable";
     case JNL_OTHER_VERSION: return "the version is not spoken";
     case JNL_FORBIDDEN: return "this connection may not end the service";
+    case JNL_READ_ONLY: return "the service only reads the disk";
     case JNL_LOST: return "no answer came";
     case JNL_NO_PORT: return "no port answers";
     case JNL_PROTOCOL: return "the port answers what the protocol does not have";

@@ -54,6 +54,7 @@ typedef enum {
     JNL_CONFLICT = 64,      /* a value that was read is another now: begin again */
     JNL_OTHER_VERSION = 69,
     JNL_FORBIDDEN = 70,
+    JNL_READ_ONLY = 71,     /* the service only reads the disk, and the transaction writes */
     /* The transaction stands, and is not known to be stable: after a crash it is there whole, or
      * absent. */
     JNL_UNSURE = 65,

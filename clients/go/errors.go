@@ -30,6 +30,7 @@ const (
 	TooLong          Refusal = 68
 	OtherVersion     Refusal = 69
 	Forbidden        Refusal = 70
+	ReadOnly         Refusal = 71
 
 	statusUnsure Refusal = 65
 )
@@ -51,6 +52,7 @@ var reasons = map[Refusal]string{
 	TooLong:          "the record is too long",
 	OtherVersion:     "the version is not spoken",
 	Forbidden:        "this connection may not end the service",
+	ReadOnly:         "the service only reads the disk",
 }
 
 func (r Refusal) Error() string {

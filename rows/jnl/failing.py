@@ -58,7 +58,8 @@ def ends_for_want_of_room(service):
 
 
 def a_service_ends_where_a_block_has_no_room(room):
-    """Also when it is started again, as long as there is none. With room nothing is lost."""
+    """Also when it is started again, as long as there is none. One that only reads goes on, though the
+    log has more than the installer waits for. With room nothing is lost."""
     wants_run(room.run(["jnl", "create", "disk", "--blocks", str(BLOCKS)]), Ended(b"", b"", 0))
     words = ["jnl", "serve", "disk", "--socket", "s"]
     limited = {"preexec_fn": limit_files, "restore_signals": False}
@@ -68,12 +69,20 @@ def a_service_ends_where_a_block_has_no_room(room):
     ends_for_want_of_room(service)
     room.do_absent("s")
     wants_run(room.run(words, **limited), Ended(b"listening on s\n", FULL, 1))
-    service = room.start(words)
+    room.do_keep("disk")
+    reads_what_was_stable(room, room.start([*words, "--read-only"], **limited), stable)
+    room.do_unwritten("disk")
+    reads_what_was_stable(room, room.start(words), stable)
+
+
+def reads_what_was_stable(room, service, stable):
+    """Wants the last number that was stable, or the next, and an end that was asked for."""
     status, found = ask(service, READ % LAST)
-    wants("the status of a read with room", status, 0)
+    wants("the status of a read", status, 0)
     if found not in (stable, stable + 1):
         raise Wrong(f"{stable} was answered as stable, and {found} is read")
     wants_run(room.run(["jnl", "stop", "--socket", "s"]), Ended(b"", b"", 0))
+    wants_run(service.ended(), Ended(b"stopped\n", b"", 0))
 
 
 def fail_as_a_service(listener, path):

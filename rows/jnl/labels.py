@@ -34,7 +34,7 @@ def a_disk_is_free_as_soon_as_stop_has_ended(room):
         if number % 10:
             service.hang_up()
         wants_run(room.run(["jnl", "stop", "--socket", "s"]), done())
-        wants_run(room.run(["jnl", "check", "disk"]), done(b"sound\n"))
+        wants_run(room.run(["jnl", "check", "disk"]), done(b"log well formed\n"))
         room.do_absent("s")
         wants_run(service.ended(), done(b"stopped\n"))
 

@@ -32,6 +32,7 @@ BAD_SIZE = 3
 TOO_LARGE = 4
 CONFLICT = 64
 UNSURE = 65
+READ_ONLY = 71
 # The session has ended: the next call begins another.
 ENDED = (9, 10, 11, 14)
 
@@ -52,6 +53,7 @@ REASONS = {
     68: "the record is too long",
     69: "the version is not spoken",
     70: "this connection may not end the service",
+    READ_ONLY: "the service only reads the disk",
 }
 
 Address = Tuple[int, int]

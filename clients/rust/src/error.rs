@@ -48,10 +48,12 @@ pub enum Refusal {
     OtherVersion = 69,
     /// This connection may not end the service.
     Forbidden = 70,
+    /// The service only reads the disk, and the transaction writes.
+    ReadOnly = 71,
 }
 
 impl Refusal {
-    const ALL: [Refusal; 15] = [
+    const ALL: [Refusal; 16] = [
         Refusal::NoMemory,
         Refusal::BadAddress,
         Refusal::BadSize,
@@ -67,6 +69,7 @@ impl Refusal {
         Refusal::TooLong,
         Refusal::OtherVersion,
         Refusal::Forbidden,
+        Refusal::ReadOnly,
     ];
 
     pub(crate) fn of(status: u32) -> Option<Refusal> {
@@ -93,6 +96,7 @@ impl Refusal {
             Refusal::TooLong => "the record is too long",
             Refusal::OtherVersion => "the version is not spoken",
             Refusal::Forbidden => "this connection may not end the service",
+            Refusal::ReadOnly => "the service only reads the disk",
         }
     }
 }

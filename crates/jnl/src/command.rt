@@ -6,7 +6,7 @@ use crate::regions::{AskedLayout, Regions, named_regions};
 use crate::serving::Service;
 use clap::{Arg, ArgAction, ArgMatches, Command, value_parser};
 use journal_form::LogForm;
-use journal_program::Zeros;
+use journal_program::{Room, Zeros};
 use journal_service::Endpoint;
 use journal_world::SLOTS;
 use std::alloc::{AllocError, Global};
@@ -18,7 +18,7 @@ const STATUSES: &str =
     "Exit status:\n  0  it was done\n  1  it was not done, or not to its end; standard error has the reason\n  2  the words are no command";
 
 const SERVE_NOTES: &str =
-    "Only the owner of the socket can open it. A socket whose program is gone is replaced, and anything else at PATH is refused. The port of --tcp has no access check: each program on this machine can read and write the disk there, but not end the service.\n\nThe first lines of the output say where it listens. jnl stop ends it once all commits are stable. A signal ends it as a crash does: each commit that was answered as stable stands.\n\nA disk of the file service is refused.\n\nKIND is bit, block, or a record of so many bytes: record8, record16, record32, record64, record128, record256, record512, record1024, record2048. A region goes to the block before the next one, and the last to the end of the disk. FIRST rises from one region to the next. A disk that jnl create made, or jnl label, has its regions in its label: name none, or the same. Without a label the disk does not tell its regions: name the same each time, or none for 513:block 514:bit 515:record128 531:block on a disk of at most 33299 blocks. Another number of slots may be named each time.";
+    "Only the owner of the socket can open it. A socket whose program is gone is replaced, and anything else at PATH is refused. The port of --tcp has no access check: each program on this machine can read and write the disk there, but not end the service.\n\nThe first lines of the output say where it listens. jnl stop ends it once all commits are stable. A signal ends it as a crash does: each commit that was answered as stable stands. Where the device fails, standard error has the reason, and the status is 1.\n\nWith --read-only nothing is written to FILE, and others may serve it so too.\n\nA disk of the file service is refused without --read-only.\n\nKIND is bit, block, or a record of so many bytes: record8, record16, record32, record64, record128, record256, record512, record1024, record2048. A region goes to the block before the next one, and the last to the end of the disk. FIRST rises from one region to the next. A disk that jnl create made, or jnl label, has its regions in its label: name none, or the same. Without a label the disk does not tell its regions: name the same each time, or none for 513:block 514:bit 515:record128 531:block on a disk of at most 33299 blocks. Another number of slots may be named each time.";
 
 const NFS_NOTES: &str =
     "A client mounts /files, or /, by version 3 of NFS and of MOUNT, which are both on this port:\n  mount -t nfs -o vers=3,nolock,proto=tcp,port=P,mountproto=tcp,mountport=P HOST:/files DIRECTORY\n\nThe service looks at no credential. Whoever reaches the address reads and writes all files: each program on this machine, and with another address than 127.0.0.1 each machine of the network too.\n\nThe first line of the output says at which port it listens. It serves until it is ended. A signal ends it as a crash does: all that was answered as stable stands, and a client sends its other writes again once the disk is served anew.\n\njtool format makes a disk of the file service. Any other is refused.";
@@ -52,6 +52,14 @@ const PORT: &str = "port";
 
 const ADDRESS: &str = "address";
 
+const ALLOCATE: &str = "allocate";
+
+const COPY: &str = "COPY";
+
+const REPLACE: &str = "replace";
+
+const READ_ONLY: &str = "read-only";
+
 // How many connections are served at once where no number is given.
 const DEFAULT_CONNECTIONS: u64 = 64;
 
@@ -63,6 +71,7 @@ pub enum Subcommand<'w> {
         path: &'w str,
         blocks: u64,
         regions: Option<Regions>,
+        room: Room,
     },
     /// Make an empty disk of all blocks of a block device.
     CreateOnDevice(AskedDevice<'w>),
@@ -89,6 +98,12 @@ pub enum Subcommand<'w> {
     /// Print that the disk in a file is sound.
     Check {
         path: &'w str,
+    },
+    /// Copy the disk in a file to another one, also to one that is there.
+    Backup {
+        path: &'w str,
+        copy: &'w str,
+        replaces: bool,
     },
     /// Give the log of the disk in a file this form.
     Seal {
@@ -132,6 +147,11 @@ impl<'w> Subcommand<'w> {
             "check" => Ok(Subcommand::Check {
                 path: word(given, FILE)?,
             }),
+            "backup" => Ok(Subcommand::Backup {
+                path: word(given, FILE)?,
+                copy: word(given, COPY)?,
+                replaces: given.get_flag(REPLACE),
+            }),
             "seal" => parse_seal(given),
             "serve" => parse_serve(given),
             "stop" => Ok(Subcommand::Stop {
@@ -164,6 +184,11 @@ fn parse_create<'w>(given: &ArgMatches<'w>) -> Result<Subcommand<'w>, Fault<'w>>
         path: word(given, FILE)?,
         blocks: blocks_of(given)?,
         regions: named_regions(given.get_strs(REGION))?,
+        room: if given.get_flag(ALLOCATE) {
+            Room::All
+        } else {
+            Room::Log
+        },
     })
 }
 
@@ -217,6 +242,7 @@ fn parse_serve<'w>(given: &ArgMatches<'w>) -> Result<Subcommand<'w>, Fault<'w>> 
             .get_one::<u64>(CONNECTIONS)
             .unwrap_or(DEFAULT_CONNECTIONS),
         layout: AskedLayout::parse(given.get_strs(REGION), slots)?,
+        is_read_only: given.get_flag(READ_ONLY),
     }))
 }
 
@@ -247,6 +273,7 @@ fn command<'w>(alloc: Global) -> Result<Command<'w>, AllocError> {
         .subcommand(create_command(alloc)?)?
         .subcommand(info_command(alloc)?)?
         .subcommand(check_command(alloc)?)?
+        .subcommand(backup_command(alloc)?)?
         .subcommand(seal_command(alloc)?)?
         .subcommand(label_command(alloc)?)?
         .subcommand(grow_command(alloc)?)?
@@ -266,10 +293,15 @@ fn create_command<'w>(alloc: Global) -> Result<Command<'w>, AllocError> {
         alloc,
         "How many blocks of 4096 bytes the disk has, 532 to 1099511627776",
     );
+    let allocate = Arg::new(alloc, ALLOCATE)
+        .long(ALLOCATE)
+        .action(ArgAction::SetTrue)
+        .conflicts_with(DEVICE)?
+        .help("Writes zeros to every block, so that each has its room in the file system");
     Command::new(alloc, "create")
         .about("Makes an empty disk with a sealed log in a new file, or on a block device")
         .after_help(
-            "Give FILE and --blocks, or --device.\n\nRefused where FILE is there. When it is done, FILE's name and the room of the log are stable. The other blocks take room once they are written. FILE keeps N and the regions in a label, and serve takes them from it. Without --region a disk of at most 33299 blocks has the regions 513:block 514:bit 515:record128 531:block, and a larger one is served with --region alone.\n\nOn a block device the disk has all whole blocks of the device, and they become zeros; a line after each tenth says how far it is. Refused, unless --force is given, where the device holds a disk of jnl, a file system, a partition table, another known content, or other bytes than zeros where the log is to be. It is not seen whether the device is mounted: see that before --force. Where it is stopped, no program uses the device as a disk; call it again with --force.\n\nWith --zeroed the blocks are zeros already, as after blkdiscard -z PATH. Then 1024 of them are read, and the others are trusted: an object has at first what its block has.",
+            "Give FILE and --blocks, or --device.\n\nRefused where FILE is there. Where it is refused later, as for want of room, no FILE is left. When it is done, FILE's name and the room of the log are stable, and its owner alone may use it. The other blocks take room once they are written, where there may be none, or at once with --allocate. FILE keeps N and the regions in a label, and serve takes them from it. Without --region a disk of at most 33299 blocks has the regions 513:block 514:bit 515:record128 531:block, and a larger one is served with --region alone.\n\nOn a block device the disk has all whole blocks of the device, and they become zeros; a line after each tenth says how far it is. Refused, unless --force is given, where the device holds a disk of jnl, a file system, a partition table, another known content, or other bytes than zeros where the log is to be. It is not seen whether the device is mounted: see that before --force. Where it is stopped, no program uses the device as a disk; call it again with --force.\n\nWith --zeroed the blocks are zeros already, as after blkdiscard -z PATH. Then 1024 of them are read, and the others are trusted: an object has at first what its block has.",
         )
         .arg(or_device(file_arg(alloc, "The file to make"))?)?
         .arg(or_device(blocks)?)?
@@ -279,7 +311,8 @@ fn create_command<'w>(alloc: Global) -> Result<Command<'w>, AllocError> {
         ))?
         .arg(zeroed_arg(alloc)?)?
         .arg(force)?
-        .arg(region_arg(alloc))
+        .arg(region_arg(alloc))?
+        .arg(allocate)
 }
 
 fn label_command<'w>(alloc: Global) -> Result<Command<'w>, AllocError> {
@@ -328,8 +361,28 @@ fn check_command<'w>(alloc: Global) -> Result<Command<'w>, AllocError> {
         .about(
             "Checks that the log of a disk is well formed, and that the files of the file service are sound if it has them",
         )
-        .after_help("Nothing is written to FILE.")
+        .after_help(
+            "Nothing is written to FILE. A plain copy of a disk that was served meanwhile may pass, though it is torn.",
+        )
         .arg(file_arg(alloc, "The file of the disk"))
+}
+
+fn backup_command<'w>(alloc: Global) -> Result<Command<'w>, AllocError> {
+    let copy = Arg::new(alloc, COPY)
+        .required(true)
+        .help("The file to make");
+    let replace = Arg::new(alloc, REPLACE)
+        .long(REPLACE)
+        .action(ArgAction::SetTrue)
+        .help("Lets COPY take the place of a file that is there");
+    Command::new(alloc, "backup")
+        .about("Copies a disk that no program writes to another file")
+        .after_help(
+            "Refused while a program has FILE that may write it, where its log is not well formed, and where COPY is there. COPY gets its name once it is whole and stable, and its owner alone may use it. Blocks of zeros take no room there. It is made as COPY.part, which a run that is killed leaves.",
+        )
+        .arg(file_arg(alloc, "The file of the disk"))?
+        .arg(copy)?
+        .arg(replace)
 }
 
 fn seal_command<'w>(alloc: Global) -> Result<Command<'w>, AllocError> {
@@ -366,6 +419,12 @@ fn serve_command<'w>(alloc: Global) -> Result<Command<'w>, AllocError> {
         .value_parser(value_parser!(u16).range(1..=65521))
         .default_value("257")
         .help("How many locks the objects share, an odd number up to 65521");
+    let read_only = Arg::new(alloc, READ_ONLY)
+        .long(READ_ONLY)
+        .action(ArgAction::SetTrue)
+        .help(
+            "Opens FILE to read it alone, and refuses each transaction that writes, by status 71",
+        );
     Command::new(alloc, "serve")
         .about("Serves a disk to programs in any language, by the protocol of docs/PROTOCOL.md")
         .after_help(SERVE_NOTES)
@@ -374,7 +433,8 @@ fn serve_command<'w>(alloc: Global) -> Result<Command<'w>, AllocError> {
         .arg(port)?
         .arg(connections)?
         .arg(region_arg(alloc))?
-        .arg(slots)
+        .arg(slots)?
+        .arg(read_only)
 }
 
 fn stop_command<'w>(alloc: Global) -> Result<Command<'w>, AllocError> {

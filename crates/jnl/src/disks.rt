@@ -8,7 +8,7 @@ use journal_disk::BlockDisk;
 use journal_form::{LogForm, change_form};
 use journal_inode::FormatVersion;
 use journal_program::{
-    DiskFacts, FoundDisk, Label, SizedDisk, ToCheck, Zeros, create_labeled_disk, find_device,
+    DiskFacts, FoundDisk, Label, Room, SizedDisk, ToCheck, Zeros, create_labeled_disk, find_device,
     find_disk, is_disk_size, open_to_check,
 };
 use journal_world::Refused;
@@ -16,6 +16,10 @@ use std::alloc::Global;
 use std::fs::{File, Files};
 use std::io::Write;
 use std::{fs, io};
+
+// What is printed of a disk that was checked. A copy of a disk that was written meanwhile may have
+// such a log too.
+const WELL_FORMED: &str = "log well formed";
 
 /// A disk on a block device that is asked for.
 #[derive(Clone, Copy)]
@@ -30,9 +34,10 @@ pub struct AskedDevice<'w> {
     pub force: bool,
 }
 
-/// Makes an empty disk of this number of blocks, 532 to 2^40, in a new file at the path. Its log is
-/// sealed, and its label has the number of blocks and the regions of its layout. Where none are
-/// named, these are those of files if so few blocks have them, and else the label has none.
+/// Makes an empty disk of this number of blocks, 532 to 2^40, in a new file at the path, with this
+/// room in its file system. Its log is sealed, and its label has the number of blocks and the
+/// regions of its layout. Where none are named, these are those of files if so few blocks have
+/// them, and else the label has none.
 ///
 /// Refused where anything is at the path, which stays as it is. Where it is refused later, the new
 /// file is removed.
@@ -42,11 +47,12 @@ pub fn create<'w, R: Files<File = File>>(
     path: &'w str,
     blocks: u64,
     regions: Option<Regions>,
+    room: Room,
 ) -> Result<(), Fault<'w>> {
     let Some(label) = label_of(blocks, regions) else {
         return Err(Fault::NoDisk { path, blocks });
     };
-    let disk = match create_labeled_disk(rt, alloc, path, &label) {
+    let disk = match create_labeled_disk(rt, alloc, path, &label, room) {
         Ok(disk) => disk,
         Err(why) => return Err(Fault::unopened(path, why)),
     };
@@ -125,8 +131,8 @@ fn print_facts<O: Write>(facts: &DiskFacts, output: &mut O) -> io::Result<()> {
     }
 }
 
-/// Prints that the disk is sound, and of a disk of the file service the version of the format in
-/// which its files are. Nothing is written to it.
+/// Prints that the log of the disk is well formed, and of a disk of the file service that its files
+/// are sound, and the version of the format in which they are. Nothing is written to it.
 pub fn check<'w, R: Files<File = File>, O: Write, E: Write>(
     rt: &R,
     alloc: Global,
@@ -136,11 +142,11 @@ pub fn check<'w, R: Files<File = File>, O: Write, E: Write>(
 ) -> Result<(), Fault<'w>> {
     let opened = open_to_read(rt, alloc, path, faults)?;
     if !opened.facts.has_files {
-        return print_line(output, "sound", "");
+        return print_line(output, WELL_FORMED, "");
     }
     match sound_version(alloc, opened.disk.disk()) {
-        Ok(FormatVersion::One) => print_line(output, "sound", " version 1"),
-        Ok(FormatVersion::Two) => print_line(output, "sound", " version 2"),
+        Ok(FormatVersion::One) => print_line(output, WELL_FORMED, ", files sound, version 1"),
+        Ok(FormatVersion::Two) => print_line(output, WELL_FORMED, ", files sound, version 2"),
         Err(why) => Err(Fault::Refused { path, why }),
     }
 }

@@ -116,6 +116,10 @@ pub enum Fault<'w> {
     HasNoFiles {
         path: &'w str,
     },
+    /// Something is where a copy with this path is to be made until it is whole.
+    HasPart {
+        copy: &'w str,
+    },
     /// The port cannot be had, or the system refuses connections.
     CannotListen,
     /// The service at the socket gave no answer, or one that is none to what it was asked.
@@ -236,6 +240,7 @@ impl<'w> Fault<'w> {
             | Fault::DeviceFailed { .. }
             | Fault::HasFiles { .. }
             | Fault::HasNoFiles { .. }
+            | Fault::HasPart { .. }
             | Fault::CannotListen
             | Fault::NoAnswer { .. }
             | Fault::NotEnded { .. }
@@ -327,6 +332,10 @@ impl<'w> Fault<'w> {
             Fault::HasNoFiles { path } => writeln!(
                 faults,
                 "jnl: {path} is no disk of the file service, which jtool format makes"
+            ),
+            Fault::HasPart { copy } => writeln!(
+                faults,
+                "jnl: {copy}.part is there: another backup makes it, or one was stopped, and it can be removed"
             ),
             Fault::CannotListen => writeln!(faults, "jnl: cannot listen"),
             Fault::NoAnswer { socket } => {

@@ -1,16 +1,17 @@
 //! The journal at the command line. `jnl create` makes an empty disk in a file or on a block device,
-//! `jnl info` prints
-//! what a disk is, `jnl check` whether it is sound, and `jnl seal` gives its log the form with one
-//! barrier a group, or the plain form again. `jnl label` gives a disk its label, and `jnl grow` more
-//! blocks. `jnl serve` serves a disk to programs in any language,
-//! and `jnl stop` ends such a service. `jnl nfs` serves the files of a disk of the file service so
-//! that a Linux machine mounts them. `jnl --help` is the manual.
+//! `jnl info` prints what a disk is, `jnl check` whether it is sound, and `jnl seal` gives its log
+//! the form with one barrier a group, or the plain form again. `jnl backup` copies a disk that
+//! nobody writes. `jnl label` gives a disk its label, and `jnl grow` more blocks. `jnl serve` serves
+//! a disk to programs in any language, and `jnl stop` ends such a service. `jnl nfs` serves the
+//! files of a disk of the file service so that a Linux machine mounts them. `jnl --help` is the
+//! manual.
 #![tactic(auto)]
 
 ghost use Rattle.std.specs.Prelude.{◌≤◌};
 
 mod checking;
 mod command;
+mod copying;
 mod disks;
 mod exporting;
 mod fault;
@@ -82,7 +83,8 @@ fn obey<
             path,
             blocks,
             regions,
-        } => disks::create(rt, alloc, path, blocks, regions),
+            room,
+        } => disks::create(rt, alloc, path, blocks, regions, room),
         Subcommand::CreateOnDevice(device) => {
             disks::create_on_device(rt, alloc, device, output, faults)
         }
@@ -97,6 +99,11 @@ fn obey<
         }
         Subcommand::Info { path } => disks::info(rt, alloc, path, output, faults),
         Subcommand::Check { path } => disks::check(rt, alloc, path, output, faults),
+        Subcommand::Backup {
+            path,
+            copy,
+            replaces,
+        } => copying::back_up(rt, alloc, path, copy, replaces, output),
         Subcommand::Seal { path, form } => disks::seal(rt, alloc, path, form, output),
         Subcommand::Serve(service) => serving::serve(rt, alloc, service, output),
         Subcommand::Stop { socket } => stopping::stop(rt, alloc, socket),

@@ -12,7 +12,7 @@ use crate::socket;
 use crate::working::{FileJournal, Listeners, OpenDisk, Workers, WorkersFault};
 use journal_history::{Book, Naming};
 use journal_lockmap::SlotCell;
-use journal_program::{Daemon, DiskFacts, SizedDisk};
+use journal_program::{Daemon, DiskFacts, SizedDisk, share_disk};
 use journal_twophase::{Journal, MAX_CACHED_BLOCKS};
 use journal_world::{AnyMap, Layout, Refused};
 use std::alloc::Global;
@@ -38,6 +38,8 @@ pub struct Service<'w> {
     pub connections: u64,
     /// The layout that is asked for, whatever number of blocks the disk has.
     pub layout: AskedLayout,
+    /// Whether the disk is only read.
+    pub is_read_only: bool,
 }
 
 // A disk, and the layout by which it is opened.
@@ -58,6 +60,10 @@ struct LaidOut {
 /// other regions, where the disk is one of the file service, whose files would not stay sound,
 /// where the layout is not one of so many blocks, and as the opening of the journal is. Nothing
 /// listens then.
+///
+/// Where the disk is only read, other services that only read it may have it too, no byte of it
+/// is written, and each transaction that writes is refused. Then it may also be a disk of the file
+/// service.
 pub fn serve<
     'w,
     R: Files<File = File>
@@ -68,18 +74,49 @@ pub fn serve<
         + Sync,
     O: Write,
 >(rt: &R, alloc: Global, service: Service<'w>, output: &mut O) -> Result<(), Fault<'w>> {
+    let disk = if service.is_read_only {
+        open_shared(rt, alloc, service)?
+    } else {
+        open_alone(rt, alloc, service)?
+    };
+    let listeners = open_listeners(rt, alloc, service, output)?;
+    let served = serve_disk(rt, alloc, disk, service, &listeners, output);
+    socket::remove(rt, service.socket);
+    served?;
+    print_line(output, "stopped", "")
+}
+
+// Opens the disk to write it.
+fn open_alone<'w, R: Files<File = File>>(
+    rt: &R,
+    alloc: Global,
+    service: Service<'w>,
+) -> Result<LaidOut, Fault<'w>> {
     let found = find(rt, alloc, service.path)?;
     if found.facts.has_files {
         return Err(Fault::HasFiles { path: service.path });
     }
     let layout = lay_out(&found.facts, service)?;
     let disk = settle(service.path, found)?;
-    let disk = LaidOut { layout, disk };
-    let listeners = open_listeners(rt, alloc, service, output)?;
-    let served = serve_disk(rt, alloc, disk, service, &listeners, output);
-    socket::remove(rt, service.socket);
-    served?;
-    print_line(output, "stopped", "")
+    Ok(LaidOut { layout, disk })
+}
+
+// Opens the disk to read it alone.
+fn open_shared<'w, R: Files<File = File>>(
+    rt: &R,
+    alloc: Global,
+    service: Service<'w>,
+) -> Result<LaidOut, Fault<'w>> {
+    let path = service.path;
+    let shared = match share_disk(rt, alloc, path) {
+        Ok(shared) => shared,
+        Err(why) => return Err(Fault::unopened(path, why)),
+    };
+    let layout = lay_out(&shared.facts, service)?;
+    match shared.disk() {
+        Ok(disk) => Ok(LaidOut { layout, disk }),
+        Err(why) => Err(Fault::File { path, why }),
+    }
 }
 
 // The layout of a disk: the regions that its label tells, or else those that are asked for, and the
@@ -186,6 +223,7 @@ fn serve_book<'w, J: Naming + Send + Sync, R: Clock + Threads + Wait + Sync, O: 
         alloc,
         journal: &journal,
         blocks: layout.blocks,
+        may_write: !service.is_read_only,
     };
     let served = serve_beside_daemon(rt, &open, service, listeners, output);
     drop(open);
@@ -212,7 +250,11 @@ fn serve_beside_daemon<'w, 'b, J: Naming + Send + Sync, R: Clock + Threads + Wai
         return Err(Fault::CannotListen);
     };
     let journal = disk.journal;
-    let daemon = Daemon::new();
+    let daemon = if disk.may_write {
+        Daemon::new()
+    } else {
+        Daemon::without_installer()
+    };
     thread::scope(thread::scope_env(), rt, |scope| -> Result<(), Fault<'_>> {
         let run_daemon = || {
             daemon.run(rt, journal);

@@ -5,7 +5,7 @@ use crate::listener::{Closer, Listener};
 use crate::peer::{Incoming, Outgoing, Peer};
 use crate::queue::{Accepted, Queue};
 use journal_history::Naming;
-use journal_port::{End, Terms, serve};
+use journal_port::{End, Rights, Terms, serve};
 use journal_program::SizedDisk;
 use journal_twophase::Journal;
 use journal_world::AnyMap;
@@ -30,6 +30,8 @@ pub struct OpenDisk<'j, 'b, J: Naming> {
     pub journal: &'j FileJournal<'b, J>,
     /// The number of blocks of its disk.
     pub blocks: u64,
+    /// Whether transactions may write.
+    pub may_write: bool,
     pub ghost is_its_size: { blocks ≡ J.layout.blocks },
 }
 
@@ -39,6 +41,7 @@ impl<'j, 'b, J: Naming> Drop for OpenDisk<'j, 'b, J> {
             alloc: _,
             journal: _,
             blocks: _,
+            may_write: _,
         } = self;
     }
 }
@@ -182,9 +185,13 @@ impl<'s, 'j, 'b, J: Naming + Send + Sync> Workers<'s, 'j, 'b, J> {
     fn serve_one<R: Clock + Wait>(&self, rt: &R, accepted: Accepted) -> Option<End> {
         let Accepted { stream, may_stop } = accepted;
         let disk = self.disk;
+        let may_write = disk.may_write;
         let terms = Terms {
             blocks: disk.blocks,
-            may_stop,
+            rights: Rights {
+                may_stop,
+                may_write,
+            },
         };
         let Ok(mut session) = disk.journal.session(rt) else {
             return None;

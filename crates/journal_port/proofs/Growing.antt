@@ -1,5 +1,5 @@
 -- What a session had seen before an answer it has seen after it.
-use Rattle.std.proofs.Common.{ℕ, ◌≡◌, Bool, inl, inr, Result, Ok, Err, List, ◌∷◌, [], sym, subst}
+use Rattle.std.proofs.Common.{ℕ, ◌≡◌, Bool, true, false, inl, inr, Result, Ok, Err, List, ◌∷◌, [], sym, subst}
 use mathlib.Core.List.{IsPrefix}
 use Rattle.journal_world.specs.Addresses.{Shape}
 use Rattle.journal_world.proofs.Prefixes.{IsPrefix-refl, IsPrefix-trans}
@@ -11,7 +11,8 @@ use Rattle.journal_records.specs.declared.request.Request.{Request}
 use Rattle.journal_records.specs.declared.request.Request.TheVariants as asked
 use Rattle.journal_records.specs.declared.answer.Answer.{Answer}
 use Rattle.journal_records.specs.declared.answer.Answer.TheVariants.{Committed, Refused, Unsure, Values, Hello, Flushed, Stat, Stopping}
-use Rattle.journal_port.specs.Answers.{CommitsParts, IsCommitAnswer, IsReadAnswer, IsHelloAnswer, IsFlushAnswer, IsStatAnswer, IsStopAnswer, IsAnswerTo}
+use Rattle.journal_port.specs.declared.rights.Rights.{Rights}
+use Rattle.journal_port.specs.Answers.{CommitsParts, IsCommitAnswer, IsCommitReply, is_denied, IsReadAnswer, IsHelloAnswer, IsFlushAnswer, IsStatAnswer, IsStopAnswer, IsAnswerTo}
 use Rattle.journal_port.specs.Served.{IsFoundAnswer, IsReplyTo, AreAnswers}
 
 abbrev pub Grows : SessionState → SessionState → Type 0
@@ -35,6 +36,10 @@ commit_grows layout parts waits marks old new (Hello version size) is = absurd i
 commit_grows layout parts waits marks old new (Flushed stable) is = absurd is
 commit_grows layout parts waits marks old new (Stat commits stable) is = absurd is
 commit_grows layout parts waits marks old new Stopping is = absurd is
+
+asked_grows : (layout : Shape) (denied : Bool) (parts : List Part) (waits : Bool) (marks : List Entry) (old new : SessionState) (told : Answer) → IsCommitReply layout denied parts waits marks old new told → Grows old new
+asked_grows layout true parts waits marks old new told is = same_grows old new is.0
+asked_grows layout false parts waits marks old new told is = commit_grows layout parts waits marks old new told is
 
 hello_grows : (blocks version : ℕ) (old new : SessionState) (told : Answer) → IsHelloAnswer blocks version old new told → Grows old new
 hello_grows blocks version old new (Hello spoken size) is = same_grows old new is.0
@@ -87,23 +92,23 @@ stop_grows may_stop old new (Values values) is = absurd is
 stop_grows may_stop old new (Flushed stable) is = absurd is
 stop_grows may_stop old new (Stat commits stable) is = absurd is
 
-answer_grows : (layout : Shape) (may_stop : Bool) (marks : List Entry) (request : Request) (old new : SessionState) (told : Answer) → IsAnswerTo layout may_stop marks request old new told → Grows old new
-answer_grows layout may_stop marks (asked.Hello version) old new told is = hello_grows layout.blocks version old new told is
-answer_grows layout may_stop marks (asked.Commit parts waits) old new told is = commit_grows layout parts.items waits marks old new told is
-answer_grows layout may_stop marks (asked.Read addrs) old new told is = read_grows layout addrs.items old new told is
-answer_grows layout may_stop marks asked.Flush old new told is = flush_grows old new told is
-answer_grows layout may_stop marks asked.Stat old new told is = stat_grows old new told is
-answer_grows layout may_stop marks asked.Stop old new told is = stop_grows may_stop old new told is
+answer_grows : (layout : Shape) (rights : Rights) (marks : List Entry) (request : Request) (old new : SessionState) (told : Answer) → IsAnswerTo layout rights marks request old new told → Grows old new
+answer_grows layout rights marks (asked.Hello version) old new told is = hello_grows layout.blocks version old new told is
+answer_grows layout rights marks (asked.Commit parts waits) old new told is = asked_grows layout (is_denied rights parts.items) parts.items waits marks old new told is
+answer_grows layout rights marks (asked.Read addrs) old new told is = read_grows layout addrs.items old new told is
+answer_grows layout rights marks asked.Flush old new told is = flush_grows old new told is
+answer_grows layout rights marks asked.Stat old new told is = stat_grows old new told is
+answer_grows layout rights marks asked.Stop old new told is = stop_grows rights.may_stop old new told is
 
-found_grows : (layout : Shape) (may_stop : Bool) (marks : List Entry) (found : Result Request ReadFault) (old new : SessionState) (told : Answer) → IsFoundAnswer layout may_stop marks found old new told → Grows old new
-found_grows layout may_stop marks (Ok request) old new told is = answer_grows layout may_stop marks request old new told is
-found_grows layout may_stop marks (Err why) old new told is = same_grows old new is.0
+found_grows : (layout : Shape) (rights : Rights) (marks : List Entry) (found : Result Request ReadFault) (old new : SessionState) (told : Answer) → IsFoundAnswer layout rights marks found old new told → Grows old new
+found_grows layout rights marks (Ok request) old new told is = answer_grows layout rights marks request old new told is
+found_grows layout rights marks (Err why) old new told is = same_grows old new is.0
 
-pub reply_grows : (layout : Shape) (may_stop : Bool) (marks : List Entry) (bytes : List ℕ) (old new : SessionState) (told : Answer) → IsReplyTo layout may_stop marks bytes old new told → Grows old new
-reply_grows layout may_stop marks bytes old new told is = found_grows layout may_stop marks is.0 old new told is.2
+pub reply_grows : (layout : Shape) (rights : Rights) (marks : List Entry) (bytes : List ℕ) (old new : SessionState) (told : Answer) → IsReplyTo layout rights marks bytes old new told → Grows old new
+reply_grows layout rights marks bytes old new told is = found_grows layout rights marks is.0 old new told is.2
 
-pub answers_grow : (layout : Shape) (may_stop : Bool) (marks : List Entry) (records : List (List ℕ)) (old new : SessionState) (answers : List Answer) → AreAnswers layout may_stop marks records old new answers → Grows old new
-answers_grow layout may_stop marks [] old new answers are = are.0.seen
-answers_grow layout may_stop marks (r ∷ rs) old new answers are =
+pub answers_grow : (layout : Shape) (rights : Rights) (marks : List Entry) (records : List (List ℕ)) (old new : SessionState) (answers : List Answer) → AreAnswers layout rights marks records old new answers → Grows old new
+answers_grow layout rights marks [] old new answers are = are.0.seen
+answers_grow layout rights marks (r ∷ rs) old new answers are =
     IsPrefix-trans old.seen are.0.seen new.seen are.4.seen
-    (IsPrefix-trans are.0.seen are.1.seen new.seen (reply_grows layout may_stop marks r are.0 are.1 are.2 are.5) (answers_grow layout may_stop marks rs are.1 new are.3 are.6))
+    (IsPrefix-trans are.0.seen are.1.seen new.seen (reply_grows layout rights marks r are.0 are.1 are.2 are.5) (answers_grow layout rights marks rs are.1 new are.3 are.6))

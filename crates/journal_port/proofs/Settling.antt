@@ -12,7 +12,9 @@ use Rattle.journal_records.specs.declared.request.Request.{Request}
 use Rattle.journal_records.specs.declared.request.Request.TheVariants as asked
 use Rattle.journal_records.specs.declared.answer.Answer.{Answer}
 use Rattle.journal_records.specs.declared.answer.Answer.TheVariants.{Committed, Refused, Unsure, Values, Hello, Flushed, Stat, Stopping}
-use Rattle.journal_port.specs.Answers.{IsCommitAnswer, IsReadAnswer, IsHelloAnswer, IsFlushAnswer, IsStatAnswer, IsStopAnswer, IsAnswerTo, settled}
+use Rattle.journal_records.specs.declared.refused.Refused.TheVariants.{ReadOnly}
+use Rattle.journal_port.specs.declared.rights.Rights.{Rights}
+use Rattle.journal_port.specs.Answers.{IsCommitAnswer, IsCommitReply, is_denied, IsReadAnswer, IsHelloAnswer, IsFlushAnswer, IsStatAnswer, IsStopAnswer, IsAnswerTo, settled}
 use Rattle.journal_port.specs.Served.{refused_for, IsFoundAnswer}
 
 pub floor_later : (marks later : List Entry) → IsPrefix marks later → floor marks ≤ floor later
@@ -32,19 +34,24 @@ commit_later layout parts waits marks later old new (Flushed stable) more is = i
 commit_later layout parts waits marks later old new (Stat commits stable) more is = is
 commit_later layout parts waits marks later old new Stopping more is = is
 
-pub answer_later : (layout : Shape) (may_stop : Bool) (marks later : List Entry) (request : Request) (old new : SessionState) (told : Answer) → IsPrefix marks later
-    → IsAnswerTo layout may_stop marks request old new told → IsAnswerTo layout may_stop later request old new told
-answer_later layout may_stop marks later (asked.Hello version) old new told more is = is
-answer_later layout may_stop marks later (asked.Commit parts waits) old new told more is = commit_later layout parts.items waits marks later old new told more is
-answer_later layout may_stop marks later (asked.Read addrs) old new told more is = is
-answer_later layout may_stop marks later asked.Flush old new told more is = is
-answer_later layout may_stop marks later asked.Stat old new told more is = is
-answer_later layout may_stop marks later asked.Stop old new told more is = is
+asked_later : (layout : Shape) (denied : Bool) (parts : List Part) (waits : Bool) (marks later : List Entry) (old new : SessionState) (told : Answer) → IsPrefix marks later
+    → IsCommitReply layout denied parts waits marks old new told → IsCommitReply layout denied parts waits later old new told
+asked_later layout true parts waits marks later old new told more is = is
+asked_later layout false parts waits marks later old new told more is = commit_later layout parts waits marks later old new told more is
 
-pub found_later : (layout : Shape) (may_stop : Bool) (marks later : List Entry) (found : Result Request ReadFault) (old new : SessionState) (told : Answer) → IsPrefix marks later
-    → IsFoundAnswer layout may_stop marks found old new told → IsFoundAnswer layout may_stop later found old new told
-found_later layout may_stop marks later (Ok request) old new told more is = answer_later layout may_stop marks later request old new told more is
-found_later layout may_stop marks later (Err why) old new told more is = is
+pub answer_later : (layout : Shape) (rights : Rights) (marks later : List Entry) (request : Request) (old new : SessionState) (told : Answer) → IsPrefix marks later
+    → IsAnswerTo layout rights marks request old new told → IsAnswerTo layout rights later request old new told
+answer_later layout rights marks later (asked.Hello version) old new told more is = is
+answer_later layout rights marks later (asked.Commit parts waits) old new told more is = asked_later layout (is_denied rights parts.items) parts.items waits marks later old new told more is
+answer_later layout rights marks later (asked.Read addrs) old new told more is = is
+answer_later layout rights marks later asked.Flush old new told more is = is
+answer_later layout rights marks later asked.Stat old new told more is = is
+answer_later layout rights marks later asked.Stop old new told more is = is
+
+pub found_later : (layout : Shape) (rights : Rights) (marks later : List Entry) (found : Result Request ReadFault) (old new : SessionState) (told : Answer) → IsPrefix marks later
+    → IsFoundAnswer layout rights marks found old new told → IsFoundAnswer layout rights later found old new told
+found_later layout rights marks later (Ok request) old new told more is = answer_later layout rights marks later request old new told more is
+found_later layout rights marks later (Err why) old new told more is = is
 
 -- ---- where so many are stable
 
@@ -74,27 +81,32 @@ commit_settled layout parts waits marks stable old new (Flushed n) marked is = i
 commit_settled layout parts waits marks stable old new (Stat commits n) marked is = is
 commit_settled layout parts waits marks stable old new Stopping marked is = is
 
-pub answer_settled : (layout : Shape) (may_stop : Bool) (marks : List Entry) (stable : ℕ) (request : Request) (old new : SessionState) (told : Answer) → stable ≤ floor marks
-    → IsAnswerTo layout may_stop marks request old new told → IsAnswerTo layout may_stop marks request old new (settled stable told)
-answer_settled layout may_stop marks stable (asked.Hello version) old new told marked is = settled_other (IsHelloAnswer layout.blocks version old new) stable told (λ p c no_such. no_such) is
-answer_settled layout may_stop marks stable (asked.Commit parts waits) old new told marked is = commit_settled layout parts.items waits marks stable old new told marked is
-answer_settled layout may_stop marks stable (asked.Read addrs) old new told marked is = settled_other (IsReadAnswer layout addrs.items old new) stable told (λ p c no_such. no_such) is
-answer_settled layout may_stop marks stable asked.Flush old new told marked is = settled_other (IsFlushAnswer old new) stable told (λ p c no_such. no_such) is
-answer_settled layout may_stop marks stable asked.Stat old new told marked is = settled_other (IsStatAnswer old new) stable told (λ p c no_such. no_such) is
-answer_settled layout may_stop marks stable asked.Stop old new told marked is = settled_other (IsStopAnswer may_stop old new) stable told (λ p c no_such. no_such) is
+asked_settled : (layout : Shape) (denied : Bool) (parts : List Part) (waits : Bool) (marks : List Entry) (stable : ℕ) (old new : SessionState) (told : Answer) → stable ≤ floor marks
+    → IsCommitReply layout denied parts waits marks old new told → IsCommitReply layout denied parts waits marks old new (settled stable told)
+asked_settled layout true parts waits marks stable old new told marked is = settled_other (λ a. (new ≡ old) × (a ≡ Refused ReadOnly)) stable told (λ p c no_such. absurd (let e : Unsure p c ≡ Refused ReadOnly = no_such.1 in cc)) is
+asked_settled layout false parts waits marks stable old new told marked is = commit_settled layout parts waits marks stable old new told marked is
 
-pub found_settled : (layout : Shape) (may_stop : Bool) (marks : List Entry) (stable : ℕ) (found : Result Request ReadFault) (old new : SessionState) (told : Answer) → stable ≤ floor marks
-    → IsFoundAnswer layout may_stop marks found old new told → IsFoundAnswer layout may_stop marks found old new (settled stable told)
-found_settled layout may_stop marks stable (Ok request) old new told marked is = answer_settled layout may_stop marks stable request old new told marked is
-found_settled layout may_stop marks stable (Err why) old new told marked is = settled_other (λ a. (new ≡ old) × (a ≡ Refused (refused_for why))) stable told (λ p c no_such. absurd (let e : Unsure p c ≡ Refused (refused_for why) = no_such.1 in cc)) is
+pub answer_settled : (layout : Shape) (rights : Rights) (marks : List Entry) (stable : ℕ) (request : Request) (old new : SessionState) (told : Answer) → stable ≤ floor marks
+    → IsAnswerTo layout rights marks request old new told → IsAnswerTo layout rights marks request old new (settled stable told)
+answer_settled layout rights marks stable (asked.Hello version) old new told marked is = settled_other (IsHelloAnswer layout.blocks version old new) stable told (λ p c no_such. no_such) is
+answer_settled layout rights marks stable (asked.Commit parts waits) old new told marked is = asked_settled layout (is_denied rights parts.items) parts.items waits marks stable old new told marked is
+answer_settled layout rights marks stable (asked.Read addrs) old new told marked is = settled_other (IsReadAnswer layout addrs.items old new) stable told (λ p c no_such. no_such) is
+answer_settled layout rights marks stable asked.Flush old new told marked is = settled_other (IsFlushAnswer old new) stable told (λ p c no_such. no_such) is
+answer_settled layout rights marks stable asked.Stat old new told marked is = settled_other (IsStatAnswer old new) stable told (λ p c no_such. no_such) is
+answer_settled layout rights marks stable asked.Stop old new told marked is = settled_other (IsStopAnswer rights.may_stop old new) stable told (λ p c no_such. no_such) is
+
+pub found_settled : (layout : Shape) (rights : Rights) (marks : List Entry) (stable : ℕ) (found : Result Request ReadFault) (old new : SessionState) (told : Answer) → stable ≤ floor marks
+    → IsFoundAnswer layout rights marks found old new told → IsFoundAnswer layout rights marks found old new (settled stable told)
+found_settled layout rights marks stable (Ok request) old new told marked is = answer_settled layout rights marks stable request old new told marked is
+found_settled layout rights marks stable (Err why) old new told marked is = settled_other (λ a. (new ≡ old) × (a ≡ Refused (refused_for why))) stable told (λ p c no_such. absurd (let e : Unsure p c ≡ Refused (refused_for why) = no_such.1 in cc)) is
 
 -- both, for a commit that was not known to be stable
-pub unsure_settled : (layout : Shape) (may_stop : Bool) (marks later : List Entry) (stable : ℕ) (request : Request) (old new : SessionState) (told : Answer) → IsPrefix marks later → stable ≤ floor later
-    → IsAnswerTo layout may_stop marks request old new told → IsAnswerTo layout may_stop later request old new (settled stable told)
-unsure_settled layout may_stop marks later stable request old new told more marked is =
-    answer_settled layout may_stop later stable request old new told marked (answer_later layout may_stop marks later request old new told more is)
+pub unsure_settled : (layout : Shape) (rights : Rights) (marks later : List Entry) (stable : ℕ) (request : Request) (old new : SessionState) (told : Answer) → IsPrefix marks later → stable ≤ floor later
+    → IsAnswerTo layout rights marks request old new told → IsAnswerTo layout rights later request old new (settled stable told)
+unsure_settled layout rights marks later stable request old new told more marked is =
+    answer_settled layout rights later stable request old new told marked (answer_later layout rights marks later request old new told more is)
 
 -- a hello is answered as one
-pub is_hello : (layout : Shape) (may_stop : Bool) (marks : List Entry) (request : Request) (version : ℕ) (session : SessionState) (told : Answer) → request ≡ asked.Hello version
-    → IsHelloAnswer layout.blocks version session session told → IsAnswerTo layout may_stop marks request session session told
-is_hello layout may_stop marks request version session told is hello = subst (λ (r : Request). IsAnswerTo layout may_stop marks r session session told) (sym is) hello
+pub is_hello : (layout : Shape) (rights : Rights) (marks : List Entry) (request : Request) (version : ℕ) (session : SessionState) (told : Answer) → request ≡ asked.Hello version
+    → IsHelloAnswer layout.blocks version session session told → IsAnswerTo layout rights marks request session session told
+is_hello layout rights marks request version session told is hello = subst (λ (r : Request). IsAnswerTo layout rights marks r session session told) (sym is) hello

@@ -22,14 +22,15 @@ use Rattle.journal_records.specs.declared.request.Request.{Request}
 use Rattle.journal_records.specs.declared.request.Request.TheVariants.{Hello, Commit, Read, Flush, Stat, Stop}
 use Rattle.journal_records.specs.declared.limits.TheConstants.{VERSION}
 use Rattle.journal_records.specs.declared.refused.Refused as refused
-use Rattle.journal_records.specs.declared.refused.Refused.TheVariants.{Conflict, OtherVersion, Forbidden}
+use Rattle.journal_records.specs.declared.refused.Refused.TheVariants.{Conflict, OtherVersion, Forbidden, ReadOnly}
 use Rattle.journal_records.specs.Statuses.{refused_as}
 use Rattle.journal_port.specs.declared.parts.PartFault.{PartFault}
 use Rattle.journal_port.specs.declared.parts.PartFault.TheVariants as fault
 use Rattle.journal_records.specs.declared.answer.Answer.{Answer}
 use Rattle.journal_records.specs.declared.answer.Answer.TheVariants.{Committed, Refused, Unsure, Values}
 use Rattle.journal_records.specs.declared.answer.Answer.TheVariants as told
-use Rattle.journal_port.specs.Requests.{compared, written}
+use Rattle.journal_port.specs.declared.rights.Rights.{Rights}
+use Rattle.journal_port.specs.Requests.{compared, written, are_writing}
 use Rattle.journal_port.specs.Parts.{MatchesAt, DiffersAt, IsPartRefusal}
 
 -- the rule of a journal that any map meets
@@ -111,6 +112,15 @@ IsCommitAnswer layout parts waits marks old new (Unsure place count) = IsTrue wa
 IsCommitAnswer layout parts waits marks old new (Refused n) = OnlyExtends old new × (IsConflict parts new n ⊎ IsRefusedFor (IsRefusal layout parts old new) n)
 IsCommitAnswer layout parts waits marks old new other = ⊥
 
+-- the parts write, and who asks may not
+abbrev pub is_denied : Rights → List Part → Bool
+is_denied rights parts = if rights.may_write then false else are_writing parts
+
+-- What the request is owed by whether it is denied: then it is refused, and nothing was done
+abbrev pub IsCommitReply : Shape → Bool → List Part → Bool → List Entry → SessionState → SessionState → Answer → Type 0
+IsCommitReply layout true parts waits marks old new answer = (new ≡ old) × (answer ≡ Refused ReadOnly)
+IsCommitReply layout false parts waits marks old new answer = IsCommitAnswer layout parts waits marks old new answer
+
 -- ---- a request to read
 
 -- why an address is not read. Never because another has its slot
@@ -179,18 +189,18 @@ IsStopAnswer may_stop old new other = ⊥
 
 -- What a request is owed as its answer, which leads the session from what it had seen to what it
 -- has then seen, by the marks of this history
-abbrev pub IsAnswerTo : Shape → Bool → List Entry → Request → SessionState → SessionState → Answer → Type 0
-IsAnswerTo layout may_stop marks (Hello version) old new answer = IsHelloAnswer layout.blocks version old new answer
-IsAnswerTo layout may_stop marks (Commit parts waits) old new answer = IsCommitAnswer layout parts.items waits marks old new answer
-IsAnswerTo layout may_stop marks (Read addrs) old new answer = IsReadAnswer layout addrs.items old new answer
-IsAnswerTo layout may_stop marks Flush old new answer = IsFlushAnswer old new answer
-IsAnswerTo layout may_stop marks Stat old new answer = IsStatAnswer old new answer
-IsAnswerTo layout may_stop marks Stop old new answer = IsStopAnswer may_stop old new answer
+abbrev pub IsAnswerTo : Shape → Rights → List Entry → Request → SessionState → SessionState → Answer → Type 0
+IsAnswerTo layout rights marks (Hello version) old new answer = IsHelloAnswer layout.blocks version old new answer
+IsAnswerTo layout rights marks (Commit parts waits) old new answer = IsCommitReply layout (is_denied rights parts.items) parts.items waits marks old new answer
+IsAnswerTo layout rights marks (Read addrs) old new answer = IsReadAnswer layout addrs.items old new answer
+IsAnswerTo layout rights marks Flush old new answer = IsFlushAnswer old new answer
+IsAnswerTo layout rights marks Stat old new answer = IsStatAnswer old new answer
+IsAnswerTo layout rights marks Stop old new answer = IsStopAnswer rights.may_stop old new answer
 
 -- The request was done and led the session to a state, which has only seen more since, as the mark
 -- that it waited for
-abbrev pub IsAnswered : Shape → Bool → Request → SessionState → SessionState → Answer → Type 0
-IsAnswered layout may_stop request old new answer = (done : SessionState) × IsAnswerTo layout may_stop new.seen request old done answer × OnlyExtends done new
+abbrev pub IsAnswered : Shape → Rights → Request → SessionState → SessionState → Answer → Type 0
+IsAnswered layout rights request old new answer = (done : SessionState) × IsAnswerTo layout rights new.seen request old done answer × OnlyExtends done new
 
 -- what is answered where so many commits are stable: of one that was not known to be, that it is,
 -- where it is among them

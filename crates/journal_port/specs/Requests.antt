@@ -1,5 +1,6 @@
 -- What a request asks, and in which order its parts are done.
-use Rattle.std.specs.Prelude.{ℕ, ◌+◌, ◌*◌, List, [], ◌∷◌, ◌++◌}
+use Rattle.std.specs.Prelude.{ℕ, ◌+◌, ◌*◌, Bool, true, false, List, [], ◌∷◌, ◌++◌}
+use Rattle.std.specs.List.{list_any}
 use Rattle.journal_world.specs.Addresses.{slot_of, Shape}
 use Rattle.journal_world.specs.Maps.{Pair}
 use Rattle.journal_records.specs.declared.request.Action.{Action}
@@ -33,3 +34,12 @@ action_order Write = 1
 -- where a part comes: slots ascend, and under one slot what is compared comes first
 abbrev pub order_of : Shape → Part → ℕ
 order_of layout p = slot_of layout p.addr * 2 + action_order p.action
+
+-- the part writes
+abbrev pub is_write : Action → Bool
+is_write Compare = false
+is_write Write = true
+
+-- some part writes
+abbrev pub are_writing : List Part → Bool
+are_writing parts = list_any (λ p. is_write p.action) parts

@@ -16,9 +16,11 @@ mod order;
 mod parts;
 mod read;
 mod respond;
+mod rights;
 mod serving;
 mod streams;
 mod turns;
 
 pub use respond::{Terms, answer};
+pub use rights::Rights;
 pub use serving::{ConnFault, End, Served, serve};

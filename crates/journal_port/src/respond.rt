@@ -4,25 +4,26 @@ ghost use Rattle.journal_world.specs.Histories.{floor};
 ghost use Rattle.journal_history.specs.Tokens.{SessionState, OnlyExtends};
 ghost use Rattle.journal_records.specs.declared.answer.Answer.TheVariants.{Unsure};
 ghost use Rattle.journal_twophase.specs.Waits.{IsWaitRefusal};
-ghost use Rattle.journal_port.specs.Answers.{IsAnswerTo, IsHelloAnswer, IsFlushed, IsFlushAnswer, IsStatAnswer, IsStopAnswer, IsAnswered, settled};
+ghost use Rattle.journal_port.specs.Answers.{IsAnswerTo, IsCommitReply, is_denied, IsHelloAnswer, IsFlushed, IsFlushAnswer, IsStatAnswer, IsStopAnswer, IsAnswered, settled};
 
 use crate::commit::commit;
 use crate::read::read;
+use crate::rights::Rights;
 use journal_disk::BlockDisk;
 use journal_history::{Naming, Session};
-use journal_records::{Answer, Refused, Request, VERSION};
+use journal_records::{Answer, Part, Refused, Request, VERSION};
 use journal_twophase::{Journal, JournalRefusal};
 use journal_world::{AnyMap, CommitCount};
 use std::alloc::Global;
 use std::sync::Wait;
 
-/// What a connection is told of the disk, and whether it may end the service.
+/// What a connection is told of the disk, and what it may ask for.
 #[derive(Clone, Copy, Debug)]
 pub struct Terms {
     /// How many blocks the disk has.
     pub blocks: u64,
-    /// Whether the connection may end the service.
-    pub may_stop: bool,
+    /// What it may ask for.
+    pub rights: Rights,
 }
 
 // What the requests of a connection are answered by.
@@ -53,8 +54,9 @@ impl<'s, 'b, D: BlockDisk, J: Naming> Drop for Port<'s, 'b, D, J> {
 /// `Refused` says that nothing was done: the history lacks the request's transaction. It is
 /// `Conflict` where the map, at the end of what the session had seen once it was done, gives some
 /// compared address another value, `OtherVersion` where another version is spoken, `Forbidden`
-/// where the service may not be ended, and else the journal's refusal. That is never `Busy`, since
-/// slots are taken in ascending order, nor `Full`, since a commit waits for room.
+/// where the service may not be ended, `ReadOnly` where a commit writes and the connection may not,
+/// and else the journal's refusal. That is never `Busy`, since slots are taken in ascending order,
+/// nor `Full`, since a commit waits for room.
 pub fn answer<'b, D: BlockDisk, J: Naming, W: Wait>(
     rt: &W,
     alloc: Global,
@@ -64,7 +66,7 @@ pub fn answer<'b, D: BlockDisk, J: Naming, W: Wait>(
     request: Request,
 ) -> Answer
     requires { terms.blocks ≡ J.layout.blocks }
-    ensures { IsAnswered J.layout terms.may_stop request session.old session.new result }
+    ensures { IsAnswered J.layout terms.rights request session.old session.new result }
 {
     let port = Port {
         alloc,
@@ -89,17 +91,33 @@ pub(crate) fn answer_no_wait<'b, D: BlockDisk, J: Naming, W: Wait>(
     request: Request,
 ) -> Answer
     requires { port.now.terms.blocks ≡ J.layout.blocks }
-    ensures { IsAnswerTo J.layout port.now.terms.may_stop session.new.seen request session.old session.new result }
+    ensures { IsAnswerTo J.layout port.now.terms.rights session.new.seen request session.old session.new result }
 {
     let (alloc, journal, terms) = (port.alloc, port.journal, port.terms);
     match request {
         Request::Hello(version) => greet(terms, version),
-        Request::Commit { parts, waits } => commit(rt, alloc, journal, session, parts, waits),
+        Request::Commit { parts, waits } => commit_or_deny(rt, port, session, parts, waits),
         Request::Read(addresses) => read(rt, alloc, journal, session, &addresses),
         Request::Flush => flush(rt, journal, session),
         Request::Stat => stat(rt, journal, session),
-        Request::Stop => stop(rt, journal, session, terms.may_stop),
+        Request::Stop => stop(rt, journal, session, terms.rights.may_stop),
     }
+}
+
+// Commits the parts, unless they write and the connection may not.
+fn commit_or_deny<'b, D: BlockDisk, J: Naming, W: Wait>(
+    rt: &W,
+    port: &Port<'_, 'b, D, J>,
+    session: &mut Session<'b, J, AnyMap>,
+    parts: Vec<Part>,
+    waits: bool,
+) -> Answer
+    ensures { IsCommitReply J.layout (is_denied port.now.terms.rights parts.items) parts.items waits session.new.seen session.old session.new result }
+{
+    if port.terms.rights.deny(&parts) {
+        return Answer::Refused(Refused::ReadOnly);
+    }
+    commit(rt, port.alloc, port.journal, session, parts, waits)
 }
 
 // Waits until all that the session has seen is stable, and answers how many commits are known to

@@ -81,10 +81,10 @@ pub fn serve<'b, R: Read, W: Write, D: BlockDisk, J: Naming, H: Wait>(
     writer: &mut W,
 ) -> Result<Served, ConnFault>
     requires { terms.blocks ≡ J.layout.blocks }
-    ensures served { IfOk result (λ served. Serves J.layout terms.may_stop served.end (R.remaining reader.old) (R.remaining reader.new)
+    ensures served { IfOk result (λ served. Serves J.layout terms.rights served.end (R.remaining reader.old) (R.remaining reader.new)
         (W.contents writer.old) (W.contents writer.new) session.old session.new) }
     ensures fenced { IfOk result (λ served. IsTrue served.fenced → is_fenced session.new.number session.new.seen ≡ true) }
-    ensures given_up { OnErr result (Breaks J.layout terms.may_stop (R.remaining reader.old) (R.remaining reader.new)
+    ensures given_up { OnErr result (Breaks J.layout terms.rights (R.remaining reader.old) (R.remaining reader.new)
         (W.contents writer.old) (W.contents writer.new) session.old session.new) }
 {
     let port = Port {
@@ -110,9 +110,9 @@ fn answer_to_end<'b, R: Read, W: Write, D: BlockDisk, J: Naming, H: Wait>(
     writer: &mut W,
 ) -> Result<End, ConnFault>
     requires { port.now.terms.blocks ≡ J.layout.blocks }
-    ensures served { IfOk result (λ end. Serves J.layout port.now.terms.may_stop end (R.remaining reader.old) (R.remaining reader.new)
+    ensures served { IfOk result (λ end. Serves J.layout port.now.terms.rights end (R.remaining reader.old) (R.remaining reader.new)
         (W.contents writer.old) (W.contents writer.new) session.old session.new) }
-    ensures given_up { OnErr result (Breaks J.layout port.now.terms.may_stop (R.remaining reader.old) (R.remaining reader.new)
+    ensures given_up { OnErr result (Breaks J.layout port.now.terms.rights (R.remaining reader.old) (R.remaining reader.new)
         (W.contents writer.old) (W.contents writer.new) session.old session.new) }
 {
     let Ok(mut buffer) = vec![in port.alloc; 0u8; PIECE_BYTES] else {
@@ -132,9 +132,9 @@ fn answer_all<'b, R: Read, W: Write, D: BlockDisk, J: Naming, H: Wait>(
 ) -> Result<End, ConnFault>
     requires blocks { port.now.terms.blocks ≡ J.layout.blocks }
     requires room { 0 < length buffer.old }
-    ensures served { IfOk result (λ end. Serves J.layout port.now.terms.may_stop end (R.remaining reader.old) (R.remaining reader.new)
+    ensures served { IfOk result (λ end. Serves J.layout port.now.terms.rights end (R.remaining reader.old) (R.remaining reader.new)
         (W.contents writer.old) (W.contents writer.new) session.old session.new) }
-    ensures given_up { OnErr result (Breaks J.layout port.now.terms.may_stop (R.remaining reader.old) (R.remaining reader.new)
+    ensures given_up { OnErr result (Breaks J.layout port.now.terms.rights (R.remaining reader.old) (R.remaining reader.new)
         (W.contents writer.old) (W.contents writer.new) session.old session.new) }
 {
     let mut input = Input::new(port.alloc);

@@ -49,8 +49,8 @@ pub(crate) fn answer_turn<'b, D: BlockDisk, J: Naming, H: Wait, W: Write>(
     writer: &mut W,
 ) -> Result<Turn, ConnFault>
     requires { port.now.terms.blocks ≡ J.layout.blocks }
-    ensures done { IfOk result (λ turn. Replies J.layout port.now.terms.may_stop turn input.old input.new session.old session.new (W.contents writer.old) (W.contents writer.new)) }
-    ensures given_up { OnErr result (RepliesInPart J.layout port.now.terms.may_stop input.old session.old session.new (W.contents writer.old) (W.contents writer.new)) }
+    ensures done { IfOk result (λ turn. Replies J.layout port.now.terms.rights turn input.old input.new session.old session.new (W.contents writer.old) (W.contents writer.new)) }
+    ensures given_up { OnErr result (RepliesInPart J.layout port.now.terms.rights input.old session.old session.new (W.contents writer.old) (W.contents writer.new)) }
 {
     let Ok(turn) = take_turn(rt, port, session, input, held) else {
         return Err(ConnFault::NoMemory);
@@ -69,7 +69,7 @@ fn take_turn<'b, D: BlockDisk, J: Naming, H: Wait>(
     held: &mut Vec<Answer>,
 ) -> Result<Turn, AllocError>
     requires { port.now.terms.blocks ≡ J.layout.blocks }
-    ensures taken { Turns J.layout port.now.terms.may_stop input.old input.new session.old session.new held.new.items }
+    ensures taken { Turns J.layout port.now.terms.rights input.old input.new session.old session.new held.new.items }
     ensures ended { IfOk result (λ turn. EndsTurn turn input.new held.new.items) }
 {
     held.clear();
@@ -104,7 +104,7 @@ fn reply<'b, D: BlockDisk, J: Naming, H: Wait>(
     found: Result<Request, ReadFault>,
 ) -> Answer
     requires { port.now.terms.blocks ≡ J.layout.blocks }
-    ensures { IsFoundAnswer J.layout port.now.terms.may_stop session.new.seen found session.old session.new result }
+    ensures { IsFoundAnswer J.layout port.now.terms.rights session.new.seen found session.old session.new result }
 {
     match found {
         Ok(request) => answer_no_wait(rt, port, session, request),

@@ -6,7 +6,7 @@ use crate::fault::{DeviceFault, OpenFault};
 use crate::file::{LockedFile, lock, open_file, open_to_write};
 use crate::inspecting::{DiskFacts, inspect_file};
 use crate::settled::Settled;
-use crate::system::{KEEPS_NO_LOCKS, TAKES_NO_SYNC, is_done, may_only_be_read};
+use crate::system::{KEEPS_NO_LOCKS, TAKES_NO_SYNC, is_done, is_locked, may_only_be_read};
 use os::RangeLock;
 use std::alloc::Global;
 use std::fs::{File, Files, OpenFile, OpenOptions};
@@ -21,9 +21,9 @@ pub struct ToCheck {
     pub facts: DiskFacts,
 }
 
-/// The disk in the file at the path, to be checked. A file that may only be read is locked together
-/// with others that read it, unless its file system keeps no locks. A warning is printed for each
-/// thing that the system refuses of such a file.
+/// The disk in the file at the path, to be checked. A file that may only be read, or that others
+/// only read, is locked together with others that read it, unless its file system keeps no locks. A
+/// warning is printed for each thing that the system refuses of such a file.
 ///
 /// Refused where a program that writes to it has its lock, for the system's reason, and as
 /// `find_disk` refuses what the file has.
@@ -55,12 +55,15 @@ fn open_file_to_check<R: Files<File = File>, E: Write>(
             locked.file.sync_data()?;
             Ok(locked)
         }
-        Err(OpenFault::File(e)) if may_only_be_read(&e) => open_to_read(rt, alloc, path, faults),
+        Err(OpenFault::File(e)) if may_only_be_read(&e) || is_locked(&e) => {
+            open_to_read(rt, alloc, path, faults)
+        }
         Err(why) => Err(why),
     }
 }
 
-// Opens a file that may only be read. Where a warning cannot be printed, nobody can be warned.
+// Opens a file that may only be read, or that others only read. Where a warning cannot be printed,
+// nobody can be warned.
 fn open_to_read<R: Files<File = File>, E: Write>(
     rt: &R,
     alloc: Global,
@@ -69,9 +72,9 @@ fn open_to_read<R: Files<File = File>, E: Write>(
 ) -> Result<LockedFile, OpenFault> {
     let file = open_file(rt, &mut OpenOptions::new(), path)?;
     let medium = medium_of(&file)?;
-    let is_locked = is_done(lock(&file, RangeLock::Shared), KEEPS_NO_LOCKS)?;
+    let has_lock = is_done(lock(&file, RangeLock::Shared), KEEPS_NO_LOCKS)?;
     let lock = lock_to_read(rt, alloc, medium)?;
-    if !is_locked || lock.is_none() && medium != Medium::Ordinary {
+    if !has_lock || lock.is_none() && medium != Medium::Ordinary {
         let _ = writeln!(faults, "{path} is checked without a lock");
     }
     if !is_done(file.sync_data(), TAKES_NO_SYNC)? {

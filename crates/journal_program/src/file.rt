@@ -8,18 +8,22 @@ use crate::disk::SizedDisk;
 use crate::fault::OpenFault;
 use crate::label::Label;
 use crate::labeling::write_label;
-use crate::room::{sync_folder, take_room};
+use crate::room::{Room, sync_folder, take_room};
 use crate::streams::above_streams;
 use journal_world::BLOCK_BYTES;
 use os::RangeLock;
 use std::alloc::Global;
 use std::fs::{File, Files, OpenFile, OpenOptions};
 use std::os::fd::AsRawFd;
+use std::os::unix::fs::OpenOptionsExt;
 use std::{fs, io};
 
+// Who may use a new disk: its owner.
+const NEW_MODE: u32 = 0o600;
+
 /// Makes a new file of so many blocks of zeros at the path, and answers it as a disk without a
-/// label that no other program uses as long as it is open. Its name is stable then, and its log and
-/// what describes it have their room in the file system.
+/// label that no other program uses as long as it is open. Its owner alone may read and write it.
+/// Its name is stable then, and its log and what describes it have their room in the file system.
 ///
 /// Refused where anything is at the path, which stays as it is, and for the system's reason. A file
 /// that was begun is removed then, unless another program has locked it already.
@@ -38,7 +42,7 @@ pub fn create_new_disk<R: Files<File = File>>(
 }
 
 /// Makes a new file of zeros at the path, but for this label, and answers it as a disk as
-/// `create_new_disk` does. The label is stable once the name is.
+/// `create_new_disk` does, with this room in its file system. The label is stable once the name is.
 ///
 /// Refused as `create_new_disk` is, and by J1 `NoMemory`.
 pub fn create_labeled_disk<R: Files<File = File>>(
@@ -46,11 +50,12 @@ pub fn create_labeled_disk<R: Files<File = File>>(
     alloc: Global,
     path: &str,
     label: &Label,
+    room: Room,
 ) -> Result<SizedDisk, OpenFault>
     requires { IsLabel label.now }
 {
     let file = create_new_file(rt, path)?;
-    let made = fill_labeled(rt, alloc, path, &file, label);
+    let made = fill_labeled(rt, alloc, path, &file, label, room);
     remove_unless(rt, path, made.is_ok());
     made?;
     let disk = SizedDisk::over(file, label.blocks)?;
@@ -74,16 +79,18 @@ pub fn create_disk<R: Files<File = File>>(rt: &R, path: &str, blocks: u64) -> io
     SizedDisk::over(file, blocks)
 }
 
-// Makes a new file at the path, and locks it.
-fn create_new_file<R: Files<File = File>>(rt: &R, path: &str) -> io::Result<File> {
-    let file = open_file(rt, OpenOptions::new().write(true).create_new(true), path)?;
+/// Makes a new file at the path that its owner alone may read and write, and locks it.
+pub(crate) fn create_new_file<R: Files<File = File>>(rt: &R, path: &str) -> io::Result<File> {
+    let mut options = OpenOptions::new();
+    let options = options.write(true).create_new(true).mode(NEW_MODE);
+    let file = open_file(rt, options, path)?;
     lock(&file, RangeLock::Exclusive)?;
     Ok(file)
 }
 
-// Removes a file that was begun, unless it was made to the end. The first fault is answered,
-// whether this succeeds or not.
-fn remove_unless<R: Files<File = File>>(rt: &R, path: &str, is_made: bool) {
+/// Removes a file that was begun, unless it was made to the end. The first fault is answered,
+/// whether this succeeds or not.
+pub(crate) fn remove_unless<R: Files<File = File>>(rt: &R, path: &str, is_made: bool) {
     if !is_made {
         let _ = fs::remove_file(rt, path);
     }
@@ -93,7 +100,7 @@ fn remove_unless<R: Files<File = File>>(rt: &R, path: &str, is_made: bool) {
 fn fill_named<R: Files<File = File>>(rt: &R, path: &str, file: &File, blocks: u64) -> io::Result<()>
     requires { (MIN_BLOCKS ≤ blocks) × (blocks ≤ MAX_LAYOUT_BLOCKS) }
 {
-    fill(file, blocks)?;
+    fill(file, blocks, Room::Log)?;
     keep(rt, path, file)
 }
 
@@ -104,31 +111,32 @@ fn fill_labeled<R: Files<File = File>>(
     path: &str,
     file: &File,
     label: &Label,
+    room: Room,
 ) -> Result<(), OpenFault>
     requires { IsLabel label.now }
 {
-    fill(file, label.blocks)?;
+    fill(file, label.blocks, room)?;
     write_label(alloc, file, label)?;
     keep(rt, path, file)?;
     Ok(())
 }
 
-// Makes a file that is locked one of so many blocks of zeros.
-fn fill(file: &File, blocks: u64) -> io::Result<()>
+// Makes a file that is locked one of so many blocks of zeros, with this room.
+fn fill(file: &File, blocks: u64, room: Room) -> io::Result<()>
     requires { (MIN_BLOCKS ≤ blocks) × (blocks ≤ MAX_LAYOUT_BLOCKS) }
 {
     file.set_len(0)?;
     file.set_len(blocks * BLOCK_BYTES as u64)?;
-    take_room(file)
+    take_room(file, blocks, room)
 }
 
-// Makes the file and its name stable.
-fn keep<R: Files<File = File>>(rt: &R, path: &str, file: &File) -> io::Result<()> {
+/// Makes the file and its name stable.
+pub(crate) fn keep<R: Files<File = File>>(rt: &R, path: &str, file: &File) -> io::Result<()> {
     file.sync_all()?;
     sync_folder(rt, path)
 }
 
-/// A file, or a block device, that no other program of this machine uses as long as it is open.
+/// A file, or a block device, that is locked as long as it is open.
 #[derive(Drop)]
 pub(crate) struct LockedFile {
     pub(crate) file: File,
@@ -136,7 +144,24 @@ pub(crate) struct LockedFile {
     pub(crate) lock: Option<DeviceLock>,
 }
 
-/// Opens the file or the block device to be read and written, and locks it.
+/// Opens the file or the block device to be read alone, and locks it together with others that read
+/// it.
+///
+/// Refused as `open_to_write` is.
+pub(crate) fn open_to_share<R: Files<File = File>>(
+    rt: &R,
+    alloc: Global,
+    path: &str,
+) -> Result<LockedFile, OpenFault> {
+    let file = open_file(rt, &mut OpenOptions::new(), path)?;
+    let medium = medium_of(&file)?;
+    lock(&file, RangeLock::Shared)?;
+    let lock = lock_medium(rt, alloc, medium, RangeLock::Shared)?;
+    Ok(LockedFile { file, lock })
+}
+
+/// Opens the file or the block device to be read and written, and locks it: no other program of this
+/// machine uses it as long as it is open.
 ///
 /// Refused for the system's reason, which is `WouldBlock` where another program has it; where it is
 /// neither; where the lock of a device cannot be had; and by J1 `NoMemory`.

@@ -13,6 +13,7 @@
 #![tactic(auto)]
 
 mod checking;
+mod copying;
 mod daemon;
 mod device;
 mod disk;
@@ -28,12 +29,14 @@ mod relabeling;
 mod rewriting;
 mod room;
 mod settled;
+mod sharing;
 mod signatures;
 mod streams;
 mod system;
 mod zeros;
 
 pub use checking::{ToCheck, open_to_check};
+pub use copying::{CopyFault, CopyPaths, copy_disk};
 pub use daemon::Daemon;
 pub use device::DeviceNumber;
 pub use disk::SizedDisk;
@@ -44,6 +47,8 @@ pub use label::{BadLabel, Label, UNTOLD, is_disk_size};
 pub use making::{FoundDevice, find_device};
 pub use opening::{FoundDisk, find_disk, open_settled};
 pub use relabeling::{DiskToLabel, find_disk_to_label};
+pub use room::Room;
 pub use settled::Settled;
+pub use sharing::{SharedDisk, share_disk};
 pub use streams::hold_closed_streams;
 pub use zeros::Zeros;

@@ -1,4 +1,6 @@
 // What a new disk takes of its file system.
+ghost use Rattle.std.specs.Prelude.{◌≤◌};
+ghost use Rattle.journal_world.specs.declared.layout.TheConstants.{MAX_LAYOUT_BLOCKS};
 
 use crate::system::{TAKES_NO_SYNC, is_done};
 use journal_world::{BLOCK_BYTES, FIRST_DATA};
@@ -7,11 +9,30 @@ use std::io;
 use std::io::ErrorKind;
 use std::os::unix::fs::FileExt;
 
-/// Writes zeros over the log and over what describes the disk. A commit that has to wait for room in
-/// the file system takes many times as long as one that overwrites.
-pub(crate) fn take_room(file: &File) -> io::Result<()> {
+/// Of which blocks a new disk takes the room in its file system at once.
+#[derive(Clone, Copy, Debug, PartialEq, Eq)]
+pub enum Room {
+    /// Of the log and of what describes the disk. The other blocks take theirs once they are
+    /// written home, where there may be none.
+    Log,
+    /// Of all blocks.
+    All,
+}
+
+/// Writes zeros over the log and over what describes the disk, or over all of its blocks. A commit
+/// that has to wait for room in the file system takes many times as long as one that overwrites.
+///
+/// Refused for the system's reason, as where the file system has no room. Some blocks have theirs
+/// then.
+pub(crate) fn take_room(file: &File, blocks: u64, room: Room) -> io::Result<()>
+    requires { blocks ≤ MAX_LAYOUT_BLOCKS }
+{
     let zeros = [0u8; BLOCK_BYTES];
-    for block in 0..FIRST_DATA {
+    let taken = match room {
+        Room::Log => FIRST_DATA,
+        Room::All => blocks,
+    };
+    for block in 0..taken {
         file.write_all_at(&zeros, block * BLOCK_BYTES as u64)?;
     }
     Ok(())

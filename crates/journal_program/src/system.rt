@@ -28,3 +28,8 @@ pub(crate) fn may_only_be_read(fault: &io::Error) -> bool {
         ErrorKind::PermissionDenied | ErrorKind::ReadOnlyFilesystem
     )
 }
+
+/// Whether it says that another program has the file's lock.
+pub(crate) fn is_locked(fault: &io::Error) -> bool {
+    fault.kind() == ErrorKind::WouldBlock
+}

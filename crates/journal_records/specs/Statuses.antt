@@ -5,7 +5,7 @@ use Rattle.journal_xdr.specs.BasicLaws.{listed_back}
 use Rattle.journal_world.specs.declared.refusal.Refusal.{Refusal}
 use Rattle.journal_world.specs.declared.refusal.Refusal.TheVariants as journal
 use Rattle.journal_records.specs.declared.refused.Refused.{Refused}
-use Rattle.journal_records.specs.declared.refused.Refused.TheVariants.{NoMemory, BadAddress, BadSize, TooLarge, Busy, DeviceFailed, BadLog, BadSuper, Stale, Stranger, Worn, Full, Closed, Fenced, Conflict, UnknownOperation, Malformed, TooLong, OtherVersion, Forbidden}
+use Rattle.journal_records.specs.declared.refused.Refused.TheVariants.{NoMemory, BadAddress, BadSize, TooLarge, Busy, DeviceFailed, BadLog, BadSuper, Stale, Stranger, Worn, Full, Closed, Fenced, Conflict, UnknownOperation, Malformed, TooLong, OtherVersion, Forbidden, ReadOnly}
 
 -- the same reason as the journal's refusal
 abbrev pub refused_as : {C : Type 0} → Refusal C → Refused
@@ -28,7 +28,7 @@ refused_as journal.Fenced = Fenced
 -- stands, so it is none of these
 abbrev pub reasons : List (ℕ × Refused)
 reasons = (1, NoMemory) ∷ (2, BadAddress) ∷ (3, BadSize) ∷ (4, TooLarge) ∷ (5, Busy) ∷ (6, DeviceFailed) ∷ (7, BadLog) ∷ (8, BadSuper) ∷ (9, Stale) ∷ (10, Stranger) ∷ (11, Worn) ∷ (12, Full) ∷ (13, Closed) ∷ (14, Fenced)
-    ∷ (64, Conflict) ∷ (66, UnknownOperation) ∷ (67, Malformed) ∷ (68, TooLong) ∷ (69, OtherVersion) ∷ (70, Forbidden) ∷ []
+    ∷ (64, Conflict) ∷ (66, UnknownOperation) ∷ (67, Malformed) ∷ (68, TooLong) ∷ (69, OtherVersion) ∷ (70, Forbidden) ∷ (71, ReadOnly) ∷ []
 
 abbrev pub refused_of : ℕ → Option Refused
 refused_of n = listed reasons n
@@ -54,6 +54,7 @@ refused_number Malformed = 67
 refused_number TooLong = 68
 refused_number OtherVersion = 69
 refused_number Forbidden = 70
+refused_number ReadOnly = 71
 
 pub refused_is : (r : Refused) → refused_of (refused_number r) ≡ Some r
 refused_is NoMemory = refl
@@ -76,7 +77,8 @@ refused_is Malformed = refl
 refused_is TooLong = refl
 refused_is OtherVersion = refl
 refused_is Forbidden = refl
+refused_is ReadOnly = refl
 
 pub refused_back : (n : ℕ) (r : Refused) → refused_of n ≡ Some r → refused_number r ≡ n
 refused_back = listed_back refused_number reasons
-    (refl, (refl, (refl, (refl, (refl, (refl, (refl, (refl, (refl, (refl, (refl, (refl, (refl, (refl, (refl, (refl, (refl, (refl, (refl, (refl, tt))))))))))))))))))))
+    (refl, (refl, (refl, (refl, (refl, (refl, (refl, (refl, (refl, (refl, (refl, (refl, (refl, (refl, (refl, (refl, (refl, (refl, (refl, (refl, (refl, tt)))))))))))))))))))))

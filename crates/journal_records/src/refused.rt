@@ -49,6 +49,8 @@ pub enum Refused {
     OtherVersion,
     /// 70: this connection may not ask it.
     Forbidden,
+    /// 71: the disk is only read, and the transaction writes.
+    ReadOnly,
 }
 
 impl Refused {
@@ -108,6 +110,7 @@ impl Enumeration for Refused {
             68 => Refused::TooLong,
             69 => Refused::OtherVersion,
             70 => Refused::Forbidden,
+            71 => Refused::ReadOnly,
             _ => return None,
         })
     }
@@ -134,6 +137,7 @@ impl Enumeration for Refused {
             Refused::TooLong => 68,
             Refused::OtherVersion => 69,
             Refused::Forbidden => 70,
+            Refused::ReadOnly => 71,
         }
     }
 }

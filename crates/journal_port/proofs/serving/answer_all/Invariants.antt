@@ -4,5 +4,5 @@ use Rattle.journal_port.proofs.serving.answer_all.Given as goal
 
 abbrev pub invariant-loop : goal.invariant-loop
 invariant-loop g l =
-    SoFar g.J.Naming.layout l.port.terms.may_stop (g.R.Read.remaining l.fn.reader) (g.R.Read.remaining l.reader) (g.W.Write.contents l.fn.writer) (g.W.Write.contents l.writer) l.input l.fn.session l.session
+    SoFar g.J.Naming.layout l.port.terms.rights (g.R.Read.remaining l.fn.reader) (g.R.Read.remaining l.reader) (g.W.Write.contents l.fn.writer) (g.W.Write.contents l.writer) l.input l.fn.session l.session
     × (length l.buffer ≡ length l.fn.buffer)

@@ -1,0 +1,54 @@
+// Disks that are opened to be read alone.
+ghost use Rattle.std.specs.Prelude.{◌≡◌, IfOk};
+
+use crate::device::DeviceLock;
+use crate::disk::SizedDisk;
+use crate::fault::OpenFault;
+use crate::file::{LockedFile, open_to_share};
+use crate::inspecting::{DiskFacts, inspect_file};
+use std::alloc::Global;
+use std::fs::{File, Files};
+use std::io;
+
+/// A disk in a file that may be read alone, and that no program writes as long as it is open. Its
+/// log is well formed.
+#[derive(Drop)]
+pub struct SharedDisk {
+    /// What its blocks tell of it.
+    pub facts: DiskFacts,
+    // The file of the disk, and the lock of its device.
+    file: File,
+    lock: Option<DeviceLock>,
+}
+
+impl SharedDisk {
+    /// The disk. Each write to it and each sync that has something to write fails, because the
+    /// system refuses it.
+    ///
+    /// Refused where the system does not tell where the file ends.
+    pub fn disk(self) -> io::Result<SizedDisk>
+        ensures { IfOk result (λ disk. disk.size ≡ self.facts.blocks) }
+    {
+        let disk = SizedDisk::over(self.file, self.facts.blocks)?;
+        Ok(disk.locked(self.lock))
+    }
+
+    /// The file of the disk.
+    pub(crate) fn file(&self) -> &File {
+        &self.file
+    }
+}
+
+/// Looks at the disk in the file at the path, and opens it to be read alone: together with others
+/// that only read it, and with none that writes it. Nothing is written, and nothing is made stable.
+///
+/// Refused as by `find_disk`.
+pub fn share_disk<R: Files<File = File>>(
+    rt: &R,
+    alloc: Global,
+    path: &str,
+) -> Result<SharedDisk, OpenFault> {
+    let LockedFile { file, lock } = open_to_share(rt, alloc, path)?;
+    let facts = inspect_file(alloc, &file)?;
+    Ok(SharedDisk { facts, file, lock })
+}
