@@ -147,8 +147,17 @@ impl<'b, R: MapRule, J: Naming> UnderMemoryLock<'b, R, J> {
             && self.volatile.check_running().is_ok()
     }
 
+    // Whether the next group is one for which a thread that waits may make the logger's steps: few
+    // are awaited, and where they are several, they wrote few blocks.
+    fn is_small_group(&self) -> bool
+        ensures few { IsTrue result → self.now.waiters.awaited ≤ FEW }
+    {
+        self.waiters.may_be_led()
+            && (!self.waiters.are_several() || self.volatile.tail_len() <= FEW_BLOCKS)
+    }
+
     // Whether a thread that is to sleep until a mark makes the logger's steps. It is the last of
-    // those that are awaited, and they are few.
+    // those that are awaited, and the group is small.
     pub(crate) fn may_lead(&self) -> bool
         ensures rests { IsTrue result → self.now.logger ≢ LoggerState.Steps }
         ensures alone { IsTrue result → self.now.is_led ≡ false }
@@ -156,7 +165,7 @@ impl<'b, R: MapRule, J: Naming> UnderMemoryLock<'b, R, J> {
         ensures work { IsTrue result → HasNothingToLog self.now.volatile self.now.log_start → ⊥ }
         ensures come { IsTrue result → (self.now.waiters.awaited ≤ self.now.waiters.asleep) ⊎ (self.now.waiters.enough ≤ count self.now.volatile.ledger.history) }
     {
-        self.is_unled() && self.waiters.may_be_led() && self.has_whole_group()
+        self.is_unled() && self.is_small_group() && self.has_whole_group()
     }
 
     // For which wait the logger is to be woken by a thread that is to sleep until a mark, or that
@@ -180,9 +189,9 @@ impl<'b, R: MapRule, J: Naming> UnderMemoryLock<'b, R, J> {
         !self.is_led && (self.waiters.are_several() || may_log(self))
     }
 
-    // Whether all have come that are awaited, and they are too many for one of them to lead.
+    // Whether all have come that are awaited, and the group is none for one of them.
     fn is_for_logger(&self) -> bool {
-        !self.is_led && !self.waiters.may_be_led() && self.has_whole_group()
+        !self.is_led && !self.is_small_group() && self.has_whole_group()
     }
 
     // Whether the logger has something to do that no other thread does, or would be refused.
@@ -709,6 +718,11 @@ const UNAWAITED_DELAY_MICROS: u64 = 1000;
 // How many blocks end that delay. A tail takes 255 blocks, and a commit has 128 at most, so none
 // waits for room while there are fewer.
 const GROUP_BLOCKS: u64 = 128;
+
+// A group of several threads with more blocks is the logger's. A group's blocks are copied into
+// memory of the thread that cuts it, and other threads free that. Where each group is another
+// thread's, much of such memory goes back to the system every time.
+const FEW_BLOCKS: u64 = 16;
 
 // The installer waits until so many positions of the log are used. A tail has at most 255 blocks,
 // so it fits then. So many are those of two groups at least, of which one is logged, so that the
