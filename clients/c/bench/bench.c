@@ -1,14 +1,17 @@
-/* bench ENGINE THREADS durable|lazy SECONDS FOLDER: small transactions on one engine, in one loop
- * for all engines. There are 512 objects of 128 bytes; each transaction overwrites two, at random,
- * in blocks of 32 that differ. durable: each commit is answered once it is stable. lazy: none
- * waits, and one flush at the end is inside the time.
+/* bench ENGINE THREADS durable|lazy SECONDS FOLDER [wide]: small transactions on one engine, in one
+ * loop for all engines. There are 512 objects of 128 bytes; each transaction overwrites two, at
+ * random, in blocks of 32 that differ. durable: each commit is answered once it is stable. lazy:
+ * none waits, and one flush at the end is inside the time. wide: there are 30000 objects of 4096
+ * bytes.
  *
  * First it measures how often a second the device makes one block of 4096 bytes stable: its limit
  * for transactions that share no barrier. It takes a second, or LIMIT_SECONDS of them. Then it
  * counts the barriers of the engine while the loop runs, or those of a service. See barriers.h.
  *
  * It prints: engine threads mode commits/s, barriers/s, limit/s, microseconds of processor time a
- * commit. */
+ * commit, switches of a thread a commit. Where each waits, then how many microseconds the median
+ * commit took, that of 100, of 1000, of 10000, and the longest; and of two seconds or more the
+ * commits of each. */
 #define _GNU_SOURCE
 #include "barriers.h"
 #include "engines.h"
@@ -23,8 +26,9 @@
 #include <time.h>
 #include <unistd.h>
 
-enum { MOST_THREADS = 64, LIMIT_BLOCKS = 512, BLOCK = 4096 };
+enum { MOST_THREADS = 64, LIMIT_BLOCKS = 512, BLOCK = 4096, MOST_TIMES = 1 << 22 };
 
+struct load load = {0, 512, 128};
 static const struct engine *engine;
 static int threads, durable;
 static atomic_int stopped;
@@ -58,7 +62,7 @@ static uint32_t pick(uint64_t *seed)
     *seed ^= *seed << 13;
     *seed ^= *seed >> 7;
     *seed ^= *seed << 17;
-    return (uint32_t)(*seed % OBJECTS);
+    return (uint32_t)(*seed % load.objects);
 }
 
 static double limit_of(const char *folder, double seconds)
@@ -87,58 +91,140 @@ static double limit_of(const char *folder, double seconds)
 struct work {
     pthread_t thread;
     uint64_t seed;
-    unsigned long commits;
+    atomic_ulong commits;
+    /* How long each commit took, where each waits. */
+    float *microseconds;
 };
+
+static struct work works[MOST_THREADS];
+
+static void commit_one(struct work *w, void *session, unsigned long number)
+{
+    char value[MOST_BYTES];
+    uint32_t keys[2] = {pick(&w->seed), pick(&w->seed)};
+    while (keys[1] / 32 == keys[0] / 32) keys[1] = pick(&w->seed);
+    memset(value, (int)(number & 255), load.bytes);
+    double begin = durable ? now() : 0;
+    engine->commit(session, keys, value);
+    if (durable && number < MOST_TIMES) w->microseconds[number] = (float)((now() - begin) * 1e6);
+}
 
 static void *work(void *at)
 {
     struct work *w = at;
-    char value[OBJECT_BYTES];
     void *session = engine->session ? engine->session() : NULL;
     pthread_barrier_wait(&all_begin);
-    for (; !stopped; w->commits++) {
-        uint32_t keys[2] = {pick(&w->seed), pick(&w->seed)};
-        while (keys[1] / 32 == keys[0] / 32) keys[1] = pick(&w->seed);
-        memset(value, (int)(w->commits & 255), sizeof value);
-        engine->commit(session, keys, value);
+    for (unsigned long number = 0; !stopped;) {
+        commit_one(w, session, number);
+        w->commits = ++number;
     }
     if (engine->finish) engine->finish(session);
     return NULL;
 }
 
-static void run(double seconds, double limit)
+static unsigned long count_commits(void)
 {
-    static struct work works[MOST_THREADS];
     unsigned long commits = 0;
+    for (int i = 0; i < threads; i++) commits += works[i].commits;
+    return commits;
+}
+
+/* Sleeps so long, and says of each whole second how many commits came. */
+static void sleep_and_count(double seconds)
+{
+    unsigned long before = 0;
+    if (seconds < 2) {
+        usleep((useconds_t)(seconds * 1e6));
+        return;
+    }
+    printf("by second:");
+    for (int i = 0; i < (int)seconds; i++) {
+        usleep(1000000);
+        unsigned long commits = count_commits();
+        printf(" %lu", commits - before);
+        before = commits;
+    }
+    printf("\n");
+}
+
+static int compare_times(const void *one, const void *other)
+{
+    float a = *(const float *)one, b = *(const float *)other;
+    return (a > b) - (a < b);
+}
+
+/* What share of the commits took no longer than which time. */
+static void print_times(unsigned long commits)
+{
+    static const double shares[] = {0.5, 0.99, 0.999, 0.9999, 1};
+    static const char *const names[] = {"p50", "p99", "p99.9", "p99.99", "longest"};
+    float *all = malloc((commits + 1) * sizeof *all);
+    size_t count = 0;
+    if (!all) fail("the times", "no memory");
+    for (int i = 0; i < threads; i++) {
+        size_t own = works[i].commits < MOST_TIMES ? works[i].commits : MOST_TIMES;
+        memcpy(all + count, works[i].microseconds, own * sizeof *all);
+        count += own;
+    }
+    qsort(all, count, sizeof *all, compare_times);
+    for (int i = 0; i < 5; i++) {
+        size_t at = (size_t)(shares[i] * (double)count);
+        float took = count ? all[at < count ? at : count - 1] : 0;
+        printf("%s %s %.0f", i ? "," : ";", names[i], (double)took);
+    }
+    printf(" us");
+    free(all);
+}
+
+static unsigned long count_switches(void)
+{
+    struct rusage u;
+    getrusage(RUSAGE_SELF, &u);
+    return (unsigned long)(u.ru_nvcsw + u.ru_nivcsw);
+}
+
+static void begin_works(void)
+{
     pthread_barrier_init(&all_begin, NULL, (unsigned)threads + 1);
     for (int i = 0; i < threads; i++) {
         works[i].seed = 88172645463325252ull + 7919ull * (uint64_t)i;
+        works[i].microseconds = durable ? calloc(MOST_TIMES, sizeof(float)) : NULL;
+        if (durable && !works[i].microseconds) fail("the times", "no memory");
         if (pthread_create(&works[i].thread, NULL, work, &works[i])) fail("a thread", "refused");
     }
     pthread_barrier_wait(&all_begin);
-    unsigned long before = count_barriers();
+}
+
+static void run(double seconds, double limit)
+{
+    begin_works();
+    unsigned long before = count_barriers(), switches = count_switches();
     double begin = now(), processor = processor_seconds();
-    usleep((useconds_t)(seconds * 1e6));
+    sleep_and_count(seconds);
     stopped = 1;
-    for (int i = 0; i < threads; i++) {
-        pthread_join(works[i].thread, NULL);
-        commits += works[i].commits;
-    }
+    for (int i = 0; i < threads; i++) pthread_join(works[i].thread, NULL);
     if (!durable) engine->flush();
-    double took = now() - begin;
-    printf("%-8s %2d %-7s %9.0f commits/s %7.0f barriers/s, limit %6.0f/s, %6.2f us of processor\n",
-           engine->name, threads, durable ? "durable" : "lazy", (double)commits / took,
-           (double)(count_barriers() - before) / took, limit,
-           (processor_seconds() - processor) * 1e6 / (double)commits);
+    double took = now() - begin, commits = (double)count_commits();
+    printf("%-8s %2d %-7s %9.0f commits/s %7.0f barriers/s, limit %6.0f/s, ", engine->name, threads,
+           durable ? "durable" : "lazy", commits / took,
+           (double)(count_barriers() - before) / took, limit);
+    printf("%6.2f us of processor, %5.2f switches",
+           (processor_seconds() - processor) * 1e6 / commits,
+           (double)(count_switches() - switches) / commits);
+    if (durable) print_times((unsigned long)commits);
+    printf("\n");
     fflush(stdout);
 }
 
 int main(int argc, char **argv)
 {
     char path[512];
-    if (argc != 6) {
-        return fprintf(stderr, "usage: bench ENGINE THREADS durable|lazy SECONDS FOLDER\n"), 2;
+    int is_wide = argc == 7 && !strcmp(argv[6], "wide");
+    if (argc != 6 && !is_wide) {
+        fprintf(stderr, "usage: bench ENGINE THREADS durable|lazy SECONDS FOLDER [wide]\n");
+        return 2;
     }
+    if (is_wide) load = (struct load){1, MOST_OBJECTS, MOST_BYTES};
     for (engine = engines; engine->name && strcmp(engine->name, argv[1]); engine++) {}
     threads = atoi(argv[2]);
     durable = !strcmp(argv[3], "durable");

@@ -8,6 +8,7 @@
 #include <unistd.h>
 
 /* The bytes of a transaction that writes two objects, and of its answer. */
+enum { OBJECT_BYTES = 128 };
 enum { HEAD = 16, PART = 20 + OBJECT_BYTES, RECORD = HEAD + 2 * PART, ANSWER = 28 };
 enum { HELLO_BYTES = 12, HELLO_ANSWER = 24, FLUSH_BYTES = 8, FLUSH_ANSWER = 20 };
 
@@ -77,6 +78,7 @@ void *deep_session(void)
 void deep_open(const char *folder, int durable)
 {
     (void)folder;
+    if (load.is_wide) fail("deep", "has no wide load");
     is_durable = durable;
     if (!durable) first = deep_session();
 }

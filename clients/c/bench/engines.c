@@ -36,12 +36,13 @@ static void *journal_session(void)
     return j;
 }
 
-/* A new disk of 600 blocks, by the program that JNL names. */
+/* A new disk of 600 blocks, or of 30600, by the program that JNL names. */
 static void journal_make(const char *path)
 {
     char words[1300];
     const char *program = getenv("JNL");
-    snprintf(words, sizeof words, "%s create %s --blocks 600", program ? program : "jnl", path);
+    snprintf(words, sizeof words, "%s create %s --blocks %d", program ? program : "jnl", path,
+             load.is_wide ? 30600 : 600);
     if (system(words)) fail(words, "failed");
 }
 
@@ -54,13 +55,19 @@ static void journal_open(const char *folder, int durable)
     if (!durable) journal = journal_session();
 }
 
+/* An inode, or a whole block. */
+static jnl_addr journal_address(uint32_t key)
+{
+    if (load.is_wide) return (jnl_addr){531 + key, 0};
+    return (jnl_addr){515 + key / 32, key % 32 * 1024};
+}
+
 static jnl_txn *journal_transaction(jnl *j, const uint32_t keys[2], const char *value)
 {
     jnl_txn *t;
     journal_want(jnl_begin(j, &t));
     for (int i = 0; i < 2; i++) {
-        jnl_addr a = {515 + keys[i] / 32, keys[i] % 32 * 1024};
-        journal_want(jnl_write(t, a, value, OBJECT_BYTES));
+        journal_want(jnl_write(t, journal_address(keys[i]), value, load.bytes));
     }
     return t;
 }
@@ -122,20 +129,20 @@ static void lmdb_want(int status)
 
 static void lmdb_put(MDB_txn *t, uint32_t key, const char *value)
 {
-    MDB_val k = {sizeof key, &key}, v = {OBJECT_BYTES, (void *)value};
+    MDB_val k = {sizeof key, &key}, v = {load.bytes, (void *)value};
     lmdb_want(mdb_put(t, lmdb_table, &k, &v, 0));
 }
 
 static void lmdb_open(const char *folder, int durable)
 {
-    static const char zeros[OBJECT_BYTES];
+    static const char zeros[MOST_BYTES];
     MDB_txn *t;
     lmdb_want(mdb_env_create(&lmdb));
-    lmdb_want(mdb_env_set_mapsize(lmdb, 256u << 20));
+    lmdb_want(mdb_env_set_mapsize(lmdb, 1u << 30));
     lmdb_want(mdb_env_open(lmdb, folder, durable ? 0 : MDB_NOSYNC, 0600));
     lmdb_want(mdb_txn_begin(lmdb, NULL, 0, &t));
     lmdb_want(mdb_dbi_open(t, NULL, MDB_INTEGERKEY, &lmdb_table));
-    for (uint32_t key = 0; key < OBJECTS; key++) lmdb_put(t, key, zeros);
+    for (uint32_t key = 0; key < load.objects; key++) lmdb_put(t, key, zeros);
     lmdb_want(mdb_txn_commit(t));
     lmdb_want(mdb_env_sync(lmdb, 1));
 }
@@ -185,13 +192,16 @@ static sqlite3 *sqlite_connect(void)
 
 static void sqlite_open(const char *folder, int durable)
 {
+    char words[300];
     is_durable = durable;
     snprintf(sqlite_path, sizeof sqlite_path, "%s/db", folder);
     sqlite = sqlite_connect();
-    sqlite_exec(sqlite,
-                "CREATE TABLE o(k INTEGER PRIMARY KEY, v BLOB);"
-                "WITH RECURSIVE c(x) AS (SELECT 0 UNION ALL SELECT x + 1 FROM c WHERE x < 511)"
-                " INSERT INTO o SELECT x, zeroblob(128) FROM c; PRAGMA wal_checkpoint(TRUNCATE);");
+    snprintf(words, sizeof words,
+             "CREATE TABLE o(k INTEGER PRIMARY KEY, v BLOB);"
+             "WITH RECURSIVE c(x) AS (SELECT 0 UNION ALL SELECT x + 1 FROM c WHERE x < %u)"
+             " INSERT INTO o SELECT x, zeroblob(%u) FROM c; PRAGMA wal_checkpoint(TRUNCATE);",
+             load.objects - 1, load.bytes);
+    sqlite_exec(sqlite, words);
 }
 
 static void *sqlite_session(void)
@@ -218,7 +228,7 @@ static void sqlite_commit(void *session, const uint32_t keys[2], const char *val
     sqlite_step(s->db, s->begin);
     for (int i = 0; i < 2; i++) {
         sqlite3_bind_int(s->update, 1, (int)keys[i]);
-        sqlite3_bind_blob(s->update, 2, value, OBJECT_BYTES, SQLITE_STATIC);
+        sqlite3_bind_blob(s->update, 2, value, (int)load.bytes, SQLITE_STATIC);
         sqlite_step(s->db, s->update);
     }
     sqlite_step(s->db, s->commit);
@@ -245,7 +255,7 @@ static void sqlite_flush(void)
         db##_writebatch_t *b = db##_writebatch_create(); \
         for (int i = 0; i < count; i++) { \
             spell_key(keys[i], key); \
-            db##_writebatch_put(b, key, sizeof key, value, OBJECT_BYTES); \
+            db##_writebatch_put(b, key, sizeof key, value, load.bytes); \
         } \
         db##_write(db, synced ? db##_synced : db##_plain, b, &why); \
         db##_want(why); \
@@ -253,8 +263,8 @@ static void sqlite_flush(void)
     } \
     static void db##_begin(const char *folder, int durable) \
     { \
-        static const char zeros[OBJECT_BYTES]; \
-        uint32_t keys[OBJECTS]; \
+        static const char zeros[MOST_BYTES]; \
+        static uint32_t keys[MOST_OBJECTS]; \
         char *why = NULL; \
         db##_options_t *o = db##_options_create(); \
         is_durable = durable; \
@@ -264,8 +274,8 @@ static void sqlite_flush(void)
         db##_plain = db##_writeoptions_create(); \
         db##_synced = db##_writeoptions_create(); \
         db##_writeoptions_set_sync(db##_synced, 1); \
-        for (uint32_t key = 0; key < OBJECTS; key++) keys[key] = key; \
-        db##_write_batch(keys, OBJECTS, zeros, 1); \
+        for (uint32_t key = 0; key < load.objects; key++) keys[key] = key; \
+        db##_write_batch(keys, (int)load.objects, zeros, 1); \
     } \
     static void db##_commit(void *session, const uint32_t keys[2], const char *value) \
     { \
@@ -274,7 +284,7 @@ static void sqlite_flush(void)
     } \
     static void db##_flush_all(void) \
     { \
-        static const char zeros[OBJECT_BYTES]; \
+        static const char zeros[MOST_BYTES]; \
         const uint32_t key = 0; \
         db##_write_batch(&key, 1, zeros, 1); \
     }
@@ -308,13 +318,13 @@ static int bdb_put(DB_TXN *t, uint32_t key, const char *value)
     k.data = spelled;
     k.size = sizeof spelled;
     v.data = (void *)value;
-    v.size = OBJECT_BYTES;
+    v.size = load.bytes;
     return bdb->put(bdb, t, &k, &v, 0);
 }
 
 static void bdb_open(const char *folder, int durable)
 {
-    static const char zeros[OBJECT_BYTES];
+    static const char zeros[MOST_BYTES];
     const u_int32_t parts = DB_INIT_TXN | DB_INIT_LOG | DB_INIT_LOCK | DB_INIT_MPOOL;
     const u_int32_t new_one = DB_CREATE | DB_THREAD;
     bdb_want(db_env_create(&bdb_env, 0));
@@ -323,7 +333,7 @@ static void bdb_open(const char *folder, int durable)
     bdb_want(bdb_env->open(bdb_env, folder, parts | new_one | DB_PRIVATE, 0600));
     bdb_want(db_create(&bdb, bdb_env, 0));
     bdb_want(bdb->open(bdb, NULL, "db", NULL, DB_BTREE, new_one | DB_AUTO_COMMIT, 0600));
-    for (uint32_t key = 0; key < OBJECTS; key++) bdb_want(bdb_put(NULL, key, zeros));
+    for (uint32_t key = 0; key < load.objects; key++) bdb_want(bdb_put(NULL, key, zeros));
     bdb_want(bdb_env->txn_checkpoint(bdb_env, 0, 0, 0));
 }
 

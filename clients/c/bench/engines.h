@@ -5,7 +5,16 @@
 #define ENGINES_H
 #include <stdint.h>
 
-enum { OBJECTS = 512, OBJECT_BYTES = 128 };
+/* How many objects there are, and how many bytes each has: 512 of 128, or where the load is wide
+ * 30000 of 4096. */
+enum { MOST_OBJECTS = 30000, MOST_BYTES = 4096 };
+
+struct load {
+    int is_wide;
+    uint32_t objects, bytes;
+};
+
+extern struct load load;
 
 struct engine {
     const char *name;

@@ -2,3 +2,4 @@ pub mod Journals
 pub mod Transactions
 pub mod Commits
 pub mod Waits
+pub mod Loggers

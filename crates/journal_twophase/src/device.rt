@@ -45,8 +45,9 @@ impl<'b, D: BlockDisk, R: MapRule, J: Naming> LockedParts<'b, D, R, J> {
     }
 
     // Does the next thing of the logger once as many have committed as the last mark woke, or have
-    // had their time to. Else the first of them that commits again would have a group for itself,
-    // and the others would wait for the next.
+    // had their time to, and no thread that waits for a mark makes its steps. Else the first of
+    // them that commits again would have a group for itself, and the others would wait for the
+    // next.
     pub(crate) fn log_step_grouped<W: Wait + Clock>(
         &self,
         rt: &W,
@@ -59,7 +60,7 @@ impl<'b, D: BlockDisk, R: MapRule, J: Naming> LockedParts<'b, D, R, J> {
 
     // The device call of the group in flight that is due, or where none is in flight what is due of
     // both parts.
-    fn log_call<W: Wait>(&self, rt: &W) -> Result<LogStep, JournalRefusal<'b, J, R>>
+    pub(crate) fn log_call<W: Wait>(&self, rt: &W) -> Result<LogStep, JournalRefusal<'b, J, R>>
         ensures { IfErr result IsLogRefusal }
     {
         let mut durable = self.durable.lock(rt);
@@ -101,7 +102,11 @@ impl<'b, D: BlockDisk, R: MapRule, J: Naming> LockedParts<'b, D, R, J> {
 
     // Wakes those for whom a step of the logger made something, and all where it can be followed by
     // no other.
-    fn wake_after_step<W: Wait>(&self, rt: &W, answer: &Result<LogStep, JournalRefusal<'b, J, R>>) {
+    pub(crate) fn wake_after_step<W: Wait>(
+        &self,
+        rt: &W,
+        answer: &Result<LogStep, JournalRefusal<'b, J, R>>,
+    ) {
         match answer {
             Ok(LogStep::Cut) => self.room.notify_all(),
             Ok(LogStep::Marked(_)) => self.marked.notify_all(),
@@ -123,6 +128,7 @@ impl<'b, D: BlockDisk, R: MapRule, J: Naming> LockedParts<'b, D, R, J> {
         let answer = self.install_call(rt);
         if matches!(answer, Ok(InstallStep::Freed(_))) {
             self.logging.notify_all();
+            self.group_full.notify_all();
         }
         self.wake_after_fault(&answer);
         answer
@@ -332,13 +338,15 @@ impl<'b, D: BlockDisk, R: MapRule, J: Naming> LockedParts<'b, D, R, J> {
             installing: _,
             ended: _,
             group_in_flight: _,
+            led: _,
         } = self;
         let UnderMemoryLock {
             padding: _,
             volatile,
             log_start: _,
-            logger_sleeps: _,
-            logger_delays: _,
+            logger: _,
+            is_led: _,
+            seen_commits: _,
             waiters: _,
         } = memory.into_inner();
         (durable.into_inner(), volatile)

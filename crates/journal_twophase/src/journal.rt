@@ -287,10 +287,12 @@ impl<'b, D: BlockDisk, R: MapRule, J: Naming> Journal<'b, D, R, J> {
 
     /// Does the next thing of the logger as `log_step` does, but first waits until as many commits
     /// came as threads were woken by the last mark, or as many wait for the next one, so that their
-    /// next commits share a group. It waits at most 200 microseconds, since a thread may have
-    /// nothing to commit. Where nobody waits for a mark, it waits at most a millisecond, or until
-    /// 128 blocks are to be logged, so that many commits share a group. Whoever then waits for a
-    /// mark ends that, and a stop or a device that failed ends either wait.
+    /// next commits share a group. While it waits, a thread that waits for a mark may make the
+    /// logger's steps in its place, and it goes on waiting as long as one does. Since a thread may
+    /// have nothing to commit, it looks again after 200 microseconds where several threads wait or
+    /// are awaited, else after a millisecond, and logs what it found at the look before. Where 128
+    /// blocks are to be logged it waits for nobody, and a stop or a device that failed ends the
+    /// wait.
     ///
     /// It is refused as `log_step` is.
     pub fn log_step_grouped<W: Wait + Clock>(
@@ -382,7 +384,9 @@ impl<'b, D: BlockDisk, R: MapRule, J: Naming> Journal<'b, D, R, J> {
     }
 
     /// Waits until `log_step` has something to do or is refused for good: a commit was made,
-    /// positions of a full log became free, the journal was stopped, or the device failed.
+    /// positions of a full log became free, the journal was stopped, or the device failed. While it
+    /// waits, a thread that waits for a mark may make the logger's steps in its place, and wakes it
+    /// where something is left to do.
     pub fn await_log_work<W: Wait>(&self, rt: &W) {
         self.core.await_log_work(rt);
     }

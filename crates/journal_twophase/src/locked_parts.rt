@@ -4,19 +4,22 @@
 // `device.rt` and `scanning.rt`, and neither a part nor a guard of it leaves these four. The
 // contracts speak of sessions, transactions and receipts, because no fact of a part stays true
 // after its lock is released.
-ghost use Rattle.std.specs.Prelude.{◌≡◌, ◌↔◌, ◌<◌, true, false, length, IsTrue, IfOk, IfErr, IsErrAnd, IfSome, OnOk, OnErr, All};
+ghost use Rattle.std.specs.Prelude.{◌≡◌, ◌≢◌, ◌↔◌, ◌<◌, ◌≤◌, ◌⊎◌, true, false, length, IsTrue, IfOk, IfErr, IsErrAnd, IfSome, OnOk, OnErr, All};
 ghost use Rattle.journal_world.specs.Addresses.{is_valid};
 ghost use Rattle.journal_world.specs.Files.{shape};
 ghost use Rattle.journal_world.specs.Maps.{Map, Agrees, overwritten};
 ghost use Rattle.journal_object.specs.Objects.{size_at};
-ghost use Rattle.journal_world.specs.Histories.{is_fenced};
+ghost use Rattle.journal_world.specs.Histories.{count, is_fenced};
 ghost use Rattle.journal_disk.specs.Disks.{IsSettled};
 ghost use Rattle.journal_history.specs.Tokens.{made, IsExact, OnlyExtends};
 ghost use Rattle.journal_memory.specs.SlotCounts.{AreUnder};
+ghost use Rattle.journal_memory.specs.Volatiles.{HasNothingToLog};
 ghost use Rattle.journal_parts.specs.Openings.{HasWellFormedLog, IsLayoutRefusal, OnlyReadsDisk};
 ghost use Rattle.journal_twophase.specs.Journals.{BeginsWith, IsSessionRefusal, IsFenceRefusal};
+ghost use Rattle.journal_twophase.specs.Loggers.{IsWakeFrom};
 ghost use Rattle.journal_twophase.specs.Transactions.{KeepsHeld, ReadsObject, IsCheckRefusal, IsEndRefusal};
 ghost use Rattle.journal_twophase.specs.Commits.{IsCommitted, ShowsFence, IsAwaited, IsRefusedWhenFull};
+ghost use Rattle.journal_twophase.specs.declared.waiters.TheConstants.{FEW};
 
 use crate::hint::Hint;
 use crate::spent::SpentTransaction;
@@ -28,7 +31,7 @@ use journal_memory::{
     Cause, CommitStep, Fetched, ReadResult, SessionNumber, Spares, Transaction, Volatile,
 };
 use journal_parts::{Durable, open_parts};
-use journal_tail::Position;
+use journal_tail::{CommitCount, Position};
 use journal_world::{Addr, Layout, MapRule, Refusal, Refused};
 use std::alloc::Global;
 use std::hint::spin_loop;
@@ -49,10 +52,11 @@ pub(crate) struct UnderMemoryLock<'b, R: MapRule, J: Naming> {
     // Where the log on the disk starts. What was in it when it was opened stands in no part of
     // memory, but takes room.
     pub(crate) log_start: Position,
-    // The logger sleeps until a commit wakes it, and none did yet.
-    pub(crate) logger_sleeps: bool,
-    // The logger delays a group, and nobody ended the delay yet.
-    pub(crate) logger_delays: bool,
+    pub(crate) logger: LoggerState,
+    // A thread that waits for a mark makes the logger's steps, up to a mark.
+    pub(crate) is_led: bool,
+    // How many commits there were when the logger looked last.
+    pub(crate) seen_commits: CommitCount,
     // Those that wait for a mark.
     pub(crate) waiters: MarkWaiters,
 }
@@ -86,51 +90,156 @@ pub(crate) struct AnsweredCommit<'s, 'b, R: MapRule, J: Naming> {
     pub(crate) spent: SpentTransaction<'b, J, R>,
 }
 
+// What the logger does. While it does not step, its steps may be made by whoever waits for a mark.
+#[derive(Clone, Copy, Drop)]
+pub(crate) enum LoggerState {
+    // It makes a step, or is between two of them.
+    Steps,
+    // It sleeps until there is something to do, and nobody woke it yet.
+    Sleeps,
+    // It waits for a while, and nobody ended that yet.
+    Delays,
+    // It is to go on, and has not had the lock again.
+    Woken,
+}
+
 // For which of its waits the logger is to be woken.
 #[derive(Clone, Copy, Drop)]
 pub(crate) enum LoggerWake {
     None,
-    // There is a commit.
+    // There is something to do.
     Work,
-    // There are as many commits, or as many blocks, as the next group is to have.
+    // There is as much as the next group is to have.
     GroupFull,
 }
 
 impl<'b, R: MapRule, J: Naming> UnderMemoryLock<'b, R, J> {
-    // For which wait the logger is to be woken after this answer to a commit. Who asks has to wake
-    // it: the next commit does not wake it for the same sleep again.
+    // For which wait the logger is to be woken after this answer to a commit that nobody waits for
+    // yet. Who asks has to wake it: the next commit does not wake it for the same wait again.
     pub(crate) fn wake_after<T>(
         &mut self,
         answer: &Result<T, JournalRefusal<'b, J, R>>,
-    ) -> LoggerWake {
-        if answer.is_err() {
-            return LoggerWake::None;
+    ) -> LoggerWake
+        ensures { IsWakeFrom self.old.logger result self.new.logger }
+    {
+        match self.logger {
+            _ if answer.is_err() => LoggerWake::None,
+            LoggerState::Sleeps if may_log(self) => self.wake(LoggerWake::Work),
+            LoggerState::Delays if self.has_full_group() => self.wake(LoggerWake::GroupFull),
+            _ => LoggerWake::None,
         }
-        if self.logger_sleeps && may_log(self) {
-            self.logger_sleeps = false;
-            return LoggerWake::Work;
-        }
-        let ends_delay = self.has_full_group() && self.ends_delay();
-        if ends_delay || self.waiters.fills_group(self.volatile.commits()) {
-            return LoggerWake::GroupFull;
-        }
-        LoggerWake::None
     }
 
-    // Ends the delay of a group. Who asks has to wake the logger, if there was one.
-    pub(crate) fn ends_delay(&mut self) -> bool {
-        let delays = self.logger_delays;
-        self.logger_delays = false;
-        delays
+    // Notes that the logger is woken.
+    fn wake(&mut self, wake: LoggerWake) -> LoggerWake
+        ensures same { result ≡ wake }
+        ensures woken { self.new.logger ≡ LoggerState.Woken }
+    {
+        self.logger = LoggerState::Woken;
+        wake
     }
 
-    // Whether a group may be delayed: there is one, and nobody waits for its mark, or for the room
-    // that its cut makes.
-    fn may_delay_group(&self) -> bool {
-        self.volatile.check_running().is_ok()
-            && self.waiters.are_none()
-            && !self.has_full_group()
-            && self.volatile.floor() < self.volatile.commits()
+    // Whether the logger waits and nobody else makes its steps.
+    fn is_unled(&self) -> bool
+        ensures rests { IsTrue result → self.now.logger ≢ LoggerState.Steps }
+        ensures alone { IsTrue result → self.now.is_led ≡ false }
+    {
+        !self.is_led && !matches!(self.logger, LoggerState::Steps)
+    }
+
+    // Whether all have come that are awaited, and there is something to log.
+    fn has_whole_group(&self) -> bool
+        ensures work { IsTrue result → HasNothingToLog self.now.volatile self.now.log_start → ⊥ }
+        ensures come { IsTrue result → (self.now.waiters.awaited ≤ self.now.waiters.asleep) ⊎ (self.now.waiters.enough ≤ count self.now.volatile.ledger.history) }
+    {
+        !self.waiters.should_delay(self.volatile.commits())
+            && !self.volatile.has_nothing_to_log(self.log_start)
+            && self.volatile.check_running().is_ok()
+    }
+
+    // Whether the next group is one for which a thread that waits may make the logger's steps: few
+    // are awaited, and where they are several, they wrote few blocks.
+    fn is_small_group(&self) -> bool
+        ensures few { IsTrue result → self.now.waiters.awaited ≤ FEW }
+    {
+        self.waiters.may_be_led()
+            && (!self.waiters.are_several() || self.volatile.tail_len() <= FEW_BLOCKS)
+    }
+
+    // Whether a thread that is to sleep until a mark makes the logger's steps. It is the last of
+    // those that are awaited, and the group is small.
+    pub(crate) fn may_lead(&self) -> bool
+        ensures rests { IsTrue result → self.now.logger ≢ LoggerState.Steps }
+        ensures alone { IsTrue result → self.now.is_led ≡ false }
+        ensures few { IsTrue result → self.now.waiters.awaited ≤ FEW }
+        ensures work { IsTrue result → HasNothingToLog self.now.volatile self.now.log_start → ⊥ }
+        ensures come { IsTrue result → (self.now.waiters.awaited ≤ self.now.waiters.asleep) ⊎ (self.now.waiters.enough ≤ count self.now.volatile.ledger.history) }
+    {
+        self.is_unled() && self.is_small_group() && self.has_whole_group()
+    }
+
+    // For which wait the logger is to be woken by a thread that is to sleep until a mark, or that
+    // has made the logger's steps. It has to make the steps of many, and to look after those of
+    // whom some come too late or not at all. Who asks has to wake it.
+    pub(crate) fn wake_to_watch(&mut self) -> LoggerWake
+        ensures { IsWakeFrom self.old.logger result self.new.logger }
+    {
+        match self.logger {
+            LoggerState::Sleeps if self.is_to_watch() => self.wake(LoggerWake::Work),
+            LoggerState::Delays if self.has_full_group() || self.is_for_logger() => {
+                self.wake(LoggerWake::GroupFull)
+            }
+            _ => LoggerWake::None,
+        }
+    }
+
+    // Whether there is something to log, or somebody waits with others, and nobody makes the
+    // logger's steps.
+    fn is_to_watch(&self) -> bool {
+        !self.is_led && (self.waiters.are_several() || may_log(self))
+    }
+
+    // Whether all have come that are awaited, and the group is none for one of them.
+    fn is_for_logger(&self) -> bool {
+        !self.is_led && !self.is_small_group() && self.has_whole_group()
+    }
+
+    // Whether the logger has something to do that no other thread does, or would be refused.
+    fn has_log_work(&self) -> bool {
+        self.volatile.check_running().is_err() || (!self.is_led && may_log(self))
+    }
+
+    // For how long the logger waits before it looks again, or none where it makes its next step.
+    fn pause(&mut self) -> Option<Duration> {
+        let seen = self.seen_commits;
+        self.seen_commits = self.volatile.commits();
+        if self.is_logger_due(seen) {
+            return None;
+        }
+        let micros = if self.waiters.are_several() {
+            GROUP_DELAY_MICROS
+        } else {
+            UNAWAITED_DELAY_MICROS
+        };
+        Some(Duration::from_micros(micros))
+    }
+
+    // Whether the logger makes its next step, where so many commits had come at its last look. It
+    // logs what was there then, whoever is missing. While commits come it does not go to sleep, so
+    // that no commit has to wake it.
+    fn is_logger_due(&self, seen: CommitCount) -> bool {
+        if self.volatile.check_running().is_err() {
+            return true;
+        }
+        if self.is_led {
+            return false;
+        }
+        let commits = self.volatile.commits();
+        if self.volatile.has_nothing_to_log(self.log_start) {
+            return commits <= seen;
+        }
+        let have_come = !self.waiters.are_none() && !self.waiters.should_delay(commits);
+        have_come || self.volatile.floor() < seen || self.has_full_group()
     }
 
     // Whether there are so many blocks to be cut that the group is delayed no more. With fewer
@@ -163,8 +272,9 @@ pub(crate) struct LockedParts<'b, D: BlockDisk, R: MapRule, J: Naming> {
     pub(crate) marked: Condvar,
     // The logger waits for a commit, or for positions that are free.
     pub(crate) logging: Condvar,
-    // The logger waits until there are as many commits as a mark woke threads, or as many of them
-    // sleep again, or delays a group that nobody waits for.
+    // The logger waits for a while: until there are as many commits as a mark woke threads, or as
+    // many of them sleep again, until a group that nobody waits for has grown, or while another
+    // thread makes its steps.
     pub(crate) group_full: Condvar,
     // The installer waits for a log past its threshold.
     pub(crate) installing: Condvar,
@@ -175,6 +285,9 @@ pub(crate) struct LockedParts<'b, D: BlockDisk, R: MapRule, J: Naming> {
     // A group is cut and not marked. The logger waits for nothing then: the group's commits wait
     // for it.
     pub(crate) group_in_flight: Hint,
+    // A thread that waits for a mark makes the logger's steps, as `is_led` says under the memory
+    // lock.
+    pub(crate) led: Hint,
 }
 
 // What an opening gives: the core, the history that it begins with, and the slots, all free.
@@ -216,8 +329,9 @@ impl<'b, D: BlockDisk, R: MapRule, J: Naming> LockedParts<'b, D, R, J> {
                 padding: [0; PADDING_WORDS],
                 volatile,
                 log_start,
-                logger_sleeps: false,
-                logger_delays: false,
+                logger: LoggerState::Steps,
+                is_led: false,
+                seen_commits: CommitCount::new(0),
                 waiters: MarkWaiters::default(),
             }),
             room: Condvar::new(),
@@ -227,6 +341,7 @@ impl<'b, D: BlockDisk, R: MapRule, J: Naming> LockedParts<'b, D, R, J> {
             installing: Condvar::new(),
             ended: Hint::new(),
             group_in_flight: Hint::new(),
+            led: Hint::new(),
         };
         Ok(OpenedCore { core, start, slots })
     }
@@ -456,7 +571,8 @@ impl<'b, D: BlockDisk, R: MapRule, J: Naming> LockedParts<'b, D, R, J> {
         } = self.commit_under(rt, session, transaction, held, spares, when_full);
         let wake = memory.wake_after(&answer);
         drop(memory);
-        self.wake_after_commit(&answer, wake);
+        self.wake_logger(wake);
+        self.wake_after_fault(&answer);
         answer
     }
 
@@ -510,52 +626,46 @@ impl<'b, D: BlockDisk, R: MapRule, J: Naming> LockedParts<'b, D, R, J> {
         unreachable!()
     }
 
-    // Wakes the logger after a commit that ends its wait, and all where the device failed.
-    pub(crate) fn wake_after_commit(
-        &self,
-        answer: &Result<Receipt<'b, J, R>, JournalRefusal<'b, J, R>>,
-        wake: LoggerWake,
-    ) {
+    // Wakes the logger from the wait that was ended.
+    pub(crate) fn wake_logger(&self, wake: LoggerWake) {
         match wake {
             LoggerWake::Work => self.logging.notify_all(),
             LoggerWake::GroupFull => self.group_full.notify_all(),
-            LoggerWake::None => self.wake_after_fault(answer),
+            LoggerWake::None => {}
         }
     }
 
-    // Waits until the logger has something to do, or would be refused. It looks at memory alone:
-    // what it does not know of the log on the disk it is woken for.
+    // Waits until the logger has something to do that no other thread does, or would be refused. It
+    // looks at memory alone: what it does not know of the log on the disk it is woken for.
     pub(crate) fn await_log_work<W: Wait>(&self, rt: &W) {
         let mut memory = self.memory.lock(rt);
+        memory.logger = LoggerState::Sleeps;
         for _ in rt.forever() {
-            memory.logger_sleeps = !may_log(&memory);
-            if !memory.logger_sleeps {
+            if memory.has_log_work() || matches!(memory.logger, LoggerState::Woken) {
+                memory.logger = LoggerState::Steps;
                 return;
             }
             memory = self.logging.wait(rt, memory);
         }
     }
 
-    // Waits until there are as many commits as the last mark woke threads, or as many wait for the
-    // next one, but not for long: one of them may have nothing to commit. Where nobody waits it
-    // delays the group, so that many commits share it. Who is woken too early cuts or marks too
-    // early, which harms nobody.
+    // Waits while another thread makes the logger's steps, and while a group is to grow: until as
+    // many have committed, or wait for a mark, as the last mark woke, or where nobody waits, until
+    // it has many blocks. It looks again and again, but for two waits at most where there is
+    // something to log and nobody else logs it.
     pub(crate) fn wait_for_group<W: Wait + Clock>(&self, rt: &W) {
-        if self.group_in_flight.is_set() {
+        if self.group_in_flight.is_set() && !self.led.is_set() {
             return;
         }
         let mut memory = self.memory.lock(rt);
-        if memory.waiters.should_delay(memory.volatile.commits()) {
-            let _ended = self
-                .group_full
-                .wait_timeout(rt, memory, Duration::from_micros(GROUP_DELAY_MICROS));
-        } else if memory.may_delay_group() {
-            memory.logger_delays = true;
-            let (mut memory, _) = self
-                .group_full
-                .wait_timeout(rt, memory, Duration::from_micros(UNAWAITED_DELAY_MICROS));
-            memory.logger_delays = false;
+        for _ in rt.forever() {
+            let Some(pause) = memory.pause() else {
+                break;
+            };
+            memory.logger = LoggerState::Delays;
+            (memory, _) = self.group_full.wait_timeout(rt, memory, pause);
         }
+        memory.logger = LoggerState::Steps;
     }
 
     // Waits until the log is past its threshold, or the installer would be refused.
@@ -616,6 +726,11 @@ const UNAWAITED_DELAY_MICROS: u64 = 1000;
 // How many blocks end that delay. A tail takes 255 blocks, and a commit has 128 at most, so none
 // waits for room while there are fewer.
 const GROUP_BLOCKS: u64 = 128;
+
+// A group of several threads with more blocks is the logger's. A group's blocks are copied into
+// memory of the thread that cuts it, and other threads free that. Where each group is another
+// thread's, much of such memory goes back to the system every time.
+const FEW_BLOCKS: u64 = 16;
 
 // The installer waits until so many positions of the log are used. A tail has at most 255 blocks,
 // so it fits then. So many are those of two groups at least, of which one is logged, so that the

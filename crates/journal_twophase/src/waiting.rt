@@ -1,9 +1,10 @@
 // Waiting for a mark.
-ghost use Rattle.std.specs.Prelude.{◌≡◌, ◌≤◌, ◌↔◌, IsTrue, IfOk, IfErr, IsErrAnd, OnOk, OnErr, IfSome, IsSome, IsNone};
+ghost use Rattle.std.specs.Prelude.{◌≡◌, ◌≤◌, ◌↔◌, ◌⊎◌, IsTrue, IfOk, IfErr, IsErrAnd, OnOk, OnErr, IfSome, IsSome, IsNone};
 ghost use Rattle.journal_world.specs.Maps.{Map, Agrees, overwritten};
 ghost use Rattle.journal_world.specs.Histories.{count, floor};
 ghost use Rattle.journal_history.specs.Tokens.{IsExact, OnlyExtends};
-ghost use Rattle.journal_twophase.specs.Journals.{IsKnown};
+ghost use Rattle.journal_twophase.specs.Journals.{IsKnown, IsLogRefusal};
+ghost use Rattle.journal_twophase.specs.Loggers.{IsGroupEnd};
 ghost use Rattle.journal_twophase.specs.Transactions.{core_of};
 ghost use Rattle.journal_twophase.specs.Waits.{HasEnded, IsStable, CommitsAndWaits, IsWaitRefusal, IsEndedUnmarked, IsUnsure, IsWaitFault};
 
@@ -12,8 +13,14 @@ use crate::txn::{Txn, release_all};
 use journal_disk::BlockDisk;
 use journal_history::{Naming, Receipt, Session, StableNote};
 use journal_memory::{Cause, Volatile};
+use journal_parts::LogStep;
 use journal_world::{CommitCount, MapRule, Refusal};
 use std::sync::{MutexGuard, Wait};
+use std::time::Duration;
+
+// How many seconds a thread sleeps at most before it looks again. A mark, a stop or a fault wakes
+// it before.
+const LONGEST_SLEEP: u64 = 3600;
 
 /// Why a commit that waits to be stable has no note of it.
 #[derive(Debug, Drop)]
@@ -67,7 +74,7 @@ impl<'b, D: BlockDisk, R: MapRule, J: Naming> LockedParts<'b, D, R, J> {
             if let Some(note) = flush_step(rt, &mut memory.volatile, session)? {
                 return Ok(note);
             }
-            memory = self.sleep(rt, memory);
+            memory = self.lead_or_sleep(rt, memory);
         }
         unreachable!()
     }
@@ -92,26 +99,85 @@ impl<'b, D: BlockDisk, R: MapRule, J: Naming> LockedParts<'b, D, R, J> {
             if wait_step(rt, &mut memory.volatile, session, commits)? {
                 return Ok(StableNote::new(&session.front(), commits));
             }
-            memory = self.sleep(rt, memory);
+            memory = self.lead_or_sleep(rt, memory);
         }
         unreachable!()
     }
 
-    // Sleeps until a mark is made or all are woken. The logger waits for those whom a mark woke:
-    // the last waiter that sleeps again wakes the logger, if no commit already did.
-    fn sleep<'s, W: Wait>(
+    // Waits until a mark is made or all are woken. Where it may lead, the thread makes the logger's
+    // steps itself up to a mark, for all that have come.
+    fn lead_or_sleep<'s, W: Wait>(
         &'s self,
         rt: &W,
         memory: MutexGuard<'s, UnderMemoryLock<'b, R, J>>,
     ) -> MutexGuard<'s, UnderMemoryLock<'b, R, J>> {
         let mut memory = memory;
-        let fills_group = memory.waiters.add();
-        if memory.ends_delay() || fills_group {
-            self.group_full.notify_all();
+        memory.waiters.add();
+        if memory.may_lead() {
+            memory.is_led = true;
+            self.led.set(true);
+            drop(memory);
+            return self.lead(rt);
         }
-        let mut memory = self.marked.wait(rt, memory);
+        let wake = memory.wake_to_watch();
+        self.wake_logger(wake);
+        let mut memory = self.sleep(rt, memory);
         memory.waiters.remove();
         memory
+    }
+
+    // Makes the logger's steps up to one that is a mark, idle or refused. Nobody is woken for that
+    // one before another may lead: whom it wakes may make the next group.
+    fn lead<'s, W: Wait>(&'s self, rt: &W) -> MutexGuard<'s, UnderMemoryLock<'b, R, J>> {
+        let answer = self.make_group(rt);
+        let mut memory = self.lock_memory(rt);
+        memory.is_led = false;
+        self.led.set(false);
+        memory.waiters.remove();
+        let wake = memory.wake_to_watch();
+        drop(memory);
+        self.wake_after_step(rt, &answer);
+        self.wake_logger(wake);
+        self.lock_memory(rt)
+    }
+
+    // Leaves what is to be logged to the logger, where nobody waits for it.
+    fn let_log<W: Wait>(&self, rt: &W) {
+        let wake = self.lock_memory(rt).wake_to_watch();
+        self.wake_logger(wake);
+    }
+
+    // Makes the logger's steps, and answers the first that is a mark, idle or refused. Who waits
+    // for one of the others is woken.
+    fn make_group<W: Wait>(&self, rt: &W) -> Result<LogStep, JournalRefusal<'b, J, R>>
+        ensures ends { IfOk result IsGroupEnd }
+        ensures refusal { IfErr result IsLogRefusal }
+    {
+        for _ in rt.forever() {
+            let answer = self.log_call(rt);
+            if !is_within_group(&answer) {
+                return answer;
+            }
+            self.wake_after_step(rt, &answer);
+        }
+        unreachable!()
+    }
+
+    // Sleeps until a mark is made or all are woken. `wait` ends in the lock's own wait, where each
+    // that is woken sleeps once more. Where few sleep they try for the lock in place of that.
+    fn sleep<'s, W: Wait>(
+        &'s self,
+        rt: &W,
+        memory: MutexGuard<'s, UnderMemoryLock<'b, R, J>>,
+    ) -> MutexGuard<'s, UnderMemoryLock<'b, R, J>> {
+        if !memory.waiters.are_few() {
+            return self.marked.wait(rt, memory);
+        }
+        let seen = self.marked.notifications();
+        drop(memory);
+        self.marked
+            .sleep(rt, seen, Duration::from_secs(LONGEST_SLEEP));
+        self.lock_memory(rt)
     }
 
     // Sleeps, in the hold of the lock in which it was committed, until the commit of the receipt is
@@ -135,7 +201,10 @@ impl<'b, D: BlockDisk, R: MapRule, J: Naming> LockedParts<'b, D, R, J> {
         let _seen = session.seen();
         match answer {
             Ok(note) => Ok((receipt, note)),
-            Err(why) => Err(WaitFault::Unsure(receipt, why)),
+            Err(why) => {
+                self.let_log(rt);
+                Err(WaitFault::Unsure(receipt, why))
+            }
         }
     }
 }
@@ -171,18 +240,24 @@ impl<'j, 'b, D: BlockDisk, R: MapRule, J: Naming> Txn<'j, 'b, D, R, J> {
         let core = &journal.core;
         let when_full = WhenFull::Wait;
         let AnsweredCommit {
-            mut memory,
+            memory,
             answer,
             spent: _spent,
         } = core.commit_under(rt, session, transaction, &mut held, &mut spares, when_full);
         release_all(rt, &journal.slots, held);
-        let wake = memory.wake_after(&answer);
-        core.wake_after_commit(&answer, wake);
+        core.wake_after_fault(&answer);
         match answer {
             Ok(receipt) => core.await_mark(rt, memory, session, receipt),
             Err(why) => Err(WaitFault::Refused(why)),
         }
     }
+}
+
+// Whether a step of the logger is one of those that come before a mark.
+fn is_within_group<C>(answer: &Result<LogStep, Refusal<C>>) -> bool
+    ensures { IsTrue result ⊎ IfOk answer.now IsGroupEnd }
+{
+    matches!(answer, Ok(LogStep::Cut | LogStep::Put | LogStep::Logged))
 }
 
 // Asks the volatile part whether so many commits are marked. Where a stop or a fault refuses that,

@@ -6,5 +6,5 @@ returns-clause-left g c =
     (record {
       front = c.in-Err.field-0.left.front;
       later = c.prove_goes_on.ensures;
-      images = c.in-Err.ensures.left_images
+      images = c.in-Err.ensures.left_images;
     })
