@@ -107,6 +107,12 @@ pub enum Fault<'w> {
         socket: &'w str,
         why: Answered,
     },
+    /// The service at the socket counts nothing: it is of version 1 of the protocol.
+    CountsNothing {
+        socket: &'w str,
+    },
+    /// The system gives no random bits.
+    NoRandom,
     /// Memory was refused, or a thread.
     NoMemory,
     /// Standard output failed.
@@ -192,6 +198,8 @@ impl<'w> Fault<'w> {
             | Fault::NoAnswer { .. }
             | Fault::NotEnded { .. }
             | Fault::NotStopped { .. }
+            | Fault::CountsNothing { .. }
+            | Fault::NoRandom
             | Fault::NoMemory
             | Fault::CannotWrite => 1,
         }
@@ -275,6 +283,11 @@ impl<'w> Fault<'w> {
             Fault::NotStopped { socket, why } => {
                 writeln!(faults, "jnl: the service at {socket} goes on: {why:?}")
             }
+            Fault::CountsNothing { socket } => writeln!(
+                faults,
+                "jnl: the service at {socket} counts nothing; it speaks version 1 of the protocol alone"
+            ),
+            Fault::NoRandom => writeln!(faults, "jnl: the system gives no random number"),
             Fault::NoMemory => writeln!(faults, "jnl: no memory"),
             Fault::CannotWrite => writeln!(faults, "jnl: cannot write standard output"),
         }

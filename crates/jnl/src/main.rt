@@ -2,7 +2,8 @@
 //! what a disk is, `jnl check` whether it is sound, and `jnl seal` gives its log the form with one
 //! barrier a group, or the plain form again. `jnl label` gives a disk its label, and `jnl grow` more
 //! blocks. `jnl serve` serves a disk to programs in any language,
-//! and `jnl stop` ends such a service. `jnl nfs` serves the files of a disk of the file service so
+//! `jnl stat` prints what such a service has
+//! counted, and `jnl stop` ends it. `jnl nfs` serves the files of a disk of the file service so
 //! that a Linux machine mounts them. `jnl --help` is the manual.
 #![tactic(auto)]
 
@@ -10,16 +11,20 @@ ghost use Rattle.std.specs.Prelude.{◌≤◌};
 
 mod checking;
 mod command;
+mod counted_disk;
+mod counts;
 mod disks;
 mod exporting;
 mod fault;
 mod labels;
 mod listener;
+mod numbering;
 mod peer;
 mod queue;
 mod regions;
 mod serving;
 mod socket;
+mod stat;
 mod stopping;
 mod working;
 
@@ -33,6 +38,7 @@ use std::fs::{File, Files};
 use std::io::{BufWriter, Write};
 use std::net::{Net, TcpListener, TcpStream};
 use std::process::ExitCode;
+use std::random::RandomSource;
 use std::sync::Wait;
 use std::thread::Threads;
 use std::time::Clock;
@@ -44,6 +50,7 @@ pub fn run<
     R: Files<File = File>
         + Net<Listener = TcpListener, Stream = TcpStream>
         + Clock
+        + RandomSource
         + Threads
         + Wait
         + Sync,
@@ -64,6 +71,7 @@ fn obey<
     R: Files<File = File>
         + Net<Listener = TcpListener, Stream = TcpStream>
         + Clock
+        + RandomSource
         + Threads
         + Wait
         + Sync,
@@ -92,6 +100,7 @@ fn obey<
         Subcommand::Check { path } => disks::check(rt, alloc, path, output, faults),
         Subcommand::Seal { path, form } => disks::seal(rt, alloc, path, form, output),
         Subcommand::Serve(service) => serving::serve(rt, alloc, service, output),
+        Subcommand::Stat { socket, form } => stat::stat(rt, alloc, socket, form, output),
         Subcommand::Stop { socket } => stopping::stop(rt, alloc, socket),
         Subcommand::Nfs { path, endpoint } => {
             exporting::export(rt, alloc, path, endpoint, output, faults)

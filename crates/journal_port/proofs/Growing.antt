@@ -76,34 +76,34 @@ stat_grows old new (Values values) is = absurd is
 stat_grows old new (Flushed stable) is = absurd is
 stat_grows old new Stopping is = absurd is
 
-stop_grows : (may_stop : Bool) (old new : SessionState) (told : Answer) → IsStopAnswer may_stop old new told → Grows old new
-stop_grows may_stop old new Stopping is = is.1.1.0.seen
-stop_grows may_stop old new (Refused n) (inl forbidden) = same_grows old new forbidden.2
-stop_grows may_stop old new (Refused n) (inr refused) = refused.1.0.seen
-stop_grows may_stop old new (Committed place count) is = absurd is
-stop_grows may_stop old new (Unsure place count) is = absurd is
-stop_grows may_stop old new (Hello version size) is = absurd is
-stop_grows may_stop old new (Values values) is = absurd is
-stop_grows may_stop old new (Flushed stable) is = absurd is
-stop_grows may_stop old new (Stat commits stable) is = absurd is
+stop_grows : (offer : Offer) (old new : SessionState) (told : Answer) → IsStopAnswer offer old new told → Grows old new
+stop_grows offer old new Stopping is = is.1.1.0.seen
+stop_grows offer old new (Refused n) (inl forbidden) = same_grows old new forbidden.2
+stop_grows offer old new (Refused n) (inr refused) = refused.1.0.seen
+stop_grows offer old new (Committed place count) is = absurd is
+stop_grows offer old new (Unsure place count) is = absurd is
+stop_grows offer old new (Hello version size) is = absurd is
+stop_grows offer old new (Values values) is = absurd is
+stop_grows offer old new (Flushed stable) is = absurd is
+stop_grows offer old new (Stat commits stable) is = absurd is
 
-answer_grows : (layout : Shape) (may_stop : Bool) (marks : List Entry) (request : Request) (old new : SessionState) (told : Answer) → IsAnswerTo layout may_stop marks request old new told → Grows old new
-answer_grows layout may_stop marks (asked.Hello version) old new told is = hello_grows layout.blocks version old new told is
-answer_grows layout may_stop marks (asked.Commit parts waits) old new told is = commit_grows layout parts.items waits marks old new told is
-answer_grows layout may_stop marks (asked.Read addrs) old new told is = read_grows layout addrs.items old new told is
-answer_grows layout may_stop marks asked.Flush old new told is = flush_grows old new told is
-answer_grows layout may_stop marks asked.Stat old new told is = stat_grows old new told is
-answer_grows layout may_stop marks asked.Stop old new told is = stop_grows may_stop old new told is
+answer_grows : (layout : Shape) (offer : Offer) (marks : List Entry) (request : Request) (old new : SessionState) (told : Answer) → IsAnswerTo layout offer marks request old new told → Grows old new
+answer_grows layout offer marks (asked.Hello version) old new told is = hello_grows layout.blocks version old new told is
+answer_grows layout offer marks (asked.Commit parts waits) old new told is = commit_grows layout parts.items waits marks old new told is
+answer_grows layout offer marks (asked.Read addrs) old new told is = read_grows layout addrs.items old new told is
+answer_grows layout offer marks asked.Flush old new told is = flush_grows old new told is
+answer_grows layout offer marks asked.Stat old new told is = stat_grows old new told is
+answer_grows layout offer marks asked.Stop old new told is = stop_grows offer old new told is
 
-found_grows : (layout : Shape) (may_stop : Bool) (marks : List Entry) (found : Result Request ReadFault) (old new : SessionState) (told : Answer) → IsFoundAnswer layout may_stop marks found old new told → Grows old new
-found_grows layout may_stop marks (Ok request) old new told is = answer_grows layout may_stop marks request old new told is
-found_grows layout may_stop marks (Err why) old new told is = same_grows old new is.0
+found_grows : (layout : Shape) (offer : Offer) (marks : List Entry) (found : Result Request ReadFault) (old new : SessionState) (told : Answer) → IsFoundAnswer layout offer marks found old new told → Grows old new
+found_grows layout offer marks (Ok request) old new told is = answer_grows layout offer marks request old new told is
+found_grows layout offer marks (Err why) old new told is = same_grows old new is.0
 
-pub reply_grows : (layout : Shape) (may_stop : Bool) (marks : List Entry) (bytes : List ℕ) (old new : SessionState) (told : Answer) → IsReplyTo layout may_stop marks bytes old new told → Grows old new
-reply_grows layout may_stop marks bytes old new told is = found_grows layout may_stop marks is.0 old new told is.2
+pub reply_grows : (layout : Shape) (offer : Offer) (marks : List Entry) (bytes : List ℕ) (old new : SessionState) (told : Answer) → IsReplyTo layout offer marks bytes old new told → Grows old new
+reply_grows layout offer marks bytes old new told is = found_grows layout offer marks is.0 old new told is.2
 
-pub answers_grow : (layout : Shape) (may_stop : Bool) (marks : List Entry) (records : List (List ℕ)) (old new : SessionState) (answers : List Answer) → AreAnswers layout may_stop marks records old new answers → Grows old new
-answers_grow layout may_stop marks [] old new answers are = are.0.seen
-answers_grow layout may_stop marks (r ∷ rs) old new answers are =
+pub answers_grow : (layout : Shape) (offer : Offer) (marks : List Entry) (records : List (List ℕ)) (old new : SessionState) (answers : List Answer) → AreAnswers layout offer marks records old new answers → Grows old new
+answers_grow layout offer marks [] old new answers are = are.0.seen
+answers_grow layout offer marks (r ∷ rs) old new answers are =
     IsPrefix-trans old.seen are.0.seen new.seen are.4.seen
-    (IsPrefix-trans are.0.seen are.1.seen new.seen (reply_grows layout may_stop marks r are.0 are.1 are.2 are.5) (answers_grow layout may_stop marks rs are.1 new are.3 are.6))
+    (IsPrefix-trans are.0.seen are.1.seen new.seen (reply_grows layout offer marks r are.0 are.1 are.2 are.5) (answers_grow layout offer marks rs are.1 new are.3 are.6))

@@ -32,19 +32,19 @@ commit_later layout parts waits marks later old new (Flushed stable) more is = i
 commit_later layout parts waits marks later old new (Stat commits stable) more is = is
 commit_later layout parts waits marks later old new Stopping more is = is
 
-pub answer_later : (layout : Shape) (may_stop : Bool) (marks later : List Entry) (request : Request) (old new : SessionState) (told : Answer) → IsPrefix marks later
-    → IsAnswerTo layout may_stop marks request old new told → IsAnswerTo layout may_stop later request old new told
-answer_later layout may_stop marks later (asked.Hello version) old new told more is = is
-answer_later layout may_stop marks later (asked.Commit parts waits) old new told more is = commit_later layout parts.items waits marks later old new told more is
-answer_later layout may_stop marks later (asked.Read addrs) old new told more is = is
-answer_later layout may_stop marks later asked.Flush old new told more is = is
-answer_later layout may_stop marks later asked.Stat old new told more is = is
-answer_later layout may_stop marks later asked.Stop old new told more is = is
+pub answer_later : (layout : Shape) (offer : Offer) (marks later : List Entry) (request : Request) (old new : SessionState) (told : Answer) → IsPrefix marks later
+    → IsAnswerTo layout offer marks request old new told → IsAnswerTo layout offer later request old new told
+answer_later layout offer marks later (asked.Hello version) old new told more is = is
+answer_later layout offer marks later (asked.Commit parts waits) old new told more is = commit_later layout parts.items waits marks later old new told more is
+answer_later layout offer marks later (asked.Read addrs) old new told more is = is
+answer_later layout offer marks later asked.Flush old new told more is = is
+answer_later layout offer marks later asked.Stat old new told more is = is
+answer_later layout offer marks later asked.Stop old new told more is = is
 
-pub found_later : (layout : Shape) (may_stop : Bool) (marks later : List Entry) (found : Result Request ReadFault) (old new : SessionState) (told : Answer) → IsPrefix marks later
-    → IsFoundAnswer layout may_stop marks found old new told → IsFoundAnswer layout may_stop later found old new told
-found_later layout may_stop marks later (Ok request) old new told more is = answer_later layout may_stop marks later request old new told more is
-found_later layout may_stop marks later (Err why) old new told more is = is
+pub found_later : (layout : Shape) (offer : Offer) (marks later : List Entry) (found : Result Request ReadFault) (old new : SessionState) (told : Answer) → IsPrefix marks later
+    → IsFoundAnswer layout offer marks found old new told → IsFoundAnswer layout offer later found old new told
+found_later layout offer marks later (Ok request) old new told more is = answer_later layout offer marks later request old new told more is
+found_later layout offer marks later (Err why) old new told more is = is
 
 -- ---- where so many are stable
 
@@ -74,27 +74,27 @@ commit_settled layout parts waits marks stable old new (Flushed n) marked is = i
 commit_settled layout parts waits marks stable old new (Stat commits n) marked is = is
 commit_settled layout parts waits marks stable old new Stopping marked is = is
 
-pub answer_settled : (layout : Shape) (may_stop : Bool) (marks : List Entry) (stable : ℕ) (request : Request) (old new : SessionState) (told : Answer) → stable ≤ floor marks
-    → IsAnswerTo layout may_stop marks request old new told → IsAnswerTo layout may_stop marks request old new (settled stable told)
-answer_settled layout may_stop marks stable (asked.Hello version) old new told marked is = settled_other (IsHelloAnswer layout.blocks version old new) stable told (λ p c no_such. no_such) is
-answer_settled layout may_stop marks stable (asked.Commit parts waits) old new told marked is = commit_settled layout parts.items waits marks stable old new told marked is
-answer_settled layout may_stop marks stable (asked.Read addrs) old new told marked is = settled_other (IsReadAnswer layout addrs.items old new) stable told (λ p c no_such. no_such) is
-answer_settled layout may_stop marks stable asked.Flush old new told marked is = settled_other (IsFlushAnswer old new) stable told (λ p c no_such. no_such) is
-answer_settled layout may_stop marks stable asked.Stat old new told marked is = settled_other (IsStatAnswer old new) stable told (λ p c no_such. no_such) is
-answer_settled layout may_stop marks stable asked.Stop old new told marked is = settled_other (IsStopAnswer may_stop old new) stable told (λ p c no_such. no_such) is
+pub answer_settled : (layout : Shape) (offer : Offer) (marks : List Entry) (stable : ℕ) (request : Request) (old new : SessionState) (told : Answer) → stable ≤ floor marks
+    → IsAnswerTo layout offer marks request old new told → IsAnswerTo layout offer marks request old new (settled stable told)
+answer_settled layout offer marks stable (asked.Hello version) old new told marked is = settled_other (IsHelloAnswer layout.blocks version old new) stable told (λ p c no_such. no_such) is
+answer_settled layout offer marks stable (asked.Commit parts waits) old new told marked is = commit_settled layout parts.items waits marks stable old new told marked is
+answer_settled layout offer marks stable (asked.Read addrs) old new told marked is = settled_other (IsReadAnswer layout addrs.items old new) stable told (λ p c no_such. no_such) is
+answer_settled layout offer marks stable asked.Flush old new told marked is = settled_other (IsFlushAnswer old new) stable told (λ p c no_such. no_such) is
+answer_settled layout offer marks stable asked.Stat old new told marked is = settled_other (IsStatAnswer old new) stable told (λ p c no_such. no_such) is
+answer_settled layout offer marks stable asked.Stop old new told marked is = settled_other (IsStopAnswer offer old new) stable told (λ p c no_such. no_such) is
 
-pub found_settled : (layout : Shape) (may_stop : Bool) (marks : List Entry) (stable : ℕ) (found : Result Request ReadFault) (old new : SessionState) (told : Answer) → stable ≤ floor marks
-    → IsFoundAnswer layout may_stop marks found old new told → IsFoundAnswer layout may_stop marks found old new (settled stable told)
-found_settled layout may_stop marks stable (Ok request) old new told marked is = answer_settled layout may_stop marks stable request old new told marked is
-found_settled layout may_stop marks stable (Err why) old new told marked is = settled_other (λ a. (new ≡ old) × (a ≡ Refused (refused_for why))) stable told (λ p c no_such. absurd (let e : Unsure p c ≡ Refused (refused_for why) = no_such.1 in cc)) is
+pub found_settled : (layout : Shape) (offer : Offer) (marks : List Entry) (stable : ℕ) (found : Result Request ReadFault) (old new : SessionState) (told : Answer) → stable ≤ floor marks
+    → IsFoundAnswer layout offer marks found old new told → IsFoundAnswer layout offer marks found old new (settled stable told)
+found_settled layout offer marks stable (Ok request) old new told marked is = answer_settled layout offer marks stable request old new told marked is
+found_settled layout offer marks stable (Err why) old new told marked is = settled_other (λ a. (new ≡ old) × (a ≡ Refused (refused_for why))) stable told (λ p c no_such. absurd (let e : Unsure p c ≡ Refused (refused_for why) = no_such.1 in cc)) is
 
 -- both, for a commit that was not known to be stable
-pub unsure_settled : (layout : Shape) (may_stop : Bool) (marks later : List Entry) (stable : ℕ) (request : Request) (old new : SessionState) (told : Answer) → IsPrefix marks later → stable ≤ floor later
-    → IsAnswerTo layout may_stop marks request old new told → IsAnswerTo layout may_stop later request old new (settled stable told)
-unsure_settled layout may_stop marks later stable request old new told more marked is =
-    answer_settled layout may_stop later stable request old new told marked (answer_later layout may_stop marks later request old new told more is)
+pub unsure_settled : (layout : Shape) (offer : Offer) (marks later : List Entry) (stable : ℕ) (request : Request) (old new : SessionState) (told : Answer) → IsPrefix marks later → stable ≤ floor later
+    → IsAnswerTo layout offer marks request old new told → IsAnswerTo layout offer later request old new (settled stable told)
+unsure_settled layout offer marks later stable request old new told more marked is =
+    answer_settled layout offer later stable request old new told marked (answer_later layout offer marks later request old new told more is)
 
 -- a hello is answered as one
-pub is_hello : (layout : Shape) (may_stop : Bool) (marks : List Entry) (request : Request) (version : ℕ) (session : SessionState) (told : Answer) → request ≡ asked.Hello version
-    → IsHelloAnswer layout.blocks version session session told → IsAnswerTo layout may_stop marks request session session told
-is_hello layout may_stop marks request version session told is hello = subst (λ (r : Request). IsAnswerTo layout may_stop marks r session session told) (sym is) hello
+pub is_hello : (layout : Shape) (offer : Offer) (marks : List Entry) (request : Request) (version : ℕ) (session : SessionState) (told : Answer) → request ≡ asked.Hello version
+    → IsHelloAnswer layout.blocks version session session told → IsAnswerTo layout offer marks request session session told
+is_hello layout offer marks request version session told is hello = subst (λ (r : Request). IsAnswerTo layout offer marks r session session told) (sym is) hello

@@ -12,13 +12,17 @@
 #![tactic(auto)]
 
 mod commit;
+mod counting;
+mod greet;
 mod order;
 mod parts;
 mod read;
 mod respond;
+mod scan;
 mod serving;
 mod streams;
 mod turns;
 
-pub use respond::{Terms, answer};
+pub use counting::Counting;
+pub use respond::{Port, Terms, answer};
 pub use serving::{ConnFault, End, Served, serve};
