@@ -277,7 +277,15 @@ void jnl_line_set_end(struct jnl_line *l, uint64_t ends)
     (void)l, (void)ends;
 }
 
-int jnl_line_send(struct jnl_line *l, const uint8_t *p, size_t n)
+/* Drops the answers that were received, so that those of the next records have their room. */
+static void drop_received(struct jnl_line *l)
+{
+    memmove(l->out, l->out + l->out_read, l->out_used - l->out_read);
+    l->out_used -= l->out_read;
+    l->out_read = 0;
+}
+
+ssize_t jnl_line_send(struct jnl_line *l, const uint8_t *p, size_t n)
 {
     enum state expected = PARKED;
     errno = ECONNRESET;
@@ -285,7 +293,7 @@ int jnl_line_send(struct jnl_line *l, const uint8_t *p, size_t n)
     if (!atomic_compare_exchange_strong(&l->state, &expected, LENT)) return -1;
     l->in = p;
     l->in_left = n;
-    l->out_used = l->out_read = 0;
+    if (l->out_read) drop_received(l);
     l->last = seconds();
     lent = l;
     jnl_switch(&l->caller, l->worker);
@@ -297,22 +305,24 @@ int jnl_line_send(struct jnl_line *l, const uint8_t *p, size_t n)
         resume(l);
         pthread_mutex_unlock(&lock);
     }
+    return (ssize_t)n;
+}
+
+/* The answers are there once a send has returned. */
+int jnl_line_await(struct jnl_line *l, int events)
+{
+    (void)l, (void)events;
     return 0;
 }
 
-/* The answer is there once a send has returned. */
-int jnl_line_await(struct jnl_line *l)
+ssize_t jnl_line_receive(struct jnl_line *l, uint8_t *p, size_t n)
 {
-    (void)l;
-    return 0;
-}
-
-int jnl_line_receive(struct jnl_line *l, uint8_t *p, size_t n)
-{
-    if (l->out_used - l->out_read < n) return errno = ECONNRESET, -1;
+    size_t has = l->out_used - l->out_read;
+    if (!has) return errno = ECONNRESET, -1;
+    if (n > has) n = has;
     memcpy(p, l->out + l->out_read, n);
     l->out_read += n;
-    return 0;
+    return (ssize_t)n;
 }
 
 /* ---- the program */

@@ -1,15 +1,13 @@
 /* See jnl.h. */
 #define _POSIX_C_SOURCE 200809L
-#include "line.h"
+#include "connection.h"
 #include <errno.h>
 #include <stdlib.h>
 #include <string.h>
 #include <time.h>
 #include <unistd.h>
 
-enum { VERSION = 1, MAX_RECORD = 2097152, MAX_VALUE = 4096, MAX_PARTS = 4096, MAX_READS = 256 };
-enum { MAX_TRIES = 100 };
-enum { HELLO, COMMIT, READ, FLUSH, STAT, STOP };
+enum { MAX_VALUE = 4096, MAX_PARTS = 4096, MAX_READS = 256, MAX_TRIES = 100 };
 enum { COMPARE, WRITE };
 /* A transaction: its length, its operation, whether it waits, how many parts; then the parts. A
  * part: its action and its address, which are its key, its value's length; then the value. */
@@ -22,10 +20,7 @@ enum { FEW_PARTS = 16, HASH_BITS = 13, TABLE = 1 << HASH_BITS };
 enum { READ_HEAD = 12, ADDRESS = 12, VALUE_HEAD = 4 };
 
 struct jnl {
-    struct jnl_port *port;
-    struct jnl_line *line; /* NULL: not connected */
-    uint64_t blocks;
-    unsigned timeout;
+    struct connection connection;
 };
 
 /* The transaction's record, as far as it is spelled. */
@@ -39,40 +34,17 @@ struct jnl_txn {
     int failed;     /* how the port, or the memory, has failed a call last; or JNL_OK */
 };
 
-/* ---- numbers, their highest byte first */
-
-static uint8_t *put32(uint8_t *p, uint32_t x)
-{
-    for (int i = 0; i < 4; i++) p[i] = (uint8_t)(x >> (24 - 8 * i));
-    return p + 4;
-}
-
-static uint8_t *put64(uint8_t *p, uint64_t x)
-{
-    return put32(put32(p, (uint32_t)(x >> 32)), (uint32_t)x);
-}
+/* ---- bytes */
 
 static uint8_t *put_addr(uint8_t *p, jnl_addr a)
 {
     return put32(put64(p, a.block), a.bit);
 }
 
-static uint32_t get32(const uint8_t *p)
-{
-    return (uint32_t)p[0] << 24 | (uint32_t)p[1] << 16 | (uint32_t)p[2] << 8 | p[3];
-}
-
-static uint64_t get64(const uint8_t *p)
-{
-    return (uint64_t)get32(p) << 32 | get32(p + 4);
-}
-
 static size_t padded(size_t size)
 {
     return (size + 3) / 4 * 4;
 }
-
-/* ---- the connection */
 
 /* errno says why a call was lost or found no port, whatever is released after it. */
 static void discard(void *memory)
@@ -82,98 +54,12 @@ static void discard(void *memory)
     errno = why;
 }
 
-static int hang_up(jnl *j, int status)
-{
-    int why = errno;
-    if (j->line) jnl_line_close(j->line);
-    j->line = NULL;
-    errno = why;
-    return status;
-}
+/* ---- the connection */
 
-/* Sends a record of n bytes, its length among them, and receives the answer, of at most `room`
- * bytes. */
-static int exchange(jnl *j, uint8_t *record, size_t n, uint8_t *answer, size_t room, size_t *size)
-{
-    uint8_t length[4];
-    put32(record, (uint32_t)(n - 4));
-    if (jnl_line_send(j->line, record, n) || jnl_line_await(j->line)) return JNL_LOST;
-    if (jnl_line_receive(j->line, length, 4)) return JNL_LOST;
-    *size = get32(length);
-    if (*size < 4 || *size > room) return JNL_PROTOCOL;
-    return jnl_line_receive(j->line, answer, *size) ? JNL_LOST : JNL_OK;
-}
-
-static int is_refusal(uint32_t status)
-{
-    switch (status) {
-    case 1: case 2: case 3: case 4: case 6: case 9: case 10: case 11: case 13: case 14:
-    case 64: case 66: case 67: case 68: case 69: case 70:
-        return 1;
-    default:
-        return 0;
-    }
-}
-
-static int ends_session(uint32_t status)
-{
-    return (status >= JNL_STALE && status <= JNL_WORN) || status == JNL_FENCED;
-}
-
-/* What an answer to an operation says, where it wants so many bytes behind the operation, or any
- * number of them where `wanted` is SIZE_MAX. */
-static int judge(uint32_t operation, const uint8_t *answer, size_t size, size_t wanted)
-{
-    uint32_t status = get32(answer);
-    if (status == JNL_UNSURE && operation == COMMIT && size == 20) return JNL_UNSURE;
-    if (is_refusal(status) && size == 4) return (int)status;
-    if (status || size < 8 || get32(answer + 4) != operation) return JNL_PROTOCOL;
-    return wanted != SIZE_MAX && size != 8 + wanted ? JNL_PROTOCOL : JNL_OK;
-}
-
-static int ask_connected(jnl *j, uint32_t operation, uint8_t *record, size_t n, uint8_t *answer,
-                         size_t room, size_t wanted, size_t *size)
-{
-    put32(record + 4, operation);
-    int s = exchange(j, record, n, answer, room, size);
-    if (!s) s = judge(operation, answer, *size, wanted);
-    return s == JNL_LOST || s == JNL_PROTOCOL || ends_session((uint32_t)s) ? hang_up(j, s) : s;
-}
-
-/* When a call that begins now has waited enough; 0: never. */
-static uint64_t end_of_call(const jnl *j)
-{
-    struct timespec t;
-    if (!j->timeout) return 0;
-    clock_gettime(CLOCK_MONOTONIC, &t);
-    return (uint64_t)t.tv_sec * 1000 + (uint64_t)t.tv_nsec / 1000000 + j->timeout;
-}
-
-/* Makes a connection. One that is lost before its greeting was answered is none. */
-static int dial(jnl *j, uint64_t ends)
-{
-    uint8_t record[12], answer[20];
-    size_t size;
-    int s = jnl_line_open(j->port, ends, &j->line);
-    if (s) return s;
-    put32(record + 8, VERSION);
-    s = ask_connected(j, HELLO, record, sizeof record, answer, sizeof answer, 12, &size);
-    if (s) return hang_up(j, s == JNL_LOST ? JNL_NO_PORT : s);
-    if (get32(answer + 8) != VERSION) return hang_up(j, JNL_OTHER_VERSION);
-    j->blocks = get64(answer + 12);
-    return JNL_OK;
-}
-
-/* Asks the port. A connection that it ended since the last call is made again first: nothing was
- * sent yet, so nothing is sent twice. */
 static int ask(jnl *j, uint32_t operation, uint8_t *record, size_t n, uint8_t *answer,
                size_t room, size_t wanted, size_t *size)
 {
-    uint64_t ends = end_of_call(j);
-    if (j->line && !jnl_line_is_quiet(j->line)) hang_up(j, JNL_LOST);
-    if (j->line) jnl_line_set_end(j->line, ends);
-    int s = j->line ? JNL_OK : dial(j, ends);
-    return s ? s : ask_connected(j, operation, record, n, answer, room, wanted, size);
+    return jnl_ask(&j->connection, operation, record, n, answer, room, wanted, size);
 }
 
 static int open_at(const char *path, uint16_t number, unsigned milliseconds, jnl **out)
@@ -181,9 +67,8 @@ static int open_at(const char *path, uint16_t number, unsigned milliseconds, jnl
     *out = NULL;
     jnl *j = calloc(1, sizeof *j);
     if (!j) return JNL_NO_MEMORY;
-    j->timeout = milliseconds;
-    int s = path ? jnl_port_enter(path, &j->port) : jnl_port_enter_tcp(number, &j->port);
-    if (!s) s = dial(j, end_of_call(j));
+    j->connection.timeout = milliseconds;
+    int s = jnl_connection_open(&j->connection, path, number);
     if (s) {
         jnl_close(j);
         return s;
@@ -214,22 +99,19 @@ int jnl_open_tcp(uint16_t port, jnl **out)
 
 void jnl_close(jnl *j)
 {
-    int why = errno;
     if (!j) return;
-    hang_up(j, JNL_OK);
-    if (j->port) jnl_port_leave(j->port);
-    free(j);
-    errno = why;
+    jnl_connection_close(&j->connection);
+    discard(j);
 }
 
 void jnl_set_timeout(jnl *j, unsigned milliseconds)
 {
-    if (j) j->timeout = milliseconds;
+    if (j) j->connection.timeout = milliseconds;
 }
 
 uint64_t jnl_blocks(const jnl *j)
 {
-    return j ? j->blocks : 0;
+    return j ? j->connection.blocks : 0;
 }
 
 /* ---- transactions */
@@ -424,7 +306,7 @@ static int fetch(jnl_txn *t, const jnl_object *objects, const struct missing *m,
     for (size_t i = 0; i < m->count; i++) p = put_addr(p, objects[m->numbers[i]].addr);
     int s = ask(t->j, READ, record, request, answer, room, SIZE_MAX, &size);
     if (s) return s;
-    if (!has_values(answer, size, m->count)) return hang_up(t->j, JNL_PROTOCOL);
+    if (!has_values(answer, size, m->count)) return jnl_hang_up(&t->j->connection, JNL_PROTOCOL);
     s = keep(t, objects, m, answer + READ_HEAD);
     if (!s) t->reads++;
     return s;
@@ -472,12 +354,20 @@ int jnl_write(jnl_txn *t, jnl_addr a, const void *bytes, size_t size)
     return JNL_OK;
 }
 
+/* The record of a commit, but for its length and its operation. One without parts has no room of
+ * its own yet. */
+static uint8_t *spelled(jnl_txn *t, unsigned flags, uint8_t empty[TRANSACTION_HEAD])
+{
+    uint8_t *record = t->record ? t->record : empty;
+    put32(put32(record + 8, flags & JNL_WAIT), t->parts);
+    return record;
+}
+
 static int commit(jnl_txn *t, unsigned flags, jnl_receipt *receipt)
 {
-    uint8_t empty[TRANSACTION_HEAD], *record = t->record ? t->record : empty;
-    uint8_t answer[24];
+    uint8_t empty[TRANSACTION_HEAD], *record = spelled(t, flags, empty);
+    uint8_t answer[COMMIT_ANSWER];
     size_t size;
-    put32(put32(record + 8, flags & JNL_WAIT), t->parts);
     int s = ask(t->j, COMMIT, record, t->used, answer, sizeof answer, 16, &size);
     const uint8_t *told = s == JNL_UNSURE ? answer + 4 : answer + 8;
     if (receipt && (s == JNL_OK || s == JNL_UNSURE)) {
@@ -493,6 +383,43 @@ int jnl_commit(jnl_txn *t, unsigned flags, jnl_receipt *receipt)
     jnl_abort(t);
     return s;
 }
+
+/* ---- many in flight */
+
+int jnl_submit(jnl_txn *t, unsigned flags, uint64_t tag)
+{
+    uint8_t empty[TRANSACTION_HEAD];
+    if (!t) return JNL_MISUSE;
+    int s = jnl_put_in_flight(&t->j->connection, spelled(t, flags, empty), t->used, tag);
+    if (s != JNL_FULL) jnl_abort(t);
+    return s;
+}
+
+int jnl_push(jnl *j)
+{
+    if (!j) return JNL_MISUSE;
+    jnl_send_held(&j->connection);
+    return JNL_OK;
+}
+
+int jnl_next(jnl *j, uint64_t *tag, int *status, jnl_receipt *receipt)
+{
+    struct flight f;
+    if (!j || !tag || !status) return JNL_MISUSE;
+    int s = jnl_take_answer(&j->connection, &f);
+    if (s) return s;
+    *tag = f.tag;
+    *status = f.status;
+    if (receipt) *receipt = f.receipt;
+    return JNL_OK;
+}
+
+size_t jnl_in_flight(const jnl *j)
+{
+    return j ? j->connection.flights.count : 0;
+}
+
+/* ---- run */
 
 /* Sleeps for a random time. Its most doubles with each attempt, up to 100 milliseconds. */
 static void pause_before(unsigned attempt, unsigned *seed)
@@ -617,6 +544,8 @@ const char *jnl_strerror(int status)
     case JNL_PROTOCOL: return "the port answers what the protocol does not have";
     case JNL_MISUSE: return "a null pointer";
     case JNL_SECOND_DISK: return "another disk is open in this process";
+    case JNL_FULL: return "as many commits are in flight as may be";
+    case JNL_NONE: return "no commit is in flight";
     case JNL_FORKED: return "a fork of the process that opened the disk";
     default: return "a status that is not known";
     }

@@ -68,7 +68,10 @@ typedef enum {
     JNL_MISUSE = 99,        /* a null pointer */
     /* Of the carrier in the process alone; nothing was done. */
     JNL_SECOND_DISK = 100,  /* another disk is open in this process */
-    JNL_FORKED = 101        /* this process is a copy that fork made of the one that opened */
+    JNL_FORKED = 101,       /* this process is a copy that fork made of the one that opened */
+    /* Of jnl_submit and jnl_next. */
+    JNL_FULL = 103,         /* 16384 commits are in flight; nothing was done */
+    JNL_NONE = 104          /* no commit is in flight */
 } jnl_status;
 
 /* An object that is read: where it is, and where its value goes. */
@@ -105,7 +108,8 @@ int jnl_open_within(const char *path, unsigned milliseconds, jnl **out);
 int jnl_open_tcp(uint16_t port, jnl **out);
 int jnl_open_tcp_within(uint16_t port, unsigned milliseconds, jnl **out);
 
-/* Closes the connection. NULL is fine. Its transactions must have ended. errno stays as it is. */
+/* Closes the connection. NULL is fine. Its transactions must have ended. Commits in flight are as
+ * at JNL_LOST, but those that were held back are not done. errno stays as it is. */
 void jnl_close(jnl *);
 
 /* The most that a call waits for the port in all, in milliseconds; 0, as after jnl_open, is for
@@ -140,6 +144,45 @@ int jnl_write(jnl_txn *, jnl_addr, const void *bytes, size_t size);
  * of the history, else nothing. It ends the transaction whatever it answers. `receipt` may be
  * NULL, and is set at JNL_OK and JNL_UNSURE. */
 int jnl_commit(jnl_txn *, unsigned flags, jnl_receipt *receipt);
+
+/* Puts a commit in flight, and does not wait for its answer, which jnl_next gives. So one
+ * connection has many commits under way at once. They are done in the order in which they were
+ * submitted, and `tag` is the caller's name of this one. `flags` are as of jnl_commit.
+ *
+ * A commit may be held back, so that many are sent by one call of the system: until jnl_next has to
+ * wait, 32 KiB are held back, jnl_push, or any other call over this connection that sends.
+ *
+ * It ends the transaction whatever it answers, but at JNL_FULL, where the transaction is as it was.
+ * JNL_OK: jnl_next will give its answer. All else: nothing was sent, and nothing is in flight for
+ * it. JNL_FULL is answered where 16384 commits are in flight, those among them whose answers are
+ * there and were not taken.
+ *
+ * A caller may submit as many as that before it takes the first answer. While the socket takes no
+ * more, this call receives the answers that have come, and keeps them for jnl_next. So port and
+ * caller never wait for each other.
+ *
+ * All other calls work while commits are in flight. They are answered after those.
+ *
+ * Where the connection is lost, jnl_next gives JNL_LOST for each commit in flight that had no
+ * answer, in their order. Those that were done, if any, are the first ones of these. Until all
+ * answers are taken, each call that would send something sends nothing and answers JNL_LOST. So
+ * nothing is done after a commit that may be missing, unless the caller has seen that. An answer
+ * that the protocol does not have gives JNL_PROTOCOL for its commit, and JNL_LOST for the later
+ * ones. */
+int jnl_submit(jnl_txn *, unsigned flags, uint64_t tag);
+
+/* Sends what jnl_submit holds back. */
+int jnl_push(jnl *);
+
+/* Gives the answer of the commit that was submitted first, of those in flight: waits for it, sets
+ * its tag, its status as jnl_commit answers it, and at JNL_OK and JNL_UNSURE its receipt, which may
+ * be NULL. It is then no more in flight. Answers JNL_OK; or JNL_NONE, and sets nothing, where none
+ * is in flight. errno is set where the status is JNL_LOST. A limit of time is for one answer: where
+ * it is over, the connection is lost. */
+int jnl_next(jnl *, uint64_t *tag, int *status, jnl_receipt *receipt);
+
+/* How many commits are in flight: submitted, and their answers not taken. */
+size_t jnl_in_flight(const jnl *);
 
 /* Ends a transaction with nothing done. NULL is fine. errno stays as it is. */
 void jnl_abort(jnl_txn *);

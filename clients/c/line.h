@@ -3,6 +3,7 @@
 #ifndef JNL_LINE_H
 #define JNL_LINE_H
 #include "jnl.h"
+#include <sys/types.h>
 
 /* What stands at a path or a TCP port, and one connection to it. */
 struct jnl_port;
@@ -22,11 +23,15 @@ void jnl_line_set_end(struct jnl_line *, uint64_t ends);
 /* Whether the port has neither ended the line nor sent what nobody asked for. */
 int jnl_line_is_quiet(struct jnl_line *);
 
-/* Waits until an answer begins to come: 0; or -1, and the line is of no more use. This call and the
- * next two then set errno, as those above do at JNL_NO_PORT. */
-int jnl_line_await(struct jnl_line *);
+/* What a line is waited for: that it has bytes to give, or takes some. */
+enum { JNL_GIVES = 1, JNL_TAKES = 2 };
 
-/* All n bytes: 0; or -1, and the line is of no more use. */
-int jnl_line_send(struct jnl_line *, const uint8_t *, size_t n);
-int jnl_line_receive(struct jnl_line *, uint8_t *, size_t n);
+/* Waits until one of these is so: 0; or -1, and the line is of no more use. This call and the next
+ * two then set errno, as those above do at JNL_NO_PORT. */
+int jnl_line_await(struct jnl_line *, int events);
+
+/* How many of n bytes the line takes, or gives, without a wait, where n is not 0; or -1, and the
+ * line is of no more use. */
+ssize_t jnl_line_send(struct jnl_line *, const uint8_t *, size_t n);
+ssize_t jnl_line_receive(struct jnl_line *, uint8_t *, size_t n);
 #endif

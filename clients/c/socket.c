@@ -147,58 +147,37 @@ int jnl_line_is_quiet(struct jnl_line *l)
         && (errno == EAGAIN || errno == EWOULDBLOCK || errno == EINTR);
 }
 
-/* Waits until the socket takes bytes or has some. */
-static int wait_for(struct jnl_line *l, short event)
+/* A thread that sleeps in recv is also woken where the port takes its request, since the socket
+ * then has room again. One that sleeps in poll for input is not. */
+int jnl_line_await(struct jnl_line *l, int events)
 {
-    struct pollfd wanted = {l->fd, event, 0};
+    int wanted = (events & JNL_GIVES ? POLLIN : 0) | (events & JNL_TAKES ? POLLOUT : 0);
+    struct pollfd at = {l->fd, (short)wanted, 0};
     int s;
     do {
-        s = poll(&wanted, 1, left_until(l->ends));
+        s = poll(&at, 1, left_until(l->ends));
     } while (s < 0 && errno == EINTR);
     if (!s) errno = ETIMEDOUT;
     return s > 0 ? 0 : -1;
 }
 
-/* Whether a send or a receive that moved n bytes is to be made again: after a signal, or where it
- * would wait, which poll does, since it knows when to end. */
-static int is_to_be_made_again(struct jnl_line *l, ssize_t n, short event)
+/* What a call that moved n bytes says: none after a signal, or where it would wait. */
+static ssize_t moved(ssize_t n)
 {
-    if (n >= 0) return 0;
-    if (errno == EAGAIN || errno == EWOULDBLOCK) return !wait_for(l, event);
-    return errno == EINTR;
+    return n < 0 && (errno == EAGAIN || errno == EWOULDBLOCK || errno == EINTR) ? 0 : n;
 }
 
-int jnl_line_send(struct jnl_line *l, const uint8_t *p, size_t n)
+/* A port that is gone is told by the answer, and by no signal. */
+ssize_t jnl_line_send(struct jnl_line *l, const uint8_t *p, size_t n)
 {
-    while (n) {
-        /* A port that is gone is told by the answer, and by no signal. */
-        ssize_t k = send(l->fd, p, n, MSG_NOSIGNAL | (l->ends ? MSG_DONTWAIT : 0));
-        if (is_to_be_made_again(l, k, POLLOUT)) continue;
-        if (k <= 0) return -1;
-        p += k;
-        n -= (size_t)k;
-    }
-    return 0;
+    return moved(send(l->fd, p, n, MSG_NOSIGNAL | MSG_DONTWAIT));
 }
 
-/* A thread that sleeps in recv is also woken where the port takes its request, since the socket
- * then has room again. One that sleeps in poll for input is not. */
-int jnl_line_await(struct jnl_line *l)
+ssize_t jnl_line_receive(struct jnl_line *l, uint8_t *p, size_t n)
 {
-    return wait_for(l, POLLIN);
-}
-
-int jnl_line_receive(struct jnl_line *l, uint8_t *p, size_t n)
-{
-    while (n) {
-        ssize_t k = recv(l->fd, p, n, l->ends ? MSG_DONTWAIT : 0);
-        if (is_to_be_made_again(l, k, POLLIN)) continue;
-        if (!k) errno = ECONNRESET;
-        if (k <= 0) return -1;
-        p += k;
-        n -= (size_t)k;
-    }
-    return 0;
+    ssize_t k = recv(l->fd, p, n, MSG_DONTWAIT);
+    if (!k) errno = ECONNRESET;
+    return k ? moved(k) : -1;
 }
 
 const char *jnl_reason(void)

@@ -54,15 +54,45 @@ static void journal_open(const char *folder, int durable)
     if (!durable) journal = journal_session();
 }
 
-static void journal_commit(void *session, const uint32_t keys[2], const char *value)
+static jnl_txn *journal_transaction(jnl *j, const uint32_t keys[2], const char *value)
 {
     jnl_txn *t;
-    journal_want(jnl_begin(session, &t));
+    journal_want(jnl_begin(j, &t));
     for (int i = 0; i < 2; i++) {
         jnl_addr a = {515 + keys[i] / 32, keys[i] % 32 * 1024};
         journal_want(jnl_write(t, a, value, OBJECT_BYTES));
     }
-    journal_want(jnl_commit(t, is_durable ? JNL_WAIT : 0, NULL));
+    return t;
+}
+
+static unsigned flags(void)
+{
+    return is_durable ? JNL_WAIT : 0;
+}
+
+static void journal_commit(void *session, const uint32_t keys[2], const char *value)
+{
+    journal_want(jnl_commit(journal_transaction(session, keys, value), flags(), NULL));
+}
+
+static void take_one(jnl *j)
+{
+    uint64_t tag;
+    int status;
+    journal_want(jnl_next(j, &tag, &status, NULL));
+    journal_want(status);
+}
+
+/* The same with DEPTH commits in flight. */
+static void flights_commit(void *session, const uint32_t keys[2], const char *value)
+{
+    if (jnl_in_flight(session) == DEPTH) take_one(session);
+    journal_want(jnl_submit(journal_transaction(session, keys, value), flags(), 0));
+}
+
+static void flights_finish(void *session)
+{
+    while (jnl_in_flight(session)) take_one(session);
 }
 
 static void journal_flush(void)
@@ -325,6 +355,7 @@ static void bdb_flush(void)
 const struct engine engines[] = {
     {"journal", journal_open, journal_session, journal_commit, journal_flush, NULL},
     {"stat", journal_open, journal_session, journal_stat, journal_flush, NULL},
+    {"flights", journal_open, journal_session, flights_commit, journal_flush, flights_finish},
     {"deep", deep_open, deep_session, deep_commit, deep_flush, deep_finish},
 #ifdef HAVE_LMDB
     {"lmdb", lmdb_open, NULL, lmdb_commit, lmdb_flush, NULL},
