@@ -1,38 +1,106 @@
 package jnl
 
 import (
-	"encoding/binary"
 	"errors"
 	"fmt"
-	"io"
 	"net"
 	"os"
 	"syscall"
 	"time"
 )
 
-// dial makes a connection and greets. Nothing was asked over it yet.
-func (j *Journal) dial(deadline time.Time) error {
-	conn, err := connect(j.network, j.address, deadline)
-	if err != nil {
-		return &failure{ErrNoPort, err}
+var errTimedOut = os.ErrDeadlineExceeded
+
+// dialing is a connection that is being made, for all calls that wait for it.
+type dialing struct {
+	done chan struct{}
+	err  error
+}
+
+// connected returns the connection, which is made first where there is none.
+func (j *Journal) connected(deadline time.Time) (*connection, error) {
+	j.mu.Lock()
+	for j.connection == nil {
+		attempt, isMine := j.dialing, j.dialing == nil
+		if isMine {
+			attempt = &dialing{done: make(chan struct{})}
+			j.dialing = attempt
+		}
+		j.mu.Unlock()
+		if err := j.await(attempt, isMine, deadline); err != nil {
+			return nil, err
+		}
+		j.mu.Lock()
 	}
-	j.conn = conn
+	defer j.mu.Unlock()
+	return j.connection, nil
+}
+
+// await waits for a connection to be made, or makes it.
+func (j *Journal) await(attempt *dialing, isMine bool, deadline time.Time) error {
+	if isMine {
+		made, blocks, err := j.dial(deadline)
+		j.mu.Lock()
+		if err == nil {
+			j.connection, j.blocks = made, blocks
+		}
+		j.dialing, attempt.err = nil, err
+		j.mu.Unlock()
+		close(attempt.done)
+		return err
+	}
+	var late <-chan time.Time
+	if !deadline.IsZero() {
+		timer := time.NewTimer(time.Until(deadline))
+		defer timer.Stop()
+		late = timer.C
+	}
+	select {
+	case <-attempt.done:
+		return attempt.err
+	case <-late:
+		return &failure{ErrNoPort, errTimedOut}
+	}
+}
+
+// dial makes a connection and greets. Nothing was asked over it yet.
+func (j *Journal) dial(deadline time.Time) (*connection, uint64, error) {
+	socket, err := connect(j.network, j.address, deadline)
+	if err != nil {
+		return nil, 0, &failure{ErrNoPort, err}
+	}
+	made := newConnection(socket, &j.untold)
 	var spoken uint32
-	err = j.askConnected(newRequest(opHello).word(version), deadline, func(a *answer) {
-		spoken, j.blocks = a.word(), a.hyper()
-	})
+	var blocks uint64
+	hello := newRequest(opHello, wordBytes).word(version)
+	greeting := newCall(opHello, func(a *answer) { spoken, blocks = a.word(), a.hyper() })
+	if made.ask(hello, greeting, left(deadline)) {
+		err = greeting.err
+	} else {
+		err = &failure{ErrNoPort, net.ErrClosed}
+	}
 	if err == nil && spoken != version {
 		err = fmt.Errorf("%w: the port speaks another version", ErrProtocol)
 	}
 	if err != nil {
-		j.Close()
+		made.end(&failure{ErrLost, net.ErrClosed})
 	}
 	var lost *failure
 	if errors.As(err, &lost) {
-		return &failure{ErrNoPort, lost.cause}
+		err = &failure{ErrNoPort, lost.cause}
 	}
-	return err
+	return made, blocks, err
+}
+
+// left returns how long a call may still wait; 0 is for ever.
+func left(deadline time.Time) time.Duration {
+	if deadline.IsZero() {
+		return 0
+	}
+	if left := time.Until(deadline); left > 0 {
+		return left
+	}
+	return 1
 }
 
 // connect makes a connection. A socket has no room where many connect, but others are taken from
@@ -65,75 +133,40 @@ func isOver(deadline time.Time) bool {
 	return !deadline.IsZero() && time.Now().After(deadline)
 }
 
-// ask asks the port, and reads what stands behind the operation of its answer by decode. A
-// connection that the port ended since the last call is made again first: nothing was sent yet, so
-// nothing is sent twice.
-func (j *Journal) ask(r request, decode func(*answer)) error {
-	if len(r) > maxRecord+4 {
-		return TooLarge
+// forget drops a connection that is of no more use.
+func (j *Journal) forget(over *connection) {
+	over.end(&failure{ErrLost, net.ErrClosed})
+	j.mu.Lock()
+	defer j.mu.Unlock()
+	if j.connection == over {
+		j.connection = nil
 	}
-	deadline := j.deadline()
-	if j.conn != nil && !isQuiet(j.conn) {
-		j.Close()
-	}
-	if j.conn == nil {
-		if err := j.dial(deadline); err != nil {
-			return err
-		}
-	}
-	return j.askConnected(r, deadline, decode)
 }
 
-func (j *Journal) askConnected(r request, deadline time.Time, decode func(*answer)) error {
-	record, err := j.exchange(r, deadline)
-	if err == nil {
-		err = (&answer{rest: record}).judge(r.operation(), decode)
-	}
-	var refusal Refusal
-	if errors.Is(err, ErrLost) || errors.As(err, &refusal) && refusal.endsSession() {
-		j.Close()
-	}
+// ask asks the port, and reads what stands behind the operation of its answer by decode.
+func (j *Journal) ask(r request, decode func(*answer)) error {
+	mine := newCall(r.operation(), decode)
+	err := j.askFor(r, mine)
+	mine.decode = nil
+	calls.Put(mine)
 	return err
 }
 
-// exchange sends a record and returns its answer.
-func (j *Journal) exchange(r request, deadline time.Time) ([]byte, error) {
-	binary.BigEndian.PutUint32(r, uint32(len(r)-4))
-	j.conn.SetDeadline(deadline)
-	if _, err := j.conn.Write(r); err != nil {
-		return nil, &failure{ErrLost, err}
+// askFor asks the port for a call. A connection that the port ended since the last call is made
+// again first: nothing was sent yet, so nothing is sent twice.
+func (j *Journal) askFor(r request, mine *call) error {
+	if len(r) > maxRecord+lengthBytes {
+		return TooLarge
 	}
-	var length [4]byte
-	if _, err := io.ReadFull(j.conn, length[:]); err != nil {
-		return nil, &failure{ErrLost, err}
+	deadline := j.deadline()
+	for {
+		over, err := j.connected(deadline)
+		if err != nil {
+			return err
+		}
+		if over.ask(r, mine, left(deadline)) {
+			return mine.err
+		}
+		j.forget(over)
 	}
-	size := binary.BigEndian.Uint32(length[:])
-	if size > maxRecord {
-		return nil, fmt.Errorf("%w: an answer is too long", ErrProtocol)
-	}
-	record := make([]byte, size)
-	if _, err := io.ReadFull(j.conn, record); err != nil {
-		return nil, &failure{ErrLost, err}
-	}
-	return record, nil
-}
-
-// isQuiet says whether the port has neither ended the connection nor sent what nobody asked for.
-func isQuiet(conn net.Conn) bool {
-	of, ok := conn.(syscall.Conn)
-	if !ok {
-		return true
-	}
-	raw, err := of.SyscallConn()
-	if err != nil {
-		return false
-	}
-	// The deadline of the last call is none of this look's.
-	conn.SetDeadline(time.Time{})
-	var found error
-	err = raw.Read(func(fd uintptr) bool {
-		_, _, found = syscall.Recvfrom(int(fd), make([]byte, 1), syscall.MSG_PEEK|syscall.MSG_DONTWAIT)
-		return true
-	})
-	return err == nil && errors.Is(found, syscall.EAGAIN)
 }

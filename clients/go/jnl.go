@@ -12,8 +12,12 @@
 //		return nil
 //	})
 //
-// A Journal is one connection, for one goroutine at a time. One that the port has ended, for its
-// silence or with the service, is made again by the next call.
+// A Journal is one connection, for any number of goroutines at once. A call does not wait for the
+// answers of others, so as many requests are in flight as there are calls. One that the port has
+// ended, for its silence or with the service, is made again by the next call. Where the connection
+// is lost, each call without an answer returns ErrLost, in the order in which they were sent. Those
+// commits that were done, if any, are the first ones of these. A Tx is for one goroutine at a time,
+// which has many commits in flight by Tx.Submit.
 //
 // No host serves this module: its go.mod says how a program uses it.
 package jnl
@@ -21,6 +25,7 @@ package jnl
 import (
 	"math/rand"
 	"net"
+	"sync"
 	"time"
 )
 
@@ -67,12 +72,19 @@ type Stat struct {
 // Journal is a connection to the port.
 type Journal struct {
 	// Timeout is the most that a call waits for the port in all; 0 is for ever. A call that waited
-	// in vain returns ErrLost, or ErrNoPort where it had to connect again.
+	// in vain returns ErrLost, as do all others that are in flight then, or ErrNoPort where it had
+	// to connect again. It is not to be changed while there are calls.
 	Timeout time.Duration
 
+	// So many flights were lost, and nobody has waited for them. By atomic calls.
+	untold int64
+
 	network, address string
-	conn             net.Conn // nil: not connected
-	blocks           uint64
+
+	mu         sync.Mutex  // of what follows
+	connection *connection // nil: not connected
+	dialing    *dialing    // nil: no connection is being made
+	blocks     uint64
 }
 
 // Dial connects to a port: the network is "unix" or "tcp", and the address as net.Dial has it.
@@ -85,30 +97,34 @@ func Dial(network, address string) (*Journal, error) {
 // the port does not answer in time.
 func DialTimeout(network, address string, timeout time.Duration) (*Journal, error) {
 	j := &Journal{Timeout: timeout, network: network, address: address}
-	if err := j.dial(j.deadline()); err != nil {
+	if _, err := j.connected(j.deadline()); err != nil {
 		return nil, err
 	}
 	return j, nil
 }
 
-// Close closes the connection. A later call makes another.
+// Close closes the connection. Calls without an answer return ErrLost. A later call makes another
+// connection.
 func (j *Journal) Close() error {
-	if j.conn == nil {
-		return nil
+	j.mu.Lock()
+	defer j.mu.Unlock()
+	if j.connection != nil {
+		j.connection.end(&failure{ErrLost, net.ErrClosed})
+		j.connection = nil
 	}
-	conn := j.conn
-	j.conn = nil
-	return conn.Close()
+	return nil
 }
 
 // Blocks returns how many blocks the disk has.
 func (j *Journal) Blocks() uint64 {
+	j.mu.Lock()
+	defer j.mu.Unlock()
 	return j.blocks
 }
 
 // Begin returns a transaction that has done nothing.
 func (j *Journal) Begin() *Tx {
-	return &Tx{journal: j, reads: objects{}, writes: objects{}}
+	return &Tx{journal: j}
 }
 
 // Run runs the work in a transaction and commits it, again after a pause where it meets a conflict,
@@ -150,7 +166,7 @@ func (j *Journal) Read(addresses ...Address) ([][]byte, error) {
 	if len(addresses) > maxAddresses {
 		return nil, TooLarge
 	}
-	r := newRequest(opRead).word(uint32(len(addresses)))
+	r := newRequest(opRead, wordBytes+len(addresses)*addressBytes).word(uint32(len(addresses)))
 	for _, a := range addresses {
 		r = r.address(a)
 	}
@@ -173,36 +189,33 @@ func (j *Journal) Read(addresses ...Address) ([][]byte, error) {
 // returns how many are stable. It does not tell that the service was killed and started again,
 // which has lost commits that did not wait.
 func (j *Journal) Flush() (stable uint64, err error) {
-	err = j.ask(newRequest(opFlush), func(a *answer) { stable = a.hyper() })
+	err = j.ask(newRequest(opFlush, 0), func(a *answer) { stable = a.hyper() })
 	return stable, err
 }
 
 // Stat returns how many commits there are, and how many of them are stable at least.
 func (j *Journal) Stat() (stat Stat, err error) {
-	err = j.ask(newRequest(opStat), func(a *answer) { stat = Stat{a.hyper(), a.hyper()} })
+	err = j.ask(newRequest(opStat, 0), func(a *answer) { stat = Stat{a.hyper(), a.hyper()} })
 	return stat, err
 }
 
 // Stop ends the service, after a flush. It returns Forbidden where this connection may not.
 func (j *Journal) Stop() error {
-	return j.ask(newRequest(opStop), func(*answer) {})
+	return j.ask(newRequest(opStop, 0), func(*answer) {})
 }
 
-func (j *Journal) commit(durability Durability, compared, written objects) (Receipt, error) {
-	if len(compared)+len(written) > maxParts {
-		return Receipt{}, TooLarge
+func (j *Journal) commit(durability Durability, compared, written *objects) (Receipt, error) {
+	r, err := spellCommit(durability, compared, written)
+	if err != nil {
+		return Receipt{}, err
 	}
-	r := newRequest(opCommit).boolean(bool(durability)).word(uint32(len(compared) + len(written)))
-	for a, value := range compared {
-		r = r.part(compare, a, value)
+	mine := newCall(opCommit, nil)
+	err = j.askFor(r.request, mine)
+	receipt := mine.receipt
+	calls.Put(mine)
+	r.drop()
+	if err != nil {
+		return Receipt{}, err
 	}
-	for a, value := range written {
-		if len(value) > maxValue {
-			return Receipt{}, BadSize
-		}
-		r = r.part(write, a, value)
-	}
-	var receipt Receipt
-	err := j.ask(r, func(a *answer) { receipt = a.receipt() })
-	return receipt, err
+	return receipt, nil
 }

@@ -3,6 +3,7 @@ package jnl
 import (
 	"encoding/binary"
 	"fmt"
+	"sync"
 )
 
 // Records as they are spelled. All numbers have their highest byte first.
@@ -12,6 +13,11 @@ const (
 	maxValue     = 4096
 	maxParts     = 4096
 	maxAddresses = 256
+
+	wordBytes    = 4
+	addressBytes = 12
+	// A part without its value: its action, its address and the length.
+	partBytes = 2*wordBytes + addressBytes
 )
 
 const (
@@ -28,11 +34,14 @@ const (
 	write
 )
 
+var zeros [wordBytes]byte
+
 // request is a record, with room for its length in front.
 type request []byte
 
-func newRequest(operation uint32) request {
-	return request(make([]byte, 4, 64)).word(operation)
+// newRequest returns a record with room for so many bytes behind its operation.
+func newRequest(operation uint32, bytes int) request {
+	return request(make([]byte, lengthBytes, lengthBytes+wordBytes+bytes)).word(operation)
 }
 
 func (r request) word(n uint32) request {
@@ -50,13 +59,51 @@ func (r request) address(a Address) request {
 	return request(binary.BigEndian.AppendUint64(r, a.Block)).word(a.Bit)
 }
 
-func (r request) part(action uint32, a Address, value []byte) request {
-	r = append(r.word(action).address(a).word(uint32(len(value))), value...)
-	return append(r, make([]byte, padding(len(value)))...)
+func (r request) part(action uint32, o object) request {
+	r = append(r.word(action).address(o.address).word(uint32(len(o.value))), o.value...)
+	return append(r, zeros[:padding(len(o.value))]...)
 }
 
 func (r request) operation() uint32 {
 	return binary.BigEndian.Uint32(r[4:])
+}
+
+// rooms are those of records of commits, which are copied before they are sent.
+var rooms = sync.Pool{New: func() any { return new(spelled) }}
+
+// spelled is a record of a commit in a room that is to be dropped.
+type spelled struct {
+	request request
+}
+
+func (s *spelled) drop() {
+	if cap(s.request) <= mostHeld {
+		rooms.Put(s)
+	}
+}
+
+// spellCommit spells a commit. It returns TooLarge or BadSize for what no record can hold.
+func spellCommit(durability Durability, compared, written *objects) (*spelled, error) {
+	parts := len(compared.list) + len(written.list)
+	if parts > maxParts {
+		return nil, TooLarge
+	}
+	for _, o := range written.list {
+		if len(o.value) > maxValue {
+			return nil, BadSize
+		}
+	}
+	made := rooms.Get().(*spelled)
+	r := append(made.request[:0], zeros[:lengthBytes]...)
+	r = r.word(opCommit).boolean(bool(durability)).word(uint32(parts))
+	for _, o := range compared.list {
+		r = r.part(compare, o)
+	}
+	for _, o := range written.list {
+		r = r.part(write, o)
+	}
+	made.request = r
+	return made, nil
 }
 
 // answer is what was not read yet of a record, and what was found wrong in it.
@@ -110,16 +157,21 @@ func (a *answer) value() []byte {
 	return found
 }
 
-// judge returns what the answer says to an operation, where that is done, by decode.
-func (a *answer) judge(operation uint32, decode func(*answer)) error {
+// judge returns what the answer says to a call. Where that is done, the call's decode reads it, or
+// the call gets the receipt.
+func (a *answer) judge(of *call) error {
 	var refused error
 	switch status := Refusal(a.word()); {
 	case status == 0:
-		if a.word() != operation {
+		if a.word() != of.operation {
 			a.fail("an answer to another request")
 		}
-		decode(a)
-	case status == statusUnsure && operation == opCommit:
+		if of.decode != nil {
+			of.decode(a)
+		} else {
+			of.receipt = a.receipt()
+		}
+	case status == statusUnsure && of.operation == opCommit:
 		refused = &Unsure{a.receipt()}
 	case reasons[status] != "":
 		refused = status

@@ -2,9 +2,6 @@ package jnl
 
 import "errors"
 
-// objects are values by their addresses.
-type objects map[Address][]byte
-
 // Tx has reads and writes that are committed as one.
 //
 // It holds no lock. A commit compares what was read, and returns Conflict where any of it is
@@ -44,11 +41,10 @@ func (t *Tx) ReadMany(addresses ...Address) ([][]byte, error) {
 
 // own returns what the transaction has of an object, if it has it.
 func (t *Tx) own(a Address) ([]byte, bool) {
-	if value, ok := t.writes[a]; ok {
+	if value, ok := t.writes.get(a); ok {
 		return value, true
 	}
-	value, ok := t.reads[a]
-	return value, ok
+	return t.reads.get(a)
 }
 
 // missing returns the addresses of which the transaction has nothing, each once.
@@ -74,7 +70,7 @@ func (t *Tx) fetch(missing []Address) error {
 		return err
 	}
 	for i, a := range missing {
-		t.reads[a] = values[i]
+		t.reads.set(a, values[i])
 	}
 	t.requests++
 	return nil
@@ -82,13 +78,13 @@ func (t *Tx) fetch(missing []Address) error {
 
 // Write has the object overwritten by the commit, which finds a wrong address or size.
 func (t *Tx) Write(a Address, value []byte) {
-	t.writes[a] = clone(value)
+	t.writes.set(a, clone(value))
 }
 
 // Commit commits: where each object that was read still has its value, all writes are done at one
 // place of the history, else nothing. ErrLost leaves open whether it was done.
 func (t *Tx) Commit(durability Durability) (Receipt, error) {
-	return t.journal.commit(durability, t.reads, t.writes)
+	return t.journal.commit(durability, &t.reads, &t.writes)
 }
 
 // run runs the work and commits it. The boolean says that the work is to be run again, because what
@@ -116,7 +112,7 @@ func (t *Tx) compareAlone() error {
 	if t.requests < 2 {
 		return nil
 	}
-	_, err := t.journal.commit(Lazy, t.reads, nil)
+	_, err := t.journal.commit(Lazy, &t.reads, &objects{})
 	return err
 }
 

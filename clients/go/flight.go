@@ -1,0 +1,94 @@
+package jnl
+
+import (
+	"errors"
+	"sync/atomic"
+	"time"
+)
+
+// Flight is a commit that was submitted. It is for one goroutine at a time.
+type Flight struct {
+	call  *call // nil: its end is known
+	over  *connection
+	limit time.Duration
+
+	receipt Receipt
+	err     error
+}
+
+var errUntold = errors.New("a flight was lost before: wait for it first")
+
+// Submit commits as Commit does, and does not wait for the answer, which Wait of the Flight
+// returns. So one goroutine has many commits in flight at once. Those that one goroutine submits
+// are done in their order.
+//
+// A commit may be held back, so that many are written at once: until Wait has to wait, 32 KiB are
+// held back, or any other call of the Journal. While the socket takes no more, Submit waits, but
+// the answers that come are read, so port and caller never wait for each other.
+//
+// Where the connection is lost, each Flight without an answer returns ErrLost. Those that were
+// done, if any, are the first ones of these. Until Wait has returned for each of them, Submit sends
+// nothing, and its Flight returns ErrLost too. So no commit is done after one that may be missing,
+// unless the caller has seen that. Other calls go on over a new connection.
+func (t *Tx) Submit(durability Durability) *Flight {
+	r, err := spellCommit(durability, &t.reads, &t.writes)
+	if err != nil {
+		return &Flight{err: err}
+	}
+	defer r.drop()
+	return t.journal.submit(r.request)
+}
+
+func (j *Journal) submit(r request) *Flight {
+	if len(r) > maxRecord+lengthBytes {
+		return &Flight{err: TooLarge}
+	}
+	mine := newCall(opCommit, nil)
+	mine.isFlight = true
+	deadline := j.deadline()
+	for {
+		over, err := j.connected(deadline)
+		if err == nil && atomic.LoadInt64(&j.untold) > 0 {
+			err = &failure{ErrLost, errUntold}
+		}
+		if err != nil {
+			return &Flight{err: err}
+		}
+		if over.hold(r, mine) {
+			if over.holdsMuch() {
+				over.push()
+			}
+			return &Flight{call: mine, over: over, limit: j.Timeout}
+		}
+		j.forget(over)
+	}
+}
+
+// Wait returns the receipt of the commit once it is answered, or its error, as Commit does. A
+// Timeout of the Journal is for one Wait: after it the connection ends.
+func (f *Flight) Wait() (Receipt, error) {
+	if f.call == nil {
+		return f.receipt, f.err
+	}
+	select {
+	case <-f.call.done:
+	default:
+		f.await()
+	}
+	f.receipt, f.err = f.call.receipt, f.call.err
+	if errors.Is(f.err, ErrLost) {
+		atomic.AddInt64(f.over.untold, -1)
+	}
+	calls.Put(f.call)
+	f.call = nil
+	return f.receipt, f.err
+}
+
+// await waits for the answer, once all that is held was sent.
+func (f *Flight) await() {
+	if f.limit > 0 {
+		defer f.over.endAfter(f.limit).Stop()
+	}
+	f.over.push()
+	<-f.call.done
+}
