@@ -28,6 +28,8 @@ type call struct {
 	err       error
 	done      chan struct{} // has room for one, so that who answers never waits
 	isFlight  bool          // a lost one keeps others from being submitted
+	isStable  bool          // a commit that waits
+	note      func()        // called once the answer was read; may be nil
 }
 
 var calls = sync.Pool{New: func() any { return &call{done: make(chan struct{}, 1)} }}
@@ -35,7 +37,7 @@ var calls = sync.Pool{New: func() any { return &call{done: make(chan struct{}, 1
 func newCall(operation uint32, decode func(*answer)) *call {
 	made := calls.Get().(*call)
 	made.operation, made.decode = operation, decode
-	made.receipt, made.err, made.isFlight = Receipt{}, nil, false
+	made.receipt, made.err, made.isFlight, made.isStable, made.note = Receipt{}, nil, false, false, nil
 	return made
 }
 
@@ -57,12 +59,14 @@ type connection struct {
 	err    error // why the connection has ended
 	// So many flights of the Journal were lost, and nobody has waited for them.
 	untold *int64
+	// What the Journal was told of commits.
+	promises *promises
 
 	answered []*call // of the goroutine that reads
 }
 
-func newConnection(socket net.Conn, untold *int64) *connection {
-	c := &connection{socket: socket, untold: untold}
+func newConnection(socket net.Conn, untold *int64, told *promises) *connection {
+	c := &connection{socket: socket, untold: untold, promises: told}
 	c.hasRoom.L = &c.mu
 	go c.read()
 	return c
@@ -109,6 +113,7 @@ func (c *connection) hold(r request, mine *call) bool {
 	if !c.isUsable() {
 		return false
 	}
+	mine.isStable = mine.operation == opCommit && r.waits()
 	c.calls = append(c.calls, mine)
 	c.held = append(c.held, r...)
 	return true
@@ -237,6 +242,7 @@ func (c *connection) settle(came []byte) ([]byte, error) {
 // settleOne answers a call. It returns an error where the answer is none of the protocol.
 func (c *connection) settleOne(of *call, record []byte) error {
 	of.err = (&answer{rest: record}).judge(of)
+	c.noteAnswer(of)
 	if of.err == nil {
 		return nil
 	}
@@ -248,6 +254,19 @@ func (c *connection) settleOne(of *call, record []byte) error {
 		return of.err
 	}
 	return nil
+}
+
+// noteAnswer notes what an answer says of commits. No other connection is made before that.
+func (c *connection) noteAnswer(of *call) {
+	var unsure *Unsure
+	switch {
+	case errors.As(of.err, &unsure):
+		c.promises.noteCommit(unsure.Receipt, false)
+	case of.err == nil && of.operation == opCommit:
+		c.promises.noteCommit(of.receipt, of.isStable)
+	case of.err == nil && of.note != nil:
+		of.note()
+	}
 }
 
 // nextRecord returns the first record of some bytes, and those behind it; or no record, where it is

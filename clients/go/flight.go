@@ -36,6 +36,9 @@ func (t *Tx) Submit(durability Durability) *Flight {
 		return &Flight{err: err}
 	}
 	defer r.drop()
+	if err := t.journal.checkParts(&t.reads, &t.writes); err != nil {
+		return &Flight{err: err}
+	}
 	return t.journal.submit(r.request)
 }
 
@@ -47,6 +50,10 @@ func (j *Journal) submit(r request) *Flight {
 	mine.isFlight = true
 	deadline := j.deadline()
 	for {
+		// While there are losses to be told, no connection is made: it may tell of a restart.
+		if atomic.LoadInt64(&j.untold) > 0 {
+			return &Flight{err: &failure{ErrLost, errUntold}}
+		}
 		over, err := j.connected(deadline)
 		if err == nil && atomic.LoadInt64(&j.untold) > 0 {
 			err = &failure{ErrLost, errUntold}
