@@ -17,6 +17,8 @@ pub enum Error {
     Lost(io::Error),
     /// The port answered what the protocol does not have. What [`Error::Lost`] says holds.
     Protocol(&'static str),
+    /// [`MAX_IN_FLIGHT`](crate::MAX_IN_FLIGHT) commits are in flight. Nothing was done.
+    Full,
 }
 
 /// A reason for which nothing was done. Each has the protocol's number.
@@ -101,7 +103,7 @@ impl Error {
         match self {
             Error::Refused(refusal) => refusal.ends_session(),
             Error::Lost(_) | Error::Protocol(_) | Error::NoPort(_) => true,
-            Error::Conflict | Error::Unsure(_) => false,
+            Error::Conflict | Error::Unsure(_) | Error::Full => false,
         }
     }
 
@@ -131,6 +133,7 @@ impl fmt::Display for Error {
             Error::Unsure(_) => write!(f, "the transaction is not known to be stable"),
             Error::Lost(error) => write!(f, "no answer came: {error}"),
             Error::Protocol(why) => write!(f, "the protocol has no such answer: {why}"),
+            Error::Full => write!(f, "as many commits are in flight as may be"),
         }
     }
 }

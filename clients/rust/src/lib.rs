@@ -23,20 +23,43 @@
 //!
 //! A [`Journal`] is one connection. One that the port has ended, for its silence or with the
 //! service, is made again by the next call.
+//!
+//! [`Transaction::submit`] puts a commit in flight without waiting for its answer, and
+//! [`Journal::answers`] gives the answers in order:
+//!
+//! ```no_run
+//! # use jnl::{Address, Durability, Error, Journal};
+//! # fn main() -> Result<(), Error> {
+//! let mut journal = Journal::connect("/run/disk.sock")?;
+//! for row in 0..64 {
+//!     let mut transaction = journal.begin();
+//!     transaction.write(Address { block: 515, bit: 1024 * (row % 32) }, vec![row as u8; 128]);
+//!     transaction.submit(Durability::Stable, row.into())?;
+//! }
+//! for answer in journal.answers() {
+//!     println!("row {}: {:?}", answer.tag, answer.result);
+//! }
+//! # Ok(())
+//! # }
+//! ```
 #![forbid(unsafe_code)]
 #![warn(missing_docs)]
 
 mod error;
+mod flight;
 mod record;
 mod stream;
 mod transaction;
 
 pub use error::{Error, Refusal};
+pub use flight::{Answer, Answers, MAX_IN_FLIGHT};
 pub use transaction::Transaction;
 
-use record::{Reader, Record};
+use flight::Flights;
+use record::{Operation, Reader, Record};
 use std::collections::hash_map::RandomState;
 use std::hash::{BuildHasher, Hasher};
+use std::io::ErrorKind;
 use std::path::Path;
 use std::thread;
 use std::time::Duration;
@@ -97,6 +120,7 @@ pub struct Journal {
     timeout: Option<Duration>,
     blocks: u64,
     last_receipt: Option<Receipt>,
+    flights: Flights,
 }
 
 impl Journal {
@@ -134,9 +158,9 @@ impl Journal {
     }
 
     fn at(place: Place, timeout: Option<Duration>) -> Result<Journal, Error> {
-        let mut journal = Journal { place, stream: None, timeout, blocks: 0, last_receipt: None };
-        journal.stream = Some(journal.dial(Deadline::after(timeout))?);
-        Ok(journal)
+        let (stream, blocks) = dial(&place, Deadline::after(timeout))?;
+        let flights = Flights::default();
+        Ok(Journal { place, stream: Some(stream), timeout, blocks, last_receipt: None, flights })
     }
 
     /// How many blocks the disk has.
@@ -145,6 +169,7 @@ impl Journal {
     }
 
     /// The receipt of the last commit that was done over this connection, as by [`Journal::run`].
+    /// Commits that were submitted have theirs in their answers.
     pub fn last_receipt(&self) -> Option<Receipt> {
         self.last_receipt
     }
@@ -243,50 +268,119 @@ impl Journal {
         self.ask(record, |answer| answer.receipt())
     }
 
-    /// A connection that was greeted. Nothing was asked over it yet.
-    fn dial(&mut self, ends: Deadline) -> Result<Stream, Error> {
-        let mut stream = Stream::connect(&self.place, ends).map_err(Error::NoPort)?;
-        let hello = Record::hello(VERSION);
-        let (version, blocks) = exchange(&mut stream, hello, ends, |a| Ok((a.word()?, a.hyper()?)))
-            .map_err(Error::of_a_greeting)?;
-        if version != VERSION {
-            return Err(Error::Protocol("the port speaks another version"));
-        }
-        self.blocks = blocks;
-        Ok(stream)
+    fn end_of_call(&self) -> Deadline {
+        Deadline::after(self.timeout)
     }
 
-    /// Asks the port. A connection that it ended since the last call is made again first: nothing
-    /// was sent yet, so nothing is sent twice.
+    /// Begins a call that sends. A connection that the port ended since the last call is made again
+    /// first: nothing was sent yet, so nothing is sent twice.
+    fn begin_call(&mut self) -> Result<Deadline, Error> {
+        self.flights.check()?;
+        let ends = self.end_of_call();
+        if !self.flights.are_waiting() {
+            let is_over = self.flights.is_over();
+            self.stream = self.stream.take().filter(|stream| !is_over && stream.is_quiet());
+        }
+        if self.stream.is_none() {
+            let (stream, blocks) = dial(&self.place, ends)?;
+            (self.stream, self.blocks) = (Some(stream), blocks);
+            self.flights.begin_connection();
+        }
+        Ok(ends)
+    }
+
+    /// Asks the port.
     fn ask<T>(
         &mut self,
         record: Record,
         decode: impl FnOnce(&mut Reader<'_>) -> Result<T, Error>,
     ) -> Result<T, Error> {
-        let ends = Deadline::after(self.timeout);
-        let mut stream = match self.stream.take().filter(Stream::is_quiet) {
-            Some(stream) => stream,
-            None => self.dial(ends)?,
+        let operation = record.operation();
+        let record = record.finish()?;
+        let ends = self.begin_call()?;
+        let mut bytes = self.flights.take_held();
+        bytes.extend_from_slice(&record);
+        self.over_stream(|stream, flights| {
+            send_beside(stream, flights, &bytes, ends)?;
+            while flights.are_waiting() {
+                flights.settle(&stream.receive(ends)?)?;
+            }
+            decoded(&stream.receive(ends)?, operation, decode)
+        })
+    }
+
+    /// Sends the commits that are held back. Where that fails they end so.
+    fn send_held(&mut self, ends: Deadline) {
+        let held = self.flights.take_held();
+        if !held.is_empty() {
+            let _ = self.over_stream(|stream, flights| send_beside(stream, flights, &held, ends));
+        }
+    }
+
+    /// Receives the answer of one commit in flight. Where that fails all of them end so.
+    fn receive_one(&mut self, ends: Deadline) {
+        let _ = self.over_stream(|stream, flights| flights.settle(&stream.receive(ends)?));
+    }
+
+    /// Uses the connection. An error after which it is of no more use closes it, and ends all
+    /// commits in flight.
+    fn over_stream<T>(
+        &mut self,
+        work: impl FnOnce(&mut Stream, &mut Flights) -> Result<T, Error>,
+    ) -> Result<T, Error> {
+        let Some(stream) = &mut self.stream else {
+            return Err(Error::Lost(ErrorKind::NotConnected.into()));
         };
-        let found = exchange(&mut stream, record, ends, decode);
-        if !matches!(&found, Err(error) if error.ends_connection()) {
-            self.stream = Some(stream);
+        let found = work(stream, &mut self.flights);
+        if let Err(error) = &found {
+            if error.ends_connection() {
+                self.stream = None;
+                self.flights.lose(error);
+            }
         }
         found
     }
 }
 
-/// Sends a record, and reads its answer.
-fn exchange<T>(
+/// Sends bytes, and gives commits in flight the answers that have come meanwhile.
+fn send_beside(
     stream: &mut Stream,
-    record: Record,
+    flights: &mut Flights,
+    bytes: &[u8],
     ends: Deadline,
+) -> Result<(), Error> {
+    let sent = stream.send(bytes, ends).map_err(Error::Lost);
+    while flights.are_waiting() {
+        let Some(answer) = stream.received()? else { break };
+        flights.settle(&answer)?;
+    }
+    sent
+}
+
+/// A connection that was greeted, and the number of blocks. Nothing was asked over it yet.
+fn dial(place: &Place, ends: Deadline) -> Result<(Stream, u64), Error> {
+    let mut stream = Stream::connect(place, ends).map_err(Error::NoPort)?;
+    let (version, blocks) = greet(&mut stream, ends).map_err(Error::of_a_greeting)?;
+    if version != VERSION {
+        return Err(Error::Protocol("the port speaks another version"));
+    }
+    Ok((stream, blocks))
+}
+
+fn greet(stream: &mut Stream, ends: Deadline) -> Result<(u32, u64), Error> {
+    let hello = Record::hello(VERSION);
+    let operation = hello.operation();
+    stream.send(&hello.finish()?, ends).map_err(Error::Lost)?;
+    decoded(&stream.receive(ends)?, operation, |answer| Ok((answer.word()?, answer.hyper()?)))
+}
+
+/// What an answer to an operation gives.
+fn decoded<T>(
+    answer: &[u8],
+    operation: Operation,
     decode: impl FnOnce(&mut Reader<'_>) -> Result<T, Error>,
 ) -> Result<T, Error> {
-    let operation = record.operation();
-    stream.send(&record.finish()?, ends).map_err(Error::Lost)?;
-    let answer = stream.receive(ends)?;
-    let mut reader = Reader::of_answer(&answer, operation)?;
+    let mut reader = Reader::of_answer(answer, operation)?;
     let found = decode(&mut reader)?;
     reader.end()?;
     Ok(found)

@@ -8,11 +8,11 @@ pub(crate) const MAX_RECORD: usize = 2_097_152;
 const MAX_VALUE: usize = 4096;
 const MAX_PARTS: usize = 4096;
 pub(crate) const MAX_ADDRESSES: usize = 256;
-const LENGTH_BYTES: usize = 4;
+pub(crate) const LENGTH_BYTES: usize = 4;
 const UNSURE: u32 = 65;
 const CONFLICT: u32 = 64;
 
-#[derive(Clone, Copy, PartialEq, Eq)]
+#[derive(Clone, Copy, Debug, PartialEq, Eq)]
 pub(crate) enum Operation {
     Hello = 0,
     Commit = 1,

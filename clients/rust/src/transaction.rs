@@ -88,10 +88,40 @@ impl<'j> Transaction<'j> {
         self.commit_parts(durability)
     }
 
-    pub(crate) fn commit_parts(&mut self, durability: Durability) -> Result<Receipt, Error> {
+    /// Puts the commit in flight, and does not wait for its answer, which
+    /// [`Journal::next_answer`] gives. So one connection has many commits under way at once. They
+    /// are done in the order in which they were submitted, and the tag is the caller's name of this
+    /// one.
+    ///
+    /// A commit may be held back, so that many are sent by one call of the system: until
+    /// [`Journal::next_answer`] has to wait, 32 KiB are held back, [`Journal::push`], or any other
+    /// call that sends. While the socket takes no more, this call receives the answers that have
+    /// come, and keeps them. So port and caller never wait for each other.
+    ///
+    /// All other calls work while commits are in flight. They are answered after those.
+    ///
+    /// Where the connection is lost, each commit in flight that had no answer has [`Error::Lost`]
+    /// as its answer, in their order. Those that were done, if any, are the first ones of these.
+    /// Until all answers are taken, each call that would send something sends nothing and answers
+    /// [`Error::Lost`]. So nothing is done after a commit that may be missing, unless the caller
+    /// has seen that. An answer that the protocol does not have is [`Error::Protocol`] for its
+    /// commit, and [`Error::Lost`] for the later ones.
+    ///
+    /// # Errors
+    /// Nothing was sent then, and nothing is in flight for it: [`Error::Full`], [`Error::NoPort`],
+    /// [`Error::Lost`] after a loss, and what no record can hold.
+    pub fn submit(self, durability: Durability, tag: u64) -> Result<(), Error> {
+        let record = self.spelled(durability)?;
+        self.journal.submit(record, tag)
+    }
+
+    fn spelled(&self, durability: Durability) -> Result<Record, Error> {
         let written = self.writes.iter().map(|(a, value)| (Action::Write, a, value));
-        let record = spell(durability, self.compared().chain(written));
-        let found = record.and_then(|record| self.journal.commit(record));
+        spell(durability, self.compared().chain(written))
+    }
+
+    pub(crate) fn commit_parts(&mut self, durability: Durability) -> Result<Receipt, Error> {
+        let found = self.spelled(durability).and_then(|record| self.journal.commit(record));
         let receipt = self.note(found)?;
         self.journal.last_receipt = Some(receipt);
         Ok(receipt)
