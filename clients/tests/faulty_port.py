@@ -42,6 +42,7 @@ A read of this bit, after a pause:
 SOCKET.silent takes connections and answers nothing. SOCKET.full has no room for a connection.
 """
 
+import secrets
 import socket
 import struct
 import sys
@@ -160,7 +161,7 @@ class Connection:
             self.port.ends_next = True
             self.end(framed(answer))
         if record[8:16] == struct.pack(">Q", BLOCK_OF_BITS) and bit == 34:
-            self.port.opening ^= 1
+            self.port.opening = secrets.randbits(64)
             self.end(framed(answer))
         if record[8:16] == struct.pack(">Q", BLOCK_OF_BITS) and bit in self.port.to_read:
             self.port.to_read.remove(bit)
