@@ -5,7 +5,7 @@ use Rattle.journal_world.specs.Addresses.{Shape}
 use Rattle.journal_world.specs.Histories.{Entry, floor}
 use Rattle.journal_history.specs.Tokens.{SessionState, OnlyExtends}
 use Rattle.journal_records.specs.declared.answer.Answer.{Answer}
-use Rattle.journal_port.specs.Answers.{settled}
+use Rattle.journal_port.specs.Answers.{Offer, settled}
 use Rattle.journal_port.specs.Served.{IsReplyTo, AreAnswers}
 use Rattle.journal_port.proofs.Ending.{OnlyExtends-refl, OnlyExtends-trans}
 use Rattle.journal_port.proofs.Settling.{found_later, found_settled}

@@ -11,8 +11,8 @@ use Rattle.journal_records.specs.declared.request.Part.{Part}
 use Rattle.journal_records.specs.declared.request.Request.{Request}
 use Rattle.journal_records.specs.declared.request.Request.TheVariants as asked
 use Rattle.journal_records.specs.declared.answer.Answer.{Answer}
-use Rattle.journal_records.specs.declared.answer.Answer.TheVariants.{Committed, Refused, Unsure, Values, Hello, Flushed, Stat, Stopping}
-use Rattle.journal_port.specs.Answers.{IsCommitAnswer, IsReadAnswer, IsHelloAnswer, IsFlushAnswer, IsStatAnswer, IsStopAnswer, IsAnswerTo, settled}
+use Rattle.journal_records.specs.declared.answer.Answer.TheVariants.{Committed, Refused, Unsure, Values, Hello, Opening, Flushed, Stat, Stopping, Counters, Bits}
+use Rattle.journal_port.specs.Answers.{Offer, IsCommitAnswer, IsReadAnswer, IsHelloAnswer, IsFlushAnswer, IsStatAnswer, IsStopAnswer, IsCountersAnswer, IsScanAnswer, IsAnswerTo, settled}
 use Rattle.journal_port.specs.Served.{refused_for, IsFoundAnswer}
 
 pub floor_later : (marks later : List Entry) → IsPrefix marks later → floor marks ≤ floor later
@@ -27,10 +27,13 @@ commit_later layout parts waits marks later old new (Committed place count) more
 commit_later layout parts waits marks later old new (Unsure place count) more is = is
 commit_later layout parts waits marks later old new (Refused n) more is = is
 commit_later layout parts waits marks later old new (Values values) more is = is
-commit_later layout parts waits marks later old new (Hello version size) more is = is
+commit_later layout parts waits marks later old new (Hello size) more is = is
 commit_later layout parts waits marks later old new (Flushed stable) more is = is
 commit_later layout parts waits marks later old new (Stat commits stable) more is = is
 commit_later layout parts waits marks later old new Stopping more is = is
+commit_later layout parts waits marks later old new (Opening opening) more is = is
+commit_later layout parts waits marks later old new (Counters counters) more is = is
+commit_later layout parts waits marks later old new (Bits bits) more is = is
 
 pub answer_later : (layout : Shape) (offer : Offer) (marks later : List Entry) (request : Request) (old new : SessionState) (told : Answer) → IsPrefix marks later
     → IsAnswerTo layout offer marks request old new told → IsAnswerTo layout offer later request old new told
@@ -40,6 +43,8 @@ answer_later layout offer marks later (asked.Read addrs) old new told more is = 
 answer_later layout offer marks later asked.Flush old new told more is = is
 answer_later layout offer marks later asked.Stat old new told more is = is
 answer_later layout offer marks later asked.Stop old new told more is = is
+answer_later layout offer marks later asked.Counters old new told more is = is
+answer_later layout offer marks later (asked.Scan block first value most) old new told more is = is
 
 pub found_later : (layout : Shape) (offer : Offer) (marks later : List Entry) (found : Result Request ReadFault) (old new : SessionState) (told : Answer) → IsPrefix marks later
     → IsFoundAnswer layout offer marks found old new told → IsFoundAnswer layout offer later found old new told
@@ -54,10 +59,13 @@ settled_other P stable (Unsure place count) never is = absurd (never place count
 settled_other P stable (Committed place count) never is = is
 settled_other P stable (Refused n) never is = is
 settled_other P stable (Values values) never is = is
-settled_other P stable (Hello version size) never is = is
+settled_other P stable (Hello size) never is = is
 settled_other P stable (Flushed n) never is = is
 settled_other P stable (Stat commits n) never is = is
 settled_other P stable Stopping never is = is
+settled_other P stable (Opening opening) never is = is
+settled_other P stable (Counters counters) never is = is
+settled_other P stable (Bits bits) never is = is
 
 commit_settled : (layout : Shape) (parts : List Part) (waits : Bool) (marks : List Entry) (stable : ℕ) (old new : SessionState) (told : Answer) → stable ≤ floor marks
     → IsCommitAnswer layout parts waits marks old new told → IsCommitAnswer layout parts waits marks old new (settled stable told)
@@ -69,19 +77,24 @@ commit_settled layout parts waits marks stable old new (Unsure place count) mark
 commit_settled layout parts waits marks stable old new (Committed place count) marked is = is
 commit_settled layout parts waits marks stable old new (Refused n) marked is = is
 commit_settled layout parts waits marks stable old new (Values values) marked is = is
-commit_settled layout parts waits marks stable old new (Hello version size) marked is = is
+commit_settled layout parts waits marks stable old new (Hello size) marked is = is
 commit_settled layout parts waits marks stable old new (Flushed n) marked is = is
 commit_settled layout parts waits marks stable old new (Stat commits n) marked is = is
 commit_settled layout parts waits marks stable old new Stopping marked is = is
+commit_settled layout parts waits marks stable old new (Opening opening) marked is = is
+commit_settled layout parts waits marks stable old new (Counters counters) marked is = is
+commit_settled layout parts waits marks stable old new (Bits bits) marked is = is
 
 pub answer_settled : (layout : Shape) (offer : Offer) (marks : List Entry) (stable : ℕ) (request : Request) (old new : SessionState) (told : Answer) → stable ≤ floor marks
     → IsAnswerTo layout offer marks request old new told → IsAnswerTo layout offer marks request old new (settled stable told)
-answer_settled layout offer marks stable (asked.Hello version) old new told marked is = settled_other (IsHelloAnswer layout.blocks version old new) stable told (λ p c no_such. no_such) is
+answer_settled layout offer marks stable (asked.Hello version) old new told marked is = settled_other (IsHelloAnswer layout offer.number version old new) stable told (λ p c no_such. no_such) is
 answer_settled layout offer marks stable (asked.Commit parts waits) old new told marked is = commit_settled layout parts.items waits marks stable old new told marked is
 answer_settled layout offer marks stable (asked.Read addrs) old new told marked is = settled_other (IsReadAnswer layout addrs.items old new) stable told (λ p c no_such. no_such) is
 answer_settled layout offer marks stable asked.Flush old new told marked is = settled_other (IsFlushAnswer old new) stable told (λ p c no_such. no_such) is
 answer_settled layout offer marks stable asked.Stat old new told marked is = settled_other (IsStatAnswer old new) stable told (λ p c no_such. no_such) is
-answer_settled layout offer marks stable asked.Stop old new told marked is = settled_other (IsStopAnswer offer old new) stable told (λ p c no_such. no_such) is
+answer_settled layout offer marks stable asked.Stop old new told marked is = settled_other (IsStopAnswer offer.may_stop old new) stable told (λ p c no_such. no_such) is
+answer_settled layout offer marks stable asked.Counters old new told marked is = settled_other (IsCountersAnswer offer.tells old new) stable told (λ p c no_such. no_such) is
+answer_settled layout offer marks stable (asked.Scan block first value most) old new told marked is = settled_other (IsScanAnswer layout _ old new) stable told (λ p c no_such. no_such) is
 
 pub found_settled : (layout : Shape) (offer : Offer) (marks : List Entry) (stable : ℕ) (found : Result Request ReadFault) (old new : SessionState) (told : Answer) → stable ≤ floor marks
     → IsFoundAnswer layout offer marks found old new told → IsFoundAnswer layout offer marks found old new (settled stable told)
@@ -96,5 +109,10 @@ unsure_settled layout offer marks later stable request old new told more marked 
 
 -- a hello is answered as one
 pub is_hello : (layout : Shape) (offer : Offer) (marks : List Entry) (request : Request) (version : ℕ) (session : SessionState) (told : Answer) → request ≡ asked.Hello version
-    → IsHelloAnswer layout.blocks version session session told → IsAnswerTo layout offer marks request session session told
+    → IsHelloAnswer layout offer.number version session session told → IsAnswerTo layout offer marks request session session told
 is_hello layout offer marks request version session told is hello = subst (λ (r : Request). IsAnswerTo layout offer marks r session session told) (sym is) hello
+
+-- counters are answered as such
+pub is_counters : (layout : Shape) (offer : Offer) (marks : List Entry) (request : Request) (session : SessionState) (told : Answer) → request ≡ asked.Counters
+    → IsCountersAnswer offer.tells session session told → IsAnswerTo layout offer marks request session session told
+is_counters layout offer marks request session told is counters = subst (λ (r : Request). IsAnswerTo layout offer marks r session session told) (sym is) counters

@@ -16,7 +16,7 @@ use Rattle.journal_port.specs.declared.serving.End.{End}
 use Rattle.journal_port.specs.declared.serving.End.TheVariants.{NoMore, Stopped, TooLong}
 use Rattle.journal_port.specs.declared.turns.Turn.{Turn}
 use Rattle.journal_port.specs.declared.turns.Turn.TheVariants as turn
-use Rattle.journal_port.specs.Answers.{settled}
+use Rattle.journal_port.specs.Answers.{Offer, settled}
 use Rattle.journal_port.specs.Served.{IsReplyTo, AreAnswers, text_of, texts, IsSendable, Writes, AppendsFront, Turns, EndsTurn, Replies, RepliesInPart, refuses_long, Feeds, Exchange, Serves, Breaks, SoFar}
 use Rattle.journal_port.proofs.Ending.{OnlyExtends-refl}
 use Rattle.journal_port.proofs.Growing.{reply_grows, answers_grow}

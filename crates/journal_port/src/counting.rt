@@ -1,7 +1,8 @@
 // What a program has counted.
-ghost use Rattle.std.specs.Prelude.{◌≡◌, IfOk};
+ghost use Rattle.std.specs.Prelude.{◌≡◌, List, IfOk};
 ghost use Rattle.std.specs.List.Sorted.{IsNonDecreasingBy, IsPermutation};
 ghost use Rattle.journal_history.specs.Tokens.{SessionState};
+ghost use Rattle.journal_records.specs.declared.answer.Counter.{Counter};
 ghost use Rattle.journal_port.specs.Answers.{IsCountersAnswer, name_of};
 
 use journal_records::{Answer, Counter, Refused};

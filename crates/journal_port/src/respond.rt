@@ -76,7 +76,7 @@ pub fn answer<'b, D: BlockDisk, J: Naming, C: Counting, W: Wait>(
     session: &mut Session<'b, J, AnyMap>,
     request: Request,
 ) -> Answer
-    ensures { IsAnswered J.layout (offer port.now.terms (C.tells port.now.counting)) request session.old session.new result }
+    ensures { IsAnswered J.layout (offer port.now.terms (C.tells port.now.counting.now)) request session.old session.new result }
 {
     match answer_no_wait(rt, port, session, request) {
         Answer::Unsure { place, commits } => {
@@ -95,7 +95,7 @@ pub(crate) fn answer_no_wait<'b, D: BlockDisk, J: Naming, C: Counting, W: Wait>(
     session: &mut Session<'b, J, AnyMap>,
     request: Request,
 ) -> Answer
-    ensures { IsAnswerTo J.layout (offer port.now.terms (C.tells port.now.counting)) session.new.seen request session.old session.new result }
+    ensures { IsAnswerTo J.layout (offer port.now.terms (C.tells port.now.counting.now)) session.new.seen request session.old session.new result }
 {
     let (alloc, journal, terms) = (port.alloc, port.journal, port.terms);
     match request {

@@ -79,10 +79,10 @@ pub fn serve<'b, R: Read, W: Write, D: BlockDisk, J: Naming, C: Counting, H: Wai
     reader: &mut R,
     writer: &mut W,
 ) -> Result<Served, ConnFault>
-    ensures served { IfOk result (λ served. Serves J.layout (offer port.now.terms (C.tells port.now.counting)) served.end (R.remaining reader.old) (R.remaining reader.new)
+    ensures served { IfOk result (λ served. Serves J.layout (offer port.now.terms (C.tells port.now.counting.now)) served.end (R.remaining reader.old) (R.remaining reader.new)
         (W.contents writer.old) (W.contents writer.new) session.old session.new) }
     ensures fenced { IfOk result (λ served. IsTrue served.fenced → is_fenced session.new.number session.new.seen ≡ true) }
-    ensures given_up { OnErr result (Breaks J.layout (offer port.now.terms (C.tells port.now.counting)) (R.remaining reader.old) (R.remaining reader.new)
+    ensures given_up { OnErr result (Breaks J.layout (offer port.now.terms (C.tells port.now.counting.now)) (R.remaining reader.old) (R.remaining reader.new)
         (W.contents writer.old) (W.contents writer.new) session.old session.new) }
 {
     let outcome = answer_to_end(rt, port, session, reader, writer);
@@ -102,9 +102,9 @@ fn answer_to_end<'b, R: Read, W: Write, D: BlockDisk, J: Naming, C: Counting, H:
     reader: &mut R,
     writer: &mut W,
 ) -> Result<End, ConnFault>
-    ensures served { IfOk result (λ end. Serves J.layout (offer port.now.terms (C.tells port.now.counting)) end (R.remaining reader.old) (R.remaining reader.new)
+    ensures served { IfOk result (λ end. Serves J.layout (offer port.now.terms (C.tells port.now.counting.now)) end (R.remaining reader.old) (R.remaining reader.new)
         (W.contents writer.old) (W.contents writer.new) session.old session.new) }
-    ensures given_up { OnErr result (Breaks J.layout (offer port.now.terms (C.tells port.now.counting)) (R.remaining reader.old) (R.remaining reader.new)
+    ensures given_up { OnErr result (Breaks J.layout (offer port.now.terms (C.tells port.now.counting.now)) (R.remaining reader.old) (R.remaining reader.new)
         (W.contents writer.old) (W.contents writer.new) session.old session.new) }
 {
     let Ok(mut buffer) = vec![in port.alloc; 0u8; PIECE_BYTES] else {
@@ -123,9 +123,9 @@ fn answer_all<'b, R: Read, W: Write, D: BlockDisk, J: Naming, C: Counting, H: Wa
     buffer: &mut [u8],
 ) -> Result<End, ConnFault>
     requires { 0 < length buffer.old }
-    ensures served { IfOk result (λ end. Serves J.layout (offer port.now.terms (C.tells port.now.counting)) end (R.remaining reader.old) (R.remaining reader.new)
+    ensures served { IfOk result (λ end. Serves J.layout (offer port.now.terms (C.tells port.now.counting.now)) end (R.remaining reader.old) (R.remaining reader.new)
         (W.contents writer.old) (W.contents writer.new) session.old session.new) }
-    ensures given_up { OnErr result (Breaks J.layout (offer port.now.terms (C.tells port.now.counting)) (R.remaining reader.old) (R.remaining reader.new)
+    ensures given_up { OnErr result (Breaks J.layout (offer port.now.terms (C.tells port.now.counting.now)) (R.remaining reader.old) (R.remaining reader.new)
         (W.contents writer.old) (W.contents writer.new) session.old session.new) }
 {
     let mut input = Input::new(port.alloc);

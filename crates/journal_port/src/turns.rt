@@ -52,8 +52,8 @@ pub(crate) fn answer_turn<'b, D: BlockDisk, J: Naming, C: Counting, H: Wait, W: 
     held: &mut Vec<Answer>,
     writer: &mut W,
 ) -> Result<Turn, ConnFault>
-    ensures done { IfOk result (λ turn. Replies J.layout (offer port.now.terms (C.tells port.now.counting)) turn input.old input.new session.old session.new (W.contents writer.old) (W.contents writer.new)) }
-    ensures given_up { OnErr result (RepliesInPart J.layout (offer port.now.terms (C.tells port.now.counting)) input.old session.old session.new (W.contents writer.old) (W.contents writer.new)) }
+    ensures done { IfOk result (λ turn. Replies J.layout (offer port.now.terms (C.tells port.now.counting.now)) turn input.old input.new session.old session.new (W.contents writer.old) (W.contents writer.new)) }
+    ensures given_up { OnErr result (RepliesInPart J.layout (offer port.now.terms (C.tells port.now.counting.now)) input.old session.old session.new (W.contents writer.old) (W.contents writer.new)) }
 {
     let Ok(turn) = take_turn(rt, port, session, input, held) else {
         return Err(ConnFault::NoMemory);
@@ -71,7 +71,7 @@ fn take_turn<'b, D: BlockDisk, J: Naming, C: Counting, H: Wait>(
     input: &mut Input,
     held: &mut Vec<Answer>,
 ) -> Result<Turn, AllocError>
-    ensures taken { Turns J.layout (offer port.now.terms (C.tells port.now.counting)) input.old input.new session.old session.new held.new.items }
+    ensures taken { Turns J.layout (offer port.now.terms (C.tells port.now.counting.now)) input.old input.new session.old session.new held.new.items }
     ensures ended { IfOk result (λ turn. EndsTurn turn input.new held.new.items) }
 {
     held.clear();
@@ -106,7 +106,7 @@ fn reply<'b, D: BlockDisk, J: Naming, C: Counting, H: Wait>(
     session: &mut Session<'b, J, AnyMap>,
     found: Result<Request, ReadFault>,
 ) -> Answer
-    ensures { IsFoundAnswer J.layout (offer port.now.terms (C.tells port.now.counting)) session.new.seen found session.old session.new result }
+    ensures { IsFoundAnswer J.layout (offer port.now.terms (C.tells port.now.counting.now)) session.new.seen found session.old session.new result }
 {
     match found {
         Ok(request) => answer_no_wait(rt, port, session, request),
