@@ -63,6 +63,11 @@ static void lazy_commits_may_be_gone(jnl *j)
     want(jnl_flush(j, NULL), JNL_OK, "the next flush");
     jnl_describe(j, &after);
     want(before.opening != after.opening, 1, "the opening is another");
+    want(put(j, 200, 1, 0), JNL_OK, "a commit");
+    restart(j);
+    want(jnl_stat(j, &(jnl_counts){0, 0}), JNL_RESTARTED, "a stat");
+    restart(j);
+    want(jnl_flush(j, NULL), JNL_OK, "a flush after one more restart");
     uint64_t all = commits(j);
     want(put(j, 200, 1, 0), JNL_OK, "a commit");
     restart(j);
@@ -197,6 +202,26 @@ static void pools(jnl *j)
     jnl_pool_close(all.pool);
 }
 
+/* Two programs find the one free record. */
+static void a_pool_of_one(jnl *j, const char *path)
+{
+    jnl *other;
+    jnl_txn *t;
+    struct taking mine = {NULL, {0, 0}, 1}, theirs = {NULL, {0, 0}, 1};
+    clear(j);
+    want(jnl_open(path, &other), JNL_OK, "open");
+    want(jnl_pool_open(j, BITS, FIRST, FIRST + 1, &mine.pool), JNL_OK, "a pool");
+    want(jnl_pool_open(other, BITS, FIRST, FIRST + 1, &theirs.pool), JNL_OK, "a pool");
+    want(jnl_begin(j, &t), JNL_OK, "begin");
+    want(take_some(t, &mine), JNL_OK, "a take");
+    want(jnl_run(other, take_some, &theirs, 0, NULL), JNL_OK, "the other's take");
+    want(jnl_commit(t, 0, NULL), JNL_CONFLICT, "a commit of the same record");
+    want(jnl_run(j, take_some, &mine, 0, NULL), JNL_NO_FREE, "a take of none");
+    jnl_pool_close(mine.pool);
+    jnl_pool_close(theirs.pool);
+    jnl_close(other);
+}
+
 static void expectations(jnl *j)
 {
     jnl_txn *t;
@@ -245,6 +270,7 @@ int main(int argc, char **argv)
     commits_in_flight(faulty, argv[2]);
     scans(j);
     pools(j);
+    a_pool_of_one(j, argv[1]);
     expectations(j);
     counters(j);
     jnl_close(j);

@@ -45,6 +45,13 @@ class Restarts(unittest.TestCase):
         self.journal.flush()
         self.assertNotEqual(self.journal.disk.opening, opening)
 
+    def test_it_is_told_once(self) -> None:
+        set_bit(self.journal, 200)
+        restart(self.journal)
+        self.assertRaises(jnl.Restarted, self.journal.stat)
+        restart(self.journal)
+        self.journal.flush()
+
     def test_one_that_only_commits_lazily_is_told(self) -> None:
         set_bit(self.journal, 200)
         restart(self.journal)

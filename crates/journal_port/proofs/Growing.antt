@@ -13,7 +13,7 @@ use Rattle.journal_records.specs.declared.answer.Answer.{Answer}
 use Rattle.journal_records.specs.declared.answer.Answer.TheVariants.{Committed, Refused, Unsure, Values, Hello, Opening, Flushed, Stat, Stopping, Counters, Bits}
 use Rattle.journal_memory.specs.declared.bit_scan.BitScan.{BitScan}
 use Rattle.journal_records.specs.declared.answer.Counter.{Counter}
-use Rattle.journal_port.specs.Answers.{Offer, CommitsParts, IsCommitAnswer, IsReadAnswer, IsHelloAnswer, IsFlushAnswer, IsStatAnswer, IsStopAnswer, IsCountersAnswer, IsScanAnswer, IsAnswerTo}
+use Rattle.journal_port.specs.Answers.{Offer, CommitsParts, IsCommitAnswer, IsReadAnswer, IsHelloAnswer, IsFlushAnswer, IsStatAnswer, IsStopAnswer, IsCountersAnswer, IsScanAnswer, scan_of, IsAnswerTo}
 use Rattle.journal_port.specs.Served.{IsFoundAnswer, IsReplyTo, AreAnswers}
 
 abbrev pub Grows : SessionState → SessionState → Type 0
@@ -141,7 +141,7 @@ answer_grows layout offer marks asked.Flush old new told is = flush_grows old ne
 answer_grows layout offer marks asked.Stat old new told is = stat_grows old new told is
 answer_grows layout offer marks asked.Stop old new told is = stop_grows offer.may_stop old new told is
 answer_grows layout offer marks asked.Counters old new told is = counters_grow offer.tells old new told is
-answer_grows layout offer marks (asked.Scan block first value most) old new told is = scan_grows layout _ old new told is
+answer_grows layout offer marks (asked.Scan block first value most) old new told is = scan_grows layout (scan_of block first value most) old new told is
 
 found_grows : (layout : Shape) (offer : Offer) (marks : List Entry) (found : Result Request ReadFault) (old new : SessionState) (told : Answer) → IsFoundAnswer layout offer marks found old new told → Grows old new
 found_grows layout offer marks (Ok request) old new told is = answer_grows layout offer marks request old new told is

@@ -12,7 +12,7 @@ use Rattle.journal_records.specs.declared.request.Request.{Request}
 use Rattle.journal_records.specs.declared.request.Request.TheVariants as asked
 use Rattle.journal_records.specs.declared.answer.Answer.{Answer}
 use Rattle.journal_records.specs.declared.answer.Answer.TheVariants.{Committed, Refused, Unsure, Values, Hello, Opening, Flushed, Stat, Stopping, Counters, Bits}
-use Rattle.journal_port.specs.Answers.{Offer, IsCommitAnswer, IsReadAnswer, IsHelloAnswer, IsFlushAnswer, IsStatAnswer, IsStopAnswer, IsCountersAnswer, IsScanAnswer, IsAnswerTo, settled}
+use Rattle.journal_port.specs.Answers.{Offer, IsCommitAnswer, IsReadAnswer, IsHelloAnswer, IsFlushAnswer, IsStatAnswer, IsStopAnswer, IsCountersAnswer, IsScanAnswer, scan_of, IsAnswerTo, settled}
 use Rattle.journal_port.specs.Served.{refused_for, IsFoundAnswer}
 
 pub floor_later : (marks later : List Entry) → IsPrefix marks later → floor marks ≤ floor later
@@ -94,7 +94,7 @@ answer_settled layout offer marks stable asked.Flush old new told marked is = se
 answer_settled layout offer marks stable asked.Stat old new told marked is = settled_other (IsStatAnswer old new) stable told (λ p c no_such. no_such) is
 answer_settled layout offer marks stable asked.Stop old new told marked is = settled_other (IsStopAnswer offer.may_stop old new) stable told (λ p c no_such. no_such) is
 answer_settled layout offer marks stable asked.Counters old new told marked is = settled_other (IsCountersAnswer offer.tells old new) stable told (λ p c no_such. no_such) is
-answer_settled layout offer marks stable (asked.Scan block first value most) old new told marked is = settled_other (IsScanAnswer layout _ old new) stable told (λ p c no_such. no_such) is
+answer_settled layout offer marks stable (asked.Scan block first value most) old new told marked is = settled_other (IsScanAnswer layout (scan_of block first value most) old new) stable told (λ p c no_such. no_such) is
 
 pub found_settled : (layout : Shape) (offer : Offer) (marks : List Entry) (stable : ℕ) (found : Result Request ReadFault) (old new : SessionState) (told : Answer) → stable ≤ floor marks
     → IsFoundAnswer layout offer marks found old new told → IsFoundAnswer layout offer marks found old new (settled stable told)

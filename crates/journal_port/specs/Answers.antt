@@ -227,6 +227,9 @@ IsScanAnswer layout scan old new (told.Bits bits) = OnlyExtends old new × (IsTr
 IsScanAnswer layout scan old new (Refused n) = OnlyExtends old new × IsRefusedFor (IsScanRefusal layout scan) n
 IsScanAnswer layout scan old new other = ⊥
 
+abbrev pub scan_of : ℕ → ℕ → Bool → ℕ → BitScan
+scan_of block first value most = record { block = block; first = first; value = value; most = most }
+
 -- ---- any request
 
 -- What a request is owed as its answer, which leads the session from what it had seen to what it
@@ -239,7 +242,7 @@ IsAnswerTo layout offer marks Flush old new answer = IsFlushAnswer old new answe
 IsAnswerTo layout offer marks Stat old new answer = IsStatAnswer old new answer
 IsAnswerTo layout offer marks Stop old new answer = IsStopAnswer offer.may_stop old new answer
 IsAnswerTo layout offer marks Counters old new answer = IsCountersAnswer offer.tells old new answer
-IsAnswerTo layout offer marks (Scan block first value most) old new answer = IsScanAnswer layout (record { block = block; first = first; value = value; most = most }) old new answer
+IsAnswerTo layout offer marks (Scan block first value most) old new answer = IsScanAnswer layout (scan_of block first value most) old new answer
 
 -- The request was done and led the session to a state, which has only seen more since, as the mark
 -- that it waited for

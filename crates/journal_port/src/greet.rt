@@ -7,7 +7,7 @@ ghost use Rattle.journal_port.specs.Answers.{IsHelloAnswer, TellsOpening, told_r
 use crate::respond::Terms;
 use journal_records::{Answer, ObjectRegion, Opening, Refused, Version};
 use journal_tail::MAX_UPDATES;
-use journal_world::{Layout, Region, UNUSED};
+use journal_world::{Region, UNUSED};
 use journal_xdr::Enumeration;
 use std::alloc::{AllocError, Global};
 
@@ -37,29 +37,29 @@ fn opening_of(alloc: Global, terms: Terms) -> Result<Opening, AllocError>
         number: terms.number,
         slots: u32::from(layout.slots),
         most_blocks: MAX_UPDATES as u32,
-        regions: regions_of(alloc, &layout)?,
+        regions: regions_of(alloc, &layout.regions)?,
     })
 }
 
-// The regions of the layout that are in use.
-fn regions_of(alloc: Global, layout: &Layout) -> Result<Vec<ObjectRegion>, AllocError>
-    ensures { IfOk result (λ regions. regions.items ≡ told_regions layout.now.regions) }
+// Those of the regions that are in use.
+fn regions_of(alloc: Global, regions: &[Region]) -> Result<Vec<ObjectRegion>, AllocError>
+    ensures { IfOk result (λ told. told.items ≡ told_regions regions.now) }
 {
-    let mut regions = Vec::new(alloc);
-    for region in layout.regions.iter() {
-        add_region(&mut regions, *region)?;
+    let mut told = Vec::new(alloc);
+    for region in regions {
+        add_region(&mut told, *region)?;
     }
-    Ok(regions)
+    Ok(told)
 }
 
 // Adds the region, if it is in use.
-fn add_region(regions: &mut Vec<ObjectRegion>, region: Region) -> Result<(), AllocError>
-    ensures { OnOk result (regions.new.items ≡ regions.old.items ++ told_region region) }
+fn add_region(told: &mut Vec<ObjectRegion>, region: Region) -> Result<(), AllocError>
+    ensures { OnOk result (told.new.items ≡ told.old.items ++ told_region region) }
 {
     if region.first == UNUSED {
         return Ok(());
     }
-    regions.push(ObjectRegion {
+    told.push(ObjectRegion {
         first: region.first,
         bits: region.kind.bits(),
     })?;
