@@ -55,9 +55,6 @@ func (j *Journal) submit(r request) *Flight {
 			return &Flight{err: &failure{ErrLost, errUntold}}
 		}
 		over, err := j.connected(deadline)
-		if err == nil && atomic.LoadInt64(&j.untold) > 0 {
-			err = &failure{ErrLost, errUntold}
-		}
 		if err != nil {
 			return &Flight{err: err}
 		}

@@ -299,6 +299,15 @@ static void loss_of_another_call(void)
     commits();
 }
 
+/* A call whose answer comes after one that comes in pieces. */
+static void a_call_after_pieces(void)
+{
+    uint64_t before = commits();
+    submit_bit(11, 1);
+    want(commits(), before + 1, "commits after an answer in pieces", 11);
+    take(1, JNL_OK);
+}
+
 static void a_limit_of_time(void)
 {
     jnl_set_timeout(j, 300);
@@ -328,7 +337,8 @@ int main(int argc, char **argv)
     jnl_close(j);
     if (argc == 3) {
         want_status(jnl_open(argv[2], &j), JNL_OK, "open", 0);
-        faults(), loss_while_sending(), loss_of_another_call(), a_limit_of_time();
+        faults(), loss_while_sending(), loss_of_another_call(), a_call_after_pieces();
+        a_limit_of_time();
         jnl_close(j);
     }
     puts("ok");

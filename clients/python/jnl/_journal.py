@@ -305,13 +305,14 @@ class Journal:
         self._send(held)
 
     def _answer(self) -> bytes:
-        """The answer of a request that was sent after all commits in flight."""
-        while True:
-            answer = None if self._flights else _records.whole_answer(self._came)
-            if answer is not None:
-                return answer
+        """The answer of a request that was sent after all commits in flight. Theirs are taken as
+        soon as they are whole, so a whole one that is there is this one's."""
+        answer = _records.whole_answer(self._came)
+        while answer is None:
             self._await(select.POLLIN)
             self._receive()
+            answer = _records.whole_answer(self._came)
+        return answer
 
     @contextlib.contextmanager
     def _losing(self) -> Iterator[None]:

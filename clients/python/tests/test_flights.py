@@ -199,6 +199,11 @@ class Faults(Flights):
             self.take(i)
         self.take_none()
 
+    def test_another_call_after_an_answer_in_pieces(self) -> None:
+        self.submit_bit(11, 1)
+        self.assertEqual(self.journal.stat().commits, self.before + 1)
+        self.take(1)
+
     def test_a_limit_of_time(self) -> None:
         self.open(FAULTY_PATH, 0.3)
         for i, bit in enumerate((FREE_BIT, 14, 14)):

@@ -39,7 +39,7 @@ pub(crate) struct Flights {
 }
 
 /// A commit in flight: its tag, and whether it is to wait until it is stable.
-#[derive(Debug)]
+#[derive(Clone, Copy, Debug)]
 struct Flight {
     tag: u64,
     waits: bool,

@@ -2,7 +2,7 @@
 //! `JNL_SOCKET` and `JNL_FAULTY_SOCKET` name their sockets; nothing is tried without them.
 
 use jnl::{Address, Answer, Durability, Error, Journal, Receipt, Refusal, MAX_IN_FLIGHT};
-use std::ops::RangeInclusive;
+use std::ops::{Range, RangeInclusive};
 use std::sync::mpsc::{channel, RecvTimeoutError};
 use std::sync::Mutex;
 use std::thread;
@@ -62,6 +62,12 @@ fn take(j: &mut Journal, tag: u64, is_wanted: IsWanted) -> u64 {
     assert_eq!(found, tag);
     assert!(is_wanted(&result), "{tag}: {result:?}");
     result.map_or(0, |receipt| receipt.commits)
+}
+
+fn take_done(j: &mut Journal, tags: Range<u64>) {
+    for tag in tags {
+        take(j, tag, is_done);
+    }
 }
 
 fn is_done(found: &Result<Receipt, Error>) -> bool {
@@ -217,11 +223,12 @@ fn fault(j: &mut Journal, bit: u32, met: IsWanted, later: IsWanted, done: RangeI
     for i in 0..=BEFORE + AFTER {
         submit_bit(j, if i == BEFORE { bit } else { FREE_BIT }, i).expect("submit");
     }
-    (0..BEFORE).for_each(|i| drop(take(j, i, is_done)));
+    take_done(j, 0..BEFORE);
     take(j, BEFORE, met);
     for i in BEFORE + 1..=BEFORE + AFTER {
-        take(j, i, later);
-        if later == is_lost as IsWanted && i < BEFORE + AFTER {
+        let Answer { tag, result } = j.next_answer().expect("an answer");
+        assert!(tag == i && later(&result), "bit {bit}: {tag} for {i}, {result:?}");
+        if is_lost(&result) && i < BEFORE + AFTER {
             nothing_is_sent(j);
         }
     }
@@ -272,8 +279,18 @@ fn another_call_is_lost() {
             submit_bit(j, if i == BEFORE - 1 { 0 } else { FREE_BIT }, i).expect("submit");
         }
         assert!(matches!(j.stat(), Err(Error::Lost(_))));
-        (0..BEFORE).for_each(|i| drop(take(j, i, is_done)));
+        take_done(j, 0..BEFORE);
         commits(j);
+    });
+}
+
+#[test]
+fn another_call_after_an_answer_in_pieces() {
+    with_journal("JNL_FAULTY_SOCKET", |j| {
+        let before = commits(j);
+        submit_bit(j, 11, 1).expect("submit");
+        assert_eq!(commits(j), before + 1);
+        take(j, 1, is_done);
     });
 }
 

@@ -1,0 +1,189 @@
+"""Frames for a port that mean no good, and what their answers must be. The module of the step `fuzz`
+of check-clients."""
+
+import socket
+import struct
+from typing import NamedTuple
+
+HELLO, COMMIT, READ, FLUSH, STAT, STOP = range(6)
+LONGEST = 2097152
+# What docs/PROTOCOL.md says that a port answers. A disk that has not failed, in a session that has
+# not ended, in a service that was not stopped, answers no other.
+KNOWN = frozenset({0, 2, 3, 4, 64, 66, 67, 68, 69, 70})
+TOO_LONG = 68
+# How many bytes are behind an operation that was done, where that is always the same.
+BYTES_DONE = {HELLO: 12, COMMIT: 16, FLUSH: 8, STAT: 16}
+MOST_IN_BATCH = 40
+INTERESTING = (0, 1, 2, 5, 6, 7, 255, 4096, 4097, 32767, 32768, 1 << 31, (1 << 32) - 1)
+
+
+class Unexpected(Exception):
+    """The port answers what it must not."""
+
+
+class Frame(NamedTuple):
+    """Bytes, and whether they are a whole record, so that an answer is due."""
+
+    sent: bytes
+    is_whole: bool
+
+
+def framed(body):
+    return struct.pack(">I", len(body)) + body
+
+
+class Maker:
+    """Makes frames of a disk with so many blocks by random numbers."""
+
+    def __init__(self, random, blocks):
+        self.random = random
+        self.blocks = blocks
+
+    def frame(self):
+        """A frame that is good, mutated, random, or of a wrong length."""
+        kind = self.random.choices(("good", "mutated", "random", "wrong length"), (40, 40, 12, 8))[0]
+        body = self.good()
+        if kind == "mutated":
+            body = self.mutated(body)
+        elif kind == "random":
+            body = self.random.randbytes(self.random.choice((0, 1, 4, 8, 50, 2000)))
+        elif kind == "wrong length":
+            return Frame(struct.pack(">I", self.wrong_length(len(body))) + body, False)
+        return Frame(framed(body), True)
+
+    def wrong_length(self, right):
+        """Not much more than there is, or far too much."""
+        near = max(0, right + self.random.choice((-8, -4, -1, 1, 4, 40)))
+        return self.random.choice((near, near, LONGEST, LONGEST + 1, (1 << 32) - 1))
+
+    def good(self):
+        make = self.random.choice((self.hello, self.read, self.commit, self.commit, self.flush, self.stat))
+        return make()
+
+    def hello(self):
+        return struct.pack(">II", HELLO, 1)
+
+    def flush(self):
+        return struct.pack(">I", FLUSH)
+
+    def stat(self):
+        return struct.pack(">I", STAT)
+
+    def address(self):
+        """An object of the disk, and how many bytes its value has."""
+        kind = self.random.randrange(3)
+        if kind == 0:
+            return struct.pack(">QI", 514, self.random.randrange(32768)), 1
+        if kind == 1:
+            return struct.pack(">QI", self.random.randrange(515, 531), 1024 * self.random.randrange(32)), 128
+        return struct.pack(">QI", self.random.randrange(531, self.blocks), 0), 4096
+
+    def read(self):
+        count = self.random.choice((0, 1, 2, 17, 256))
+        return struct.pack(">II", READ, count) + b"".join(self.address()[0] for _ in range(count))
+
+    def part(self):
+        address, size = self.address()
+        value = self.random.randbytes(size) if size > 1 else bytes([self.random.randrange(2)])
+        action = self.random.choices((0, 1), (1, 4))[0]
+        return struct.pack(">I", action) + address + struct.pack(">I", size) + value + bytes(-size % 4)
+
+    def commit(self):
+        count = self.random.choice((0, 1, 2, 3, 9))
+        waits = self.random.random() < 0.05
+        return struct.pack(">III", COMMIT, waits, count) + b"".join(self.part() for _ in range(count))
+
+    def mutated(self, body):
+        """One to three words or bytes are others, or a piece is left out, doubled or cut off."""
+        changed = bytearray(body)
+        for _ in range(self.random.randrange(1, 4)):
+            at = self.random.randrange(len(changed) + 1)
+            act = self.random.randrange(5)
+            if act == 0:
+                word = at // 4 * 4
+                changed[word : word + 4] = struct.pack(">I", self.random.choice(INTERESTING))
+            elif act == 1:
+                changed[at : at + 1] = self.random.randbytes(1)
+            elif act == 2:
+                del changed[at : at + self.random.choice((1, 4, 12))]
+            elif act == 3:
+                changed[at:at] = changed[at : at + self.random.choice((4, 20))]
+            else:
+                del changed[at:]
+        return bytes(changed)
+
+    def batch(self):
+        """Frames up to the first one of a wrong length, behind which no record is where it seems,
+        and how many of their bytes are sent."""
+        frames = []
+        for _ in range(self.random.randrange(1, MOST_IN_BATCH)):
+            frames.append(self.frame())
+            if not frames[-1].is_whole:
+                break
+        size = sum(len(frame.sent) for frame in frames)
+        is_cut = self.random.random() < 0.1
+        return frames, self.random.randrange(size) if is_cut else size
+
+
+def check_answer(answer):
+    """Wants an answer that the protocol has. Answers its status."""
+    if len(answer) < 4:
+        raise Unexpected(f"an answer of {len(answer)} bytes")
+    status = int.from_bytes(answer[:4], "big")
+    if status not in KNOWN:
+        raise Unexpected(f"status {status}")
+    operation = int.from_bytes(answer[4:8], "big") if status == 0 else None
+    if operation is None and len(answer) != 4:
+        raise Unexpected(f"{len(answer)} bytes behind status {status}")
+    if operation is not None and (operation == STOP or operation > STOP):
+        raise Unexpected(f"operation {operation} was done")
+    wanted = BYTES_DONE.get(operation)
+    if wanted is not None and len(answer) != 8 + wanted:
+        raise Unexpected(f"{len(answer)} bytes answer operation {operation}")
+    return status
+
+
+def answers_of(stream):
+    """The answers in all that a port has sent."""
+    at = 0
+    while at < len(stream):
+        size = int.from_bytes(stream[at : at + 4], "big")
+        if len(stream) < at + 4 or len(stream) < at + 4 + size:
+            raise Unexpected("the last answer is cut")
+        yield stream[at + 4 : at + 4 + size]
+        at += 4 + size
+
+
+def check_answers(stream, whole, is_all_sent):
+    """Wants one answer to each record that is whole. Behind a frame of a wrong length there may be
+    more. Answers how many there were."""
+    statuses = [check_answer(answer) for answer in answers_of(stream)]
+    if TOO_LONG in statuses[:-1]:
+        raise Unexpected("the port reads on behind a record that is too long")
+    if len(statuses) < whole and TOO_LONG not in statuses:
+        raise Unexpected(f"{len(statuses)} answers to {whole} records")
+    if is_all_sent and len(statuses) > whole:
+        raise Unexpected(f"{len(statuses)} answers to {whole} records")
+    return len(statuses)
+
+
+def exchange(peer, sent):
+    """All that the port sends to some bytes and their end."""
+    found = bytearray()
+    peer.sendall(sent)
+    peer.shutdown(socket.SHUT_WR)
+    while piece := peer.recv(65536):
+        found += piece
+    return bytes(found)
+
+
+def try_batch(peer, maker):
+    """Sends a batch of frames over a new connection. Answers how many frames, and answers."""
+    frames, size = maker.batch()
+    sent = b"".join(frame.sent for frame in frames)[:size]
+    whole, at = 0, 0
+    for frame in frames:
+        at += len(frame.sent)
+        whole += frame.is_whole and at <= size
+    is_all_whole = all(frame.is_whole for frame in frames)
+    return len(frames), check_answers(exchange(peer, sent), whole, is_all_whole)
