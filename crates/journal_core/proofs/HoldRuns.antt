@@ -31,18 +31,21 @@ use Rattle.journal_parts.specs.Cores.{Leaves}
 use Rattle.journal_memory.specs.Fences.{AddsFence}
 use Rattle.journal_parts.specs.Durables.{DurableState, disk_of, Leaves as LeavesDurable}
 use Rattle.journal_memory.specs.Fetches.{FetchedState, IsFetched, IsBlockAfter}
+use Rattle.journal_memory.specs.declared.bit_scan.BitScan.{BitScan}
+use Rattle.journal_memory.specs.Bits.{found_bits}
 use Rattle.journal_memory.specs.Volatiles.{VolatileState, IsVolatile}
 use Rattle.journal_memory.specs.Transactions.{TransactionState, ReadResultState, begun}
 use Rattle.journal_parts.specs.Pairs.{IsMarkDue, MarksBoth, MarksAll}
 use Rattle.journal_parts.specs.Holds.{IsBetween, FetchesBlocks, AnswersFetch, AnswersGroupCall, AnswersHomeCall, MarksOrCuts, AnswersMarkOrCut, Trims, NotesFault}
 use Rattle.journal_memory.specs.VolatileHolds.{FindsInMemory, LacksBlock, RefusesRead, AnswersRead, CommitsInMemory, LacksBlocks, RefusesCommit, KeepsCopies, AnswersSession, FencesSession, AnswersFence, Stops}
 use Rattle.journal_core.specs.Outcomes.{Answer, Tells, TellsAll, HoldsImage, is_actor}
-use Rattle.journal_core.specs.Outcomes.Answer.{nothing, value, committed, marked, fenced, waited, imaged, crashed, reopened}
-use Rattle.journal_core.specs.TwoLocks.{Event, Parts, history_of, Mount, Machine, mounted, holds, with_parts, with_volatile, with_durable, with_transaction, with_slot, without_slot, with_fetched, ended, keeping, layout_of, BeginsApart, Ignores, BeginsTransaction, TakesSlot, GivesBackSlot, ReadsUnderSlot, OverwritesUnderSlot, Finishes, MakesFence, MarksOrCutsBoth, WaitsFor, Flushes, TakesImage, HappensUp, HappensDown, Happens, Run, HasHistory, IsUndisturbed, StaysFetched}
-use Rattle.journal_core.specs.TwoLocks.Event.{begins, takes, gives_back, reads, overwrites, aborts, copies, joins, fences, stops, waits, flushes, shows, fetches, logs, installs, marks_or_cuts, trims, notes, images, crashes, opens}
+use Rattle.journal_core.specs.Outcomes.Answer.{nothing, value, scanned, committed, marked, fenced, waited, imaged, crashed, reopened}
+use Rattle.journal_core.specs.TwoLocks.{Event, Parts, history_of, Mount, Machine, mounted, holds, with_parts, with_volatile, with_durable, with_transaction, with_slot, without_slot, with_fetched, ended, keeping, layout_of, BeginsApart, Ignores, BeginsTransaction, TakesSlot, GivesBackSlot, ReadsUnderSlot, ScansBits, OverwritesUnderSlot, Finishes, MakesFence, MarksOrCutsBoth, WaitsFor, Flushes, TakesImage, HappensUp, HappensDown, Happens, Run, HasHistory, IsUndisturbed, StaysFetched}
+use Rattle.journal_core.specs.TwoLocks.Event.{begins, takes, gives_back, reads, scans, overwrites, aborts, copies, joins, fences, stops, waits, flushes, shows, fetches, logs, installs, marks_or_cuts, trims, notes, images, crashes, opens}
 use Rattle.journal_core.specs.TwoLocks.Event.{commits as finishes}
 use Rattle.journal_core.specs.TwoLocks.Machine.{up, down}
 use Rattle.journal_core.proofs.Holding.{IsSound, begun_sound, sound_held, keeps_taken, keeps_given, keeps_without, sound_without, sound_marked, sound_fenced, sound_committed, sound_read, sound_overwritten, is_holder}
+use Rattle.journal_memory.proofs.Scanning.{bits_found}
 use Rattle.journal_memory.proofs.Fronts.{at-layout, at-longer, count-longer, trusted-longer}
 use Rattle.journal_parts.proofs.Pairing.{begins_not, leaves_history, made_in}
 use Rattle.journal_parts.proofs.Between.{between_fetch, between_group, between_home, between_mark_or_cut, between_trimmed, between_noted, between_commit, between_roomed, between_copied, between_counted, between_fenced, fetch_honest, group_honest, home_honest, mark_or_cut_honest}
@@ -287,6 +290,7 @@ module _ (rule : Map → Type 0) where
               (subst (λ (h : List Entry). IsSound h m.holders actor after) (sym same) sound),
         );
       })
+  goes-reads m actor a (Some t) true (scanned s bits) new it is at holder = absurd it
   goes-reads m actor a (Some t) true (committed u) new it is at holder = absurd it
   goes-reads m actor a (Some t) true (marked n) new it is at holder = absurd it
   goes-reads m actor a (Some t) true (fenced s) new it is at holder = absurd it
@@ -294,6 +298,25 @@ module _ (rule : Map → Type 0) where
   goes-reads m actor a (Some t) true (imaged other) new it is at holder = absurd it
   goes-reads m actor a (Some t) true crashed new it is at holder = absurd it
   goes-reads m actor a (Some t) true reopened new it is at holder = absurd it
+
+  -- a scan leaves all, and the bits of the copy are the map's
+  goes-scans : (m : Mount) (s : BitScan) (answer : Answer) (new : Machine) → ScansBits m s answer new → IsUp rule m → Goes rule (history_of m.parts) answer new
+  goes-scans m s nothing new it is = silent (history_of m.parts) m nothing new refl it.1.1.1.1.2 refl is
+  goes-scans m s (scanned asked bits) new it is =
+      let m_now : Map = latest (history_of m.parts) in
+      subst (λ (x : Machine). Goes rule (history_of m.parts) (scanned asked bits) x) (sym it.1.1.1.3) (record {
+        history = history_of m.parts;
+        tells = (it.1.1.1.2 ∙ bits_found m_now s it.1.1.1.0 (it.1.1.1.1.bits is.runs.trusted) ∙ ap (found_bits m_now) (sym it.0), refl);
+        holds = (refl, is);
+      })
+  goes-scans m s (value a v) new it is = absurd it
+  goes-scans m s (committed t) new it is = absurd it
+  goes-scans m s (marked n) new it is = absurd it
+  goes-scans m s (fenced session) new it is = absurd it
+  goes-scans m s (waited k) new it is = absurd it
+  goes-scans m s (imaged other) new it is = absurd it
+  goes-scans m s crashed new it is = absurd it
+  goes-scans m s reopened new it is = absurd it
 
   goes-overwrites : (m : Mount) (actor : ℕ) (p : Pair) (draft : Option TransactionState) (held : Bool) (answer : Answer) (new : Machine)
       → OverwritesUnderSlot m actor p draft held answer new → IsUp rule m → m.transactions actor ≡ draft → holds m actor p.0 ≡ held → Goes rule (history_of m.parts) answer new
@@ -363,6 +386,7 @@ module _ (rule : Map → Type 0) where
         );
       }))
   goes-finishes m actor (Some d) (value a v) new it is at = absurd it
+  goes-finishes m actor (Some d) (scanned s bits) new it is at = absurd it
   goes-finishes m actor (Some d) (marked n) new it is at = absurd it
   goes-finishes m actor (Some d) (fenced s) new it is at = absurd it
   goes-finishes m actor (Some d) (waited k) new it is at = absurd it
@@ -406,6 +430,7 @@ module _ (rule : Map → Type 0) where
         );
       })
   goes-fences m session (value a v) new it is = absurd it
+  goes-fences m session (scanned asked bits) new it is = absurd it
   goes-fences m session (committed t) new it is = absurd it
   goes-fences m session (marked n) new it is = absurd it
   goes-fences m session (waited k) new it is = absurd it
@@ -475,6 +500,7 @@ module _ (rule : Map → Type 0) where
       (mark_or_cut_honest (layout_of m) m.parts.volatile m.parts.durable w e it.0 it.1.1.1) it.1.1.2
   goes-marks_or_cuts m (marked n) new it is = goes-marked m n it.0 it.1.0 new it.1.1 it.1.2 is
   goes-marks_or_cuts m (value a v) new it is = absurd it
+  goes-marks_or_cuts m (scanned asked bits) new it is = absurd it
   goes-marks_or_cuts m (committed t) new it is = absurd it
   goes-marks_or_cuts m (fenced s) new it is = absurd it
   goes-marks_or_cuts m (waited k) new it is = absurd it
@@ -490,6 +516,7 @@ module _ (rule : Map → Type 0) where
     holds = (refl, is);
   })
   goes-waits m n (value a v) new it is = absurd it
+  goes-waits m n (scanned asked bits) new it is = absurd it
   goes-waits m n (committed t) new it is = absurd it
   goes-waits m n (marked j) new it is = absurd it
   goes-waits m n (fenced s) new it is = absurd it
@@ -505,6 +532,7 @@ module _ (rule : Map → Type 0) where
     holds = (refl, is);
   })
   goes-flushes m (value a v) new it is = absurd it
+  goes-flushes m (scanned asked bits) new it is = absurd it
   goes-flushes m (committed t) new it is = absurd it
   goes-flushes m (marked j) new it is = absurd it
   goes-flushes m (fenced s) new it is = absurd it
@@ -520,6 +548,7 @@ module _ (rule : Map → Type 0) where
     holds = (refl, is);
   })
   goes-images m image (value a v) new it is = absurd it
+  goes-images m image (scanned asked bits) new it is = absurd it
   goes-images m image (committed t) new it is = absurd it
   goes-images m image (marked j) new it is = absurd it
   goes-images m image (fenced s) new it is = absurd it
@@ -563,6 +592,7 @@ module _ (rule : Map → Type 0) where
   goes-up m (gives_back actor slot) answer new it is =
       goes-gives-back rule m actor slot (m.transactions actor) (is_actor (m.holders slot) actor) answer new it is refl refl
   goes-up m (reads actor a) answer new it is = goes-reads rule m actor a (m.transactions actor) (holds m actor a) answer new it is refl refl
+  goes-up m (scans s) answer new it is = goes-scans rule m s answer new it is
   goes-up m (overwrites actor a v) answer new it is = goes-overwrites rule m actor (a, v) (m.transactions actor) (holds m actor a) answer new it is refl refl
   goes-up m (aborts actor) answer new it is = silent rule (history_of m.parts) (ended m actor) answer new it.0 it.1 refl (has_ended rule m actor is)
   goes-up m (finishes actor) answer new it is = goes-finishes rule m actor (m.transactions actor) answer new it is refl
@@ -631,6 +661,7 @@ module _ (rule : Map → Type 0) where
       })
   goes-opens layout image m nothing new it on_disk holds = stays-down layout image m nothing new on_disk holds it.0 it.1
   goes-opens layout image m (value a v) new it on_disk holds = stays-down layout image m (value a v) new on_disk holds it.0 it.1
+  goes-opens layout image m (scanned s bits) new it on_disk holds = stays-down layout image m (scanned s bits) new on_disk holds it.0 it.1
   goes-opens layout image m (committed t) new it on_disk holds = stays-down layout image m (committed t) new on_disk holds it.0 it.1
   goes-opens layout image m (marked n) new it on_disk holds = stays-down layout image m (marked n) new on_disk holds it.0 it.1
   goes-opens layout image m (fenced s) new it on_disk holds = stays-down layout image m (fenced s) new on_disk holds it.0 it.1
@@ -645,6 +676,7 @@ module _ (rule : Map → Type 0) where
   goes-down layout image m (takes actor slot) answer new it on_disk holds = stays-down layout image m answer new on_disk holds it.0 it.1
   goes-down layout image m (gives_back actor slot) answer new it on_disk holds = stays-down layout image m answer new on_disk holds it.0 it.1
   goes-down layout image m (reads actor a) answer new it on_disk holds = stays-down layout image m answer new on_disk holds it.0 it.1
+  goes-down layout image m (scans s) answer new it on_disk holds = stays-down layout image m answer new on_disk holds it.0 it.1
   goes-down layout image m (overwrites actor a v) answer new it on_disk holds = stays-down layout image m answer new on_disk holds it.0 it.1
   goes-down layout image m (aborts actor) answer new it on_disk holds = stays-down layout image m answer new on_disk holds it.0 it.1
   goes-down layout image m (finishes actor) answer new it on_disk holds = stays-down layout image m answer new on_disk holds it.0 it.1

@@ -35,7 +35,7 @@ use Rattle.journal_core.specs.Interleavings.{Event, Mount, Machine, mounted, hol
 use Rattle.journal_core.specs.Outcomes.{Answer, Tells, TellsAll, HoldsImage}
 use Rattle.journal_core.specs.Interleavings.Event.{begins, takes, reads, overwrites, aborts, fetches, joins, fences, stops, logs, installs, crashes, opens}
 use Rattle.journal_core.specs.Interleavings.Event.{commits as finishes}
-use Rattle.journal_core.specs.Outcomes.Answer.{nothing, value, committed, marked, fenced, waited, imaged, crashed, reopened}
+use Rattle.journal_core.specs.Outcomes.Answer.{nothing, value, scanned, committed, marked, fenced, waited, imaged, crashed, reopened}
 use Rattle.journal_core.specs.Interleavings.Machine.{up, down}
 use Rattle.journal_core.proofs.Holding.{IsSound, begun_sound, sound_held, keeps_taken, keeps_given, sound_marked, sound_fenced, sound_committed, sound_read, sound_overwritten, is_holder}
 use Rattle.journal_parts.specs.Cores.{disk_of}
@@ -268,6 +268,7 @@ module _ (rule : Map → Type 0) where
   goes-reads m actor a (Some t) true (fenced s) new it is at holder = absurd it
   goes-reads m actor a (Some t) true (waited k) new it is at holder = absurd it
   goes-reads m actor a (Some t) true (imaged other) new it is at holder = absurd it
+  goes-reads m actor a (Some t) true (scanned asked bits) new it is at holder = absurd it
   goes-reads m actor a (Some t) true crashed new it is at holder = absurd it
   goes-reads m actor a (Some t) true reopened new it is at holder = absurd it
 
@@ -327,6 +328,7 @@ module _ (rule : Map → Type 0) where
   goes-finishes m actor (Some d) (fenced s) new it is at = absurd it
   goes-finishes m actor (Some d) (waited k) new it is at = absurd it
   goes-finishes m actor (Some d) (imaged other) new it is at = absurd it
+  goes-finishes m actor (Some d) (scanned asked bits) new it is at = absurd it
   goes-finishes m actor (Some d) crashed new it is at = absurd it
   goes-finishes m actor (Some d) reopened new it is at = absurd it
 
@@ -366,6 +368,7 @@ module _ (rule : Map → Type 0) where
   goes-fences m session (marked n) new it is = absurd it
   goes-fences m session (waited k) new it is = absurd it
   goes-fences m session (imaged other) new it is = absurd it
+  goes-fences m session (scanned asked bits) new it is = absurd it
   goes-fences m session crashed new it is = absurd it
   goes-fences m session reopened new it is = absurd it
 
@@ -393,6 +396,7 @@ module _ (rule : Map → Type 0) where
   goes-logs m (fenced s) new it is = absurd it
   goes-logs m (waited k) new it is = absurd it
   goes-logs m (imaged other) new it is = absurd it
+  goes-logs m (scanned asked bits) new it is = absurd it
   goes-logs m crashed new it is = absurd it
   goes-logs m reopened new it is = absurd it
 
@@ -524,6 +528,7 @@ module _ (rule : Map → Type 0) where
   goes-opens layout image m (fenced s) new it on_disk holds = stays-down layout image m (fenced s) new on_disk holds it.0 it.1
   goes-opens layout image m (waited k) new it on_disk holds = stays-down layout image m (waited k) new on_disk holds it.0 it.1
   goes-opens layout image m (imaged other) new it on_disk holds = stays-down layout image m (imaged other) new on_disk holds it.0 it.1
+  goes-opens layout image m (scanned asked bits) new it on_disk holds = stays-down layout image m (scanned asked bits) new on_disk holds it.0 it.1
   goes-opens layout image m crashed new it on_disk holds = stays-down layout image m crashed new on_disk holds it.0 it.1
 
   goes-down : (layout : Shape) (image : List Bytes) (m : Map) (event : Event) (answer : Answer) (new : Machine) → HappensDown rule layout image event answer new → m.layout ≡ layout → OpensAs m image

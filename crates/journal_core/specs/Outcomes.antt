@@ -9,14 +9,17 @@ use Rattle.journal_block.specs.Block.{Bytes}
 use Rattle.journal_disk.specs.Disks.{Past, DiskState, IsSettled}
 use Rattle.journal_disk.specs.Images.{IsImage}
 use Rattle.journal_disk.specs.Moments.{Extends}
+use Rattle.journal_memory.specs.declared.bit_scan.BitScan.{BitScan}
+use Rattle.journal_memory.specs.Bits.{found_bits}
 use Rattle.journal_parts.specs.Cores.{Leaves}
 
--- What is answered: a value, a commit, a mark, a fence, that so many commits are marked, an image
--- of the disk, or nothing, where nothing is asked or it is refused; that the mount ended by a
--- crash, and that the next one began
+-- What is answered: a value, the numbers of bits, a commit, a mark, a fence, that so many commits
+-- are marked, an image of the disk, or nothing, where nothing is asked or it is refused; that the
+-- mount ended by a crash, and that the next one began
 pub data Answer : Type 0 where
   nothing : Answer
   value : Addr → Value → Answer
+  scanned : BitScan → List ℕ → Answer
   committed : Transaction → Answer
   marked : ℕ → Answer
   fenced : ℕ → Answer
@@ -29,13 +32,14 @@ pub data Answer : Type 0 where
 abbrev pub AddsEntry : (Map → Type 0) → List Entry → Entry → List Entry → Type 0
 AddsEntry rule old e new = Follows old e × IsTrueTo rule old e × (new ≡ old ++ e ∷ [])
 
--- What an answer tells of the history: a value is what its last map gives; a commit, a mark or a
--- fence is one entry more; so many commits are marked; an image opens as the map after some
--- commits, no fewer than the greatest mark; a crash leaves such a map, and the next history begins
--- with it
+-- What an answer tells of the history: a value is what its last map gives, and the bits that were
+-- asked for are those that this map has; a commit, a mark or a fence is one entry more; so many
+-- commits are marked; an image opens as the map after some commits, no fewer than the greatest
+-- mark; a crash leaves such a map, and the next history begins with it
 abbrev pub Tells : (Map → Type 0) → List Entry → Answer → List Entry → Type 0
 Tells rule old nothing new = new ≡ old
 Tells rule old (value a v) new = (v ≡ value_at (latest old) a) × (new ≡ old)
+Tells rule old (scanned s bits) new = (bits ≡ found_bits (latest old) s) × (new ≡ old)
 Tells rule old (committed t) new = AddsEntry rule old (commit t) new
 Tells rule old (marked n) new = AddsEntry rule old (stable n) new
 Tells rule old (fenced s) new = AddsEntry rule old (fence s) new

@@ -26,17 +26,19 @@ use Rattle.journal_memory.specs.Ledgers.{IsBehind}
 use Rattle.journal_memory.specs.Fences.{AddsFence}
 use Rattle.journal_parts.specs.Durables.{DurableState, Crashes, disk_of}
 use Rattle.journal_memory.specs.Fetches.{FetchedState, IsBlockAfter}
+use Rattle.journal_memory.specs.declared.bit_scan.BitScan.{BitScan}
+use Rattle.journal_memory.specs.Bits.{bits_in}
 use Rattle.journal_memory.specs.Volatiles.{VolatileState, IsFrontRefusal}
 use Rattle.journal_parts.specs.Openings.{Begins}
 use Rattle.journal_parts.specs.Holds.{IsBetween, AnswersFetch, AnswersGroupCall, AnswersHomeCall, MarksOrCuts, AnswersMarkOrCut, Trims, NotesFault, ShowsDisk, RefusesDisk}
-use Rattle.journal_memory.specs.VolatileHolds.{FindsInMemory, AnswersRead, CommitsInMemory, LacksBlocks, RefusesCommit, KeepsCopies, AnswersSession, FencesSession, AnswersFence, Stops, AnswersWait, AnswersFlush, AnswersShow}
+use Rattle.journal_memory.specs.VolatileHolds.{FindsInMemory, AnswersRead, FindsBits, AnswersScan, CommitsInMemory, LacksBlocks, RefusesCommit, KeepsCopies, AnswersSession, FencesSession, AnswersFence, Stops, AnswersWait, AnswersFlush, AnswersShow}
 use Rattle.journal_core.specs.Outcomes.{Answer, TellsAll, IsLeftBetween, HoldsImage, is_actor}
-use Rattle.journal_core.specs.Outcomes.Answer.{nothing, value, committed, marked, fenced, waited, imaged, crashed, reopened}
+use Rattle.journal_core.specs.Outcomes.Answer.{nothing, value, scanned, committed, marked, fenced, waited, imaged, crashed, reopened}
 
--- An event. Of memory alone: a transaction begins, an object is read, a transaction is committed,
--- copies are kept of blocks that are at home, a session is asked for, a session is fenced, all is
--- stopped, a session asks whether so many commits are marked, or whether all are that it has seen,
--- or is shown the history. Of the disk alone: blocks are fetched, the device call is made that is
+-- An event. Of memory alone: a transaction begins, an object is read, a block of bits is scanned, a
+-- transaction is committed, copies are kept of blocks that are at home, a session is asked for, a
+-- session is fenced, all is stopped, a session asks whether so many commits are marked, or whether
+-- all are that it has seen, or is shown the history. Of the disk alone: blocks are fetched, the device call is made that is
 -- due of the group in flight, the installer's next is. Of both: what is due where no device call
 -- is, what is at home is dropped from memory up to a position, a fault is noted, an image is taken
 -- of the disk. Slots are taken and given back, and objects overwritten, under no lock. A close
@@ -46,6 +48,7 @@ pub data Event : Type 0 where
   takes : ℕ → ℕ → Event
   gives_back : ℕ → ℕ → Event
   reads : ℕ → Addr → Event
+  scans : BitScan → Event
   overwrites : ℕ → Addr → Value → Event
   aborts : ℕ → Event
   commits : ℕ → Event
@@ -175,6 +178,17 @@ ReadsUnderSlot old actor a (Some draft) true (value b x) new =
     × (new ≡ up (with_transaction (with_volatile old w) actor (Some after))))))
 ReadsUnderSlot old actor a (Some draft) true other new = ⊥
 
+-- a block of bits is copied for a session, with no slot and for no transaction, and the bits of the
+-- copy that are asked for are answered. Else nothing is answered, and either way all stays as it is
+abbrev pub ScansBits : Mount → BitScan → Answer → Machine → Type 0
+ScansBits old s nothing new =
+    (session : SessionState) × ((after : SessionState) × ((f : FetchedState) × ((r : Result Bool (Refusal CauseState)) × ((copy : Bytes)
+    × AnswersScan (layout_of old) old.parts.volatile session s f r copy after × (new ≡ up old)))))
+ScansBits old s (scanned asked bits) new =
+    (asked ≡ s) × ((session : SessionState) × ((after : SessionState) × ((copy : Bytes) × FindsBits (layout_of old) old.parts.volatile session s copy after
+    × (bits ≡ bits_in copy s) × (new ≡ up old))))
+ScansBits old s other new = ⊥
+
 -- an object is remembered under its slot, or the overwrite is refused; no part is asked
 abbrev pub OverwritesUnderSlot : Mount → ℕ → Pair → Option TransactionState → Bool → Answer → Machine → Type 0
 OverwritesUnderSlot old actor p None held answer new = Ignores old answer new
@@ -258,6 +272,7 @@ HappensUp old (begins actor) answer new = BeginsTransaction old actor (old.trans
 HappensUp old (takes actor slot) answer new = TakesSlot old actor slot (old.transactions actor) (old.holders slot) answer new
 HappensUp old (gives_back actor slot) answer new = GivesBackSlot old actor slot (old.transactions actor) (is_actor (old.holders slot) actor) answer new
 HappensUp old (reads actor a) answer new = ReadsUnderSlot old actor a (old.transactions actor) (holds old actor a) answer new
+HappensUp old (scans s) answer new = ScansBits old s answer new
 HappensUp old (overwrites actor a v) answer new = OverwritesUnderSlot old actor (a, v) (old.transactions actor) (holds old actor a) answer new
 HappensUp old (aborts actor) answer new = (answer ≡ nothing) × (new ≡ up (ended old actor))
 HappensUp old (commits actor) answer new = Finishes old actor (old.transactions actor) answer new

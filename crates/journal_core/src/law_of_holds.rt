@@ -13,8 +13,8 @@ use journal_world::MapRule;
 
 /// Transactions of any number of actors, and the holds of two locks that threads make for them: a
 /// hold of memory alone, of the disk alone with at most one device call that changes the disk, or
-/// of both. A hold makes one event, or two, one right after the other: it reads, or commits what
-/// was fetched, and then notes which copies were used. Crashes at any moment of any call, and
+/// of both. A hold makes one event, or two, one right after the other: it reads, scans, or commits
+/// what was fetched, and then notes which copies were used. Crashes at any moment of any call, and
 /// openings, come between them in any order, on a disk that is honest and is opened by one layout.
 ///
 /// The answers are those of one history, as `every_interleaving` says of the steps of one thread. A

@@ -1,5 +1,5 @@
 -- What a hold answers, as one event, from what it promises by itself.
-use Rattle.std.proofs.Common.{◌≡◌, ◌≤◌, ◌+◌, ◌↔◌, ⊎_elim, ℕ, Bool, true, false, IsTrue, IsSome, IfSome, Some, None, Option, Result, Ok, Err, IfOk, IfErr, OnOk, OnErr, [], refl}
+use Rattle.std.proofs.Common.{◌≡◌, ◌≤◌, ◌+◌, ◌↔◌, ⊎_elim, ℕ, Bool, true, false, IsTrue, IsSome, IfSome, Some, None, Option, Result, Ok, Err, IfOk, IfErr, OnOk, OnErr, [], inr, refl}
 use Rattle.std.proofs.lemmas.Bool.{false≢true}
 use Rattle.std.proofs.Math.Nat.{lt_of_not-le}
 use Rattle.journal_world.specs.declared.address.Addr.{Addr}
@@ -7,6 +7,8 @@ use Rattle.journal_world.specs.declared.refusal.Refusal.{Refusal}
 use Rattle.journal_world.specs.Addresses.{Value, Shape}
 use Rattle.journal_world.specs.Maps.{Agrees, value_at, is_object}
 use Rattle.journal_world.specs.Histories.{is_trusted, is_fenced, commits_of, latest, count, floor}
+use Rattle.journal_block.specs.Block.{Bytes}
+use Rattle.journal_block.specs.Updates.{updates_block}
 use Rattle.journal_tail.specs.ObjectTails.{known_at, known_updates, missing_blocks}
 use Rattle.journal_history.specs.Tokens.{SessionState, CommitPlace, IsExact, OnlyExtends}
 use Rattle.journal_memory.specs.declared.volatile_commit.CommitStep.{CommitStep}
@@ -18,9 +20,12 @@ use Rattle.journal_memory.specs.Outsets.{MayRead, CanCommit, IsCommitRefusal, Go
 use Rattle.journal_memory.specs.Waits.{MayWait, IsWaitRefusal, IsFlushRefusal}
 use Rattle.journal_memory.specs.Transactions.{TransactionState, ReadResultState}
 use Rattle.journal_memory.specs.Fetches.{FetchedState}
-use Rattle.journal_memory.specs.Volatiles.{VolatileState, IsVolatile, IsReadRefusal, outset_of, usable}
+use Rattle.journal_memory.specs.Volatiles.{VolatileState, IsVolatile, IsReadRefusal, IsFrontRefusal, outset_of, usable}
 use Rattle.journal_memory.specs.VolatileCommits.{IsCommitted, IfDone, IfMissing, with_room}
-use Rattle.journal_memory.specs.VolatileHolds.{AnswersRead, AnswersCommit, AnswersSession, AnswersFence, LacksMark, AnswersWait, AnswersFlush, AnswersShow}
+use Rattle.journal_memory.specs.declared.bit_scan.BitScan.{BitScan}
+use Rattle.journal_memory.specs.Bits.{AreBitsOf}
+use Rattle.journal_memory.specs.Scans.{MayScan}
+use Rattle.journal_memory.specs.VolatileHolds.{AnswersRead, AnswersScan, AnswersCommit, AnswersSession, AnswersFence, LacksMark, AnswersWait, AnswersFlush, AnswersShow}
 
 module _ (n : Shape) (old new : VolatileState) where
   pub answers_read : (t : TransactionState) (a : Addr) (f : FetchedState) (r : Result (Option ReadResultState) (Refusal CauseState)) (x : Value) → new ≡ old
@@ -69,6 +74,26 @@ module _ (n : Shape) (old new : VolatileState) where
       → new ≡ record old { ledger = new.ledger } → IfErr r (IsFenceRefusal session (outset_of old)) → OnErr r (new ≡ old) → AnswersFence n session old r new
   answers_fence_in session (Ok done) kept did others refusal same = record { did = did; others = others; kept = kept }
   answers_fence_in session (Err why) kept did others refusal same = record { refusal = refusal; same = same }
+
+-- a scan, once it was checked
+pub answers_scan : (n : Shape) (v : VolatileState) (session after : SessionState) (s : BitScan) (f : FetchedState) (r : Result Bool (Refusal CauseState)) (copy : Bytes)
+    → MayScan n (outset_of v) session s
+    → (IsTrue (is_trusted v.ledger.history) → IfOk r (λ found. IsTrue found → AreBitsOf (latest v.ledger.history) s.block copy))
+    → IfOk r (λ found. found ≡ false → updates_block (known_updates (usable v f) v.tail) s.block ≡ false)
+    → IfOk r (λ found. IsTrue found → after.seen ≡ v.ledger.history) → OnlyExtends session after → IfOk r (λ found. found ≡ false → after ≡ session)
+    → OnErr r (after ≡ session) → IfErr r (IsFrontRefusal v.ledger.history f.front) → AnswersScan n v session s f r copy after
+answers_scan n v session after s f (Ok true) copy may bits lacks shown extends stays same refusal = record {
+  may = may;
+  bits = λ trusted. bits trusted refl;
+  shown = shown refl;
+  extends = extends;
+}
+answers_scan n v session after s f (Ok false) copy may bits lacks shown extends stays same refusal = record {
+  may = may;
+  lacks = lacks refl;
+  stays = stays refl;
+}
+answers_scan n v session after s f (Err why) copy may bits lacks shown extends stays same refusal = record { refusal = inr (may, refusal); stays = same }
 
 module _ (v : VolatileState) (s after : SessionState) where
   lacks : (n : ℕ) → (n ≤ floor v.ledger.history → ⊥) → MayWait (outset_of v) n → LacksMark v n

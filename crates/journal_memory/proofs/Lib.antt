@@ -13,3 +13,4 @@ pub mod Fetching
 pub mod Fencing
 pub mod Fenced
 pub mod Beginning
+pub mod Scanning

@@ -12,4 +12,6 @@ pub mod Updates
 pub mod Fetches
 pub mod Volatiles
 pub mod VolatileCommits
+pub mod Bits
+pub mod Scans
 pub mod VolatileHolds

@@ -5,6 +5,8 @@ use Rattle.journal_world.specs.declared.refusal.Refusal.{Refusal}
 use Rattle.journal_world.specs.Addresses.{Value, Shape}
 use Rattle.journal_world.specs.Maps.{Agrees, value_at, is_object}
 use Rattle.journal_world.specs.Histories.{is_trusted, latest, count, floor, commits_of, is_fenced}
+use Rattle.journal_block.specs.Block.{Bytes}
+use Rattle.journal_block.specs.Updates.{updates_block}
 use Rattle.journal_tail.specs.ObjectTails.{known_at, known_updates, missing_blocks}
 use Rattle.journal_history.specs.Tokens.{SessionState, CommitPlace, IsExact, OnlyExtends}
 use Rattle.journal_memory.specs.declared.volatile_commit.CommitStep.{CommitStep}
@@ -18,6 +20,9 @@ use Rattle.journal_memory.specs.Waits.{IsWaitRefusal, IsFlushRefusal}
 use Rattle.journal_memory.specs.Fetches.{FetchedState}
 use Rattle.journal_memory.specs.Volatiles.{VolatileState, IsVolatile, IsReadRefusal, outset_of, usable}
 use Rattle.journal_memory.specs.VolatileCommits.{IsCommitted, with_room}
+use Rattle.journal_memory.specs.declared.bit_scan.BitScan.{BitScan}
+use Rattle.journal_memory.specs.Bits.{AreBitsOf}
+use Rattle.journal_memory.specs.Scans.{MayScan, IsScanRefusal}
 
 -- An object was read in memory
 pub record FindsInMemory (layout : Shape) (old : VolatileState) (t : TransactionState) (a : Addr) (answer : ReadResultState) (x : Value) (new : VolatileState) : Type 0 where
@@ -43,6 +48,31 @@ abbrev pub AnswersRead : Shape → VolatileState → TransactionState → Addr �
 AnswersRead layout old t a f (Ok (Some found)) x new = FindsInMemory layout old t a found x new
 AnswersRead layout old t a f (Ok None) x new = LacksBlock layout old t a f new
 AnswersRead layout old t a f (Err why) x new = RefusesRead layout old t a f why new
+
+-- A block of bits was copied, and its session has then seen the whole history
+pub record FindsBits (layout : Shape) (v : VolatileState) (session : SessionState) (s : BitScan) (copy : Bytes) (after : SessionState) : Type 0 where
+  pub may : MayScan layout (outset_of v) session s
+  pub bits : IsTrue (is_trusted v.ledger.history) → AreBitsOf (latest v.ledger.history) s.block copy
+  pub shown : after.seen ≡ v.ledger.history
+  pub extends : OnlyExtends session after
+
+-- or it is to be fetched
+pub record LacksBits (layout : Shape) (v : VolatileState) (session : SessionState) (s : BitScan) (f : FetchedState) (after : SessionState) : Type 0 where
+  pub may : MayScan layout (outset_of v) session s
+  pub lacks : updates_block (known_updates (usable v f) v.tail) s.block ≡ false
+  pub stays : after ≡ session
+
+-- or that was refused
+pub record RefusesScan (layout : Shape) (v : VolatileState) (session : SessionState) (s : BitScan) (f : FetchedState) (why : Refusal CauseState) (after : SessionState) : Type 0 where
+  pub refusal : IsScanRefusal layout v session s f why
+  pub stays : after ≡ session
+
+-- what is answered, with what was fetched before, where these bytes were copied. The part stays as
+-- it is
+abbrev pub AnswersScan : Shape → VolatileState → SessionState → BitScan → FetchedState → Result Bool (Refusal CauseState) → Bytes → SessionState → Type 0
+AnswersScan layout v session s f (Ok true) copy after = FindsBits layout v session s copy after
+AnswersScan layout v session s f (Ok false) copy after = LacksBits layout v session s f after
+AnswersScan layout v session s f (Err why) copy after = RefusesScan layout v session s f why after
 
 -- The session's next transaction was committed in memory, as it is
 pub record CommitsInMemory (layout : Shape) (old : VolatileState) (session : SessionState) (t : TransactionState) (new : VolatileState) (after : SessionState) : Type 0 where

@@ -5,6 +5,7 @@
 //!   Ledger       the history, with the counts of each session and slot, the marks and the fences
 //!   Transaction  what an open transaction has read and overwritten
 //!   Fetched      blocks as they are logged, which the part with the disk reads
+//!   BitScan      asks for the bits of a block that have a value
 //!
 //! A call of `Volatile` with a clause `event` is a hold of the memory lock alone, and the clause
 //! says what it did (`specs/VolatileHolds.antt`). A wait and a flush change no part, as their
@@ -12,6 +13,7 @@
 //! with the disk keeps the key to itself.
 #![tactic(auto)]
 
+mod bit_scan;
 mod cause;
 mod fenced_sessions;
 mod fetched;
@@ -34,8 +36,10 @@ mod volatile_commit;
 mod volatile_cut;
 mod volatile_fence;
 mod volatile_read;
+mod volatile_scan;
 mod volatile_wait;
 
+pub use bit_scan::BitScan;
 pub use cause::Cause;
 pub use fetched::{Fetched, fetch_buffers};
 pub use journal_tail::Spares;

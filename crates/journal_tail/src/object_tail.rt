@@ -89,8 +89,9 @@ impl ObjectTail {
         Ok(true)
     }
 
-    // The block as memory has it, or where memory does not know it, as the fetched blocks have it.
-    pub(crate) fn get<'a>(&'a self, fetched: &'a [Update], block: u64) -> Option<&'a Block>
+    /// The block as memory has it, or where memory does not know it, as the fetched blocks have it.
+    /// Answers none where it is to be fetched.
+    pub fn get<'a>(&'a self, fetched: &'a [Update], block: u64) -> Option<&'a Block>
         ensures found { is_some result ≡ updates_block (known_updates fetched.now self.now) block }
         ensures content { IfSome result (λ found. updated (known_updates fetched.now self.now) block [] ≡ found.now) }
     {

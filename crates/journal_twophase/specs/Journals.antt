@@ -1,7 +1,7 @@
 -- What contracts see of a journal that threads share, and why it refuses what is no transaction's.
-use Rattle.std.specs.Prelude.{ℕ, ◌≡◌, IsTrue, List, [], ◌∷◌}
+use Rattle.std.specs.Prelude.{ℕ, ◌≡◌, false, IsTrue, List, [], ◌∷◌}
 use Rattle.journal_world.specs.declared.refusal.Refusal.{Refusal}
-use Rattle.journal_world.specs.declared.refusal.Refusal.TheVariants.{NoMemory, DeviceFailed, Stale, Worn, Closed}
+use Rattle.journal_world.specs.declared.refusal.Refusal.TheVariants.{NoMemory, BadAddress, DeviceFailed, Stale, Worn, Closed}
 use Rattle.journal_world.specs.Addresses.{Shape}
 use Rattle.journal_world.specs.Maps.{Map, are_objects}
 use Rattle.journal_world.specs.Histories.{Entry, opened, is_trusted, IsLegal}
@@ -10,6 +10,8 @@ use Rattle.journal_disk.specs.Disks.{DiskState}
 use Rattle.journal_history.specs.Soundness.{IsSound}
 use Rattle.journal_memory.specs.declared.refusal_number.RefusalNumber.{RefusalNumber}
 use Rattle.journal_memory.specs.declared.refusal_number.RefusalNumber.TheVariants.{J6, J9, J11, J13}
+use Rattle.journal_memory.specs.declared.bit_scan.BitScan.{BitScan}
+use Rattle.journal_memory.specs.Bits.{is_scan}
 use Rattle.journal_memory.specs.Causes.{CauseState, IsUnexplained, IsExplained}
 use Rattle.journal_parts.specs.Openings.{HoldsMap, HasSize}
 
@@ -46,6 +48,15 @@ IsShown number cause = (history : List Entry) × IsExplained number history caus
 abbrev pub IsSessionRefusal : Refusal CauseState → Type 0
 IsSessionRefusal (Worn cause) = IsUnexplained J11 cause
 IsSessionRefusal other = ⊥
+
+-- why no bits of a block are answered
+abbrev pub IsScanRefusal : Shape → BitScan → Refusal CauseState → Type 0
+IsScanRefusal layout s (Closed cause) = IsUnexplained J13 cause
+IsScanRefusal layout s (DeviceFailed cause) = IsUnexplained J6 cause
+IsScanRefusal layout s BadAddress = is_scan layout s ≡ false
+IsScanRefusal layout s (Stale cause) = IsTrue (is_scan layout s) × IsShown J9 cause
+IsScanRefusal layout s NoMemory = IsTrue (is_scan layout s)
+IsScanRefusal layout s other = ⊥
 
 -- why a session is not fenced
 abbrev pub IsFenceRefusal : Refusal CauseState → Type 0

@@ -242,7 +242,7 @@ impl<'b, D: BlockDisk, R: MapRule, J: Naming> LockedParts<'b, D, R, J> {
 
     // Reads blocks as they are logged. Answers J1, and J6 where the device failed in this call or
     // before.
-    fn fetch<W: Wait>(
+    pub(crate) fn fetch<W: Wait>(
         &self,
         rt: &W,
         durable: &mut Durable<'b, D, R, J>,

@@ -26,11 +26,13 @@ mod device;
 mod hint;
 mod journal;
 mod locked_parts;
+mod scanning;
 mod txn;
 mod waiters;
 mod waiting;
 
 pub use journal::{CACHED_BLOCKS, DiskLeft, Journal, MAX_CACHED_BLOCKS};
+pub use journal_memory::BitScan;
 pub use locked_parts::JournalRefusal;
 pub use txn::Txn;
 pub use waiting::{WaitFault, Waited};

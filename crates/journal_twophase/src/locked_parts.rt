@@ -1,8 +1,9 @@
 // The core's two parts, as threads share them: one function for each of their events.
 //
-// The memory lock stands here and in `device.rt` and `waiting.rt`, the disk's in `device.rt` alone,
-// and neither a part nor a guard of it leaves these three. The contracts speak of sessions,
-// transactions and receipts, because no fact of a part stays true after its lock is released.
+// The memory lock stands here and in `device.rt`, `scanning.rt` and `waiting.rt`, the disk's in
+// `device.rt` and `scanning.rt`, and neither a part nor a guard of it leaves these four. The
+// contracts speak of sessions, transactions and receipts, because no fact of a part stays true
+// after its lock is released.
 ghost use Rattle.std.specs.Prelude.{◌≡◌, ◌↔◌, ◌<◌, true, false, length, IsTrue, IfOk, IfErr, IsErrAnd, IfSome, OnOk, OnErr, All};
 ghost use Rattle.journal_world.specs.Addresses.{is_valid};
 ghost use Rattle.journal_world.specs.Files.{shape};
