@@ -16,13 +16,12 @@ use Rattle.journal_history.specs.Tokens.{SessionState, CommitPlace, OnlyExtends}
 use Rattle.journal_memory.specs.declared.refusal_number.RefusalNumber.TheVariants.{J6, J9, J11, J13}
 use Rattle.journal_memory.specs.Causes.{CauseState, IsUnexplained}
 use Rattle.journal_memory.specs.declared.bit_scan.BitScan.{BitScan}
-use Rattle.journal_memory.specs.Scans.{found_bits}
+use Rattle.journal_memory.specs.Bits.{found_bits, is_scan, AreInOrder}
 use Rattle.journal_memory.specs.Transactions.{TransactionState}
-use Rattle.journal_twophase.specs.Journals.{IsShown}
+use Rattle.journal_twophase.specs.Journals.{IsShown, IsScanRefusal}
 use Rattle.journal_twophase.specs.Transactions.{TxnState, core_of}
 use Rattle.journal_twophase.specs.Commits.{IsCommitted, IsCommitRefusal, ShowsFence, ShowsStrange}
 use Rattle.journal_twophase.specs.Waits.{IsWaitRefusal}
-use Rattle.journal_twophase.specs.Scans.{IsScanRefusal}
 use Rattle.journal_records.specs.declared.request.Part.{Part}
 use Rattle.journal_records.specs.declared.request.Request.{Request}
 use Rattle.journal_records.specs.declared.request.Request.TheVariants.{Hello, Commit, Read, Flush, Stat, Stop, Counters, Scan}
@@ -221,9 +220,10 @@ IsCountersAnswer tells old new (told.Counters counters) = (new ≡ old) × ((pas
 IsCountersAnswer tells old new (Refused n) = (new ≡ old) × (n ≡ refusal.NoMemory)
 IsCountersAnswer tells old new other = ⊥
 
--- The bits that the map has at the end of what was then seen, or why they are not found
+-- The bits that the map has at the end of what was then seen, or why they are not found. They are in
+-- order, and of a block of bits
 abbrev pub IsScanAnswer : Shape → BitScan → SessionState → SessionState → Answer → Type 0
-IsScanAnswer layout scan old new (told.Bits bits) = OnlyExtends old new × (IsTrue (is_trusted new.seen) → bits.items ≡ found_bits (latest new.seen) scan)
+IsScanAnswer layout scan old new (told.Bits bits) = OnlyExtends old new × IsTrue (is_scan layout scan) × AreInOrder scan bits.items × (IsTrue (is_trusted new.seen) → bits.items ≡ found_bits (latest new.seen) scan)
 IsScanAnswer layout scan old new (Refused n) = OnlyExtends old new × IsRefusedFor (IsScanRefusal layout scan) n
 IsScanAnswer layout scan old new other = ⊥
 
