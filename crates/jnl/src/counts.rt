@@ -144,8 +144,6 @@ impl<'s, 'j, 'b, D: BlockDisk, J: Naming, R> Drop for Figures<'s, 'j, 'b, D, J, 
 
 impl<'s, 'j, 'b, D: BlockDisk, J: Naming, R: Clock + Wait> Counting
     for Figures<'s, 'j, 'b, D, J, R> {
-    ghost use Rattle.std.specs.Prelude.{Unit};
-
     ghost tells = { λ _ _. Unit {0} };
 
     fn counters(&self, alloc: Global) -> Result<Vec<Counter>, AllocError> {
