@@ -1,12 +1,16 @@
-"""Frames for a port that mean no good, and what their answers must be. The module of the step `fuzz`
-of check-clients."""
+"""Frames for a port that mean no good, and what their answers must be.
 
+The module of the step `fuzz` of check-clients.
+"""
+
+import errno
 import socket
 import struct
 from typing import NamedTuple
 
 HELLO, COMMIT, READ, FLUSH, STAT, STOP, COUNTERS, SCAN = range(8)
 LONGEST = 2097152
+MOST_BLOCKS = 128
 # What docs/PROTOCOL.md says that a port answers. A disk that has not failed, in a session that has
 # not ended, in a service that was not stopped, answers no other.
 KNOWN = frozenset({0, 2, 3, 4, 64, 66, 67, 68, 69, 70})
@@ -18,7 +22,11 @@ HELLO_BYTES, OPENING_BYTES = 12, 28
 # How many items a list has at most, and the bytes of one.
 LISTS = {COUNTERS: (256, 12), SCAN: (32768, 4)}
 REGIONS = (8, 12)
+# What a socket says whose peer has ended the connection.
+ENDED = (errno.EPIPE, errno.ECONNRESET, errno.ENOTCONN)
 MOST_IN_BATCH = 40
+# The kinds of frames, and how often each is made.
+OFTEN = {"good": 40, "mutated": 40, "random": 12, "wrong length": 8}
 INTERESTING = (0, 1, 2, 5, 6, 7, 255, 4096, 4097, 32767, 32768, 1 << 31, (1 << 32) - 1)
 
 
@@ -46,7 +54,7 @@ class Maker:
 
     def frame(self):
         """A frame that is good, mutated, random, or of a wrong length."""
-        kind = self.random.choices(("good", "mutated", "random", "wrong length"), (40, 40, 12, 8))[0]
+        (kind,) = self.random.choices(tuple(OFTEN), tuple(OFTEN.values()))
         body = self.good()
         if kind == "mutated":
             body = self.mutated(body)
@@ -62,6 +70,9 @@ class Maker:
         return self.random.choice((near, near, LONGEST, LONGEST + 1, (1 << 32) - 1))
 
     def good(self):
+        """A request. One that ends the service is refused over TCP."""
+        if self.is_rare(200):
+            return struct.pack(">I", STOP)
         others = (self.hello, self.read, self.flush, self.stat, self.counters, self.scan)
         return self.random.choice((self.commit, self.commit, self.commit, *others))()
 
@@ -81,13 +92,20 @@ class Maker:
     def stat(self):
         return struct.pack(">I", STAT)
 
+    def is_rare(self, often):
+        """True once in so many times."""
+        return self.random.randrange(often) == 0
+
     def address(self):
-        """An object of the disk, and how many bytes its value has."""
+        """An object of the disk, and how many bytes its value has; or, rarely, no object."""
+        if self.is_rare(60):
+            return struct.pack(">QI", self.random.choice((0, 512, 515, self.blocks)), 1), 128
         kind = self.random.randrange(3)
         if kind == 0:
             return struct.pack(">QI", 514, self.random.randrange(32768)), 1
         if kind == 1:
-            return struct.pack(">QI", self.random.randrange(515, 531), 1024 * self.random.randrange(32)), 128
+            bit = 1024 * self.random.randrange(32)
+            return struct.pack(">QI", self.random.randrange(515, 531), bit), 128
         return struct.pack(">QI", self.random.randrange(531, self.blocks), 0), 4096
 
     def read(self):
@@ -96,14 +114,26 @@ class Maker:
 
     def part(self):
         address, size = self.address()
+        size = self.random.choice((0, 1, 127, 128, 4095)) if self.is_rare(60) else size
         value = self.random.randbytes(size) if size > 1 else bytes([self.random.randrange(2)])
+        value = b"\2" if value and self.is_rare(100) and size == 1 else value
         action = self.random.choices((0, 1), (1, 4))[0]
-        return struct.pack(">I", action) + address + struct.pack(">I", size) + value + bytes(-size % 4)
+        value += bytes(-size % 4)
+        return struct.pack(">I", action) + address + struct.pack(">I", size) + value
 
     def commit(self):
+        if self.is_rare(300):
+            return self.commit_of_many_blocks()
         count = self.random.choice((0, 1, 2, 3, 9))
         waits = self.random.random() < 0.05
-        return struct.pack(">III", COMMIT, waits, count) + b"".join(self.part() for _ in range(count))
+        parts = b"".join(self.part() for _ in range(count))
+        return struct.pack(">III", COMMIT, waits, count) + parts
+
+    def commit_of_many_blocks(self):
+        """A commit that writes to one block more than it may."""
+        head = struct.pack(">III", COMMIT, 0, MOST_BLOCKS + 1)
+        parts = [struct.pack(">IQII", 1, 531 + i, 0, 4096) for i in range(MOST_BLOCKS + 1)]
+        return head + b"".join(part + bytes(4096) for part in parts)
 
     def mutated(self, body):
         """One to three words or bytes are others, or a piece is left out, doubled or cut off."""
@@ -184,7 +214,7 @@ def answers_of(stream):
 
 def check_answers(stream, whole, is_all_sent):
     """Wants one answer to each record that is whole. Behind a frame of a wrong length there may be
-    more. Answers how many there were."""
+    more. Answers their statuses."""
     statuses = [check_answer(answer) for answer in answers_of(stream)]
     if TOO_LONG in statuses[:-1]:
         raise Unexpected("the port reads on behind a record that is too long")
@@ -192,21 +222,28 @@ def check_answers(stream, whole, is_all_sent):
         raise Unexpected(f"{len(statuses)} answers to {whole} records")
     if is_all_sent and len(statuses) > whole:
         raise Unexpected(f"{len(statuses)} answers to {whole} records")
-    return len(statuses)
+    return statuses
 
 
 def exchange(peer, sent):
-    """All that the port sends to some bytes and their end."""
+    """All that the port sends to some bytes and their end, and whether it took all of them. Where
+    it did not, the system may drop what it sent last."""
     found = bytearray()
-    peer.sendall(sent)
-    peer.shutdown(socket.SHUT_WR)
-    while piece := peer.recv(65536):
-        found += piece
-    return bytes(found)
+    try:
+        peer.sendall(sent)
+        peer.shutdown(socket.SHUT_WR)
+        while piece := peer.recv(65536):
+            found += piece
+    except OSError as fault:
+        if fault.errno not in ENDED:
+            raise
+        return bytes(found), False
+    return bytes(found), True
 
 
 def try_batch(peer, maker):
-    """Sends a batch of frames over a new connection. Answers how many frames, and answers."""
+    """Sends a batch of frames over a new connection. Answers how many these were, and the statuses
+    of their answers."""
     frames, size = maker.batch()
     sent = b"".join(frame.sent for frame in frames)[:size]
     whole, at = 0, 0
@@ -214,4 +251,9 @@ def try_batch(peer, maker):
         at += len(frame.sent)
         whole += frame.is_whole and at <= size
     is_all_whole = all(frame.is_whole for frame in frames)
-    return len(frames), check_answers(exchange(peer, sent), whole, is_all_whole)
+    stream, is_taken = exchange(peer, sent)
+    if is_taken:
+        return len(frames), check_answers(stream, whole, is_all_whole)
+    if is_all_whole:
+        raise Unexpected("the port ended the connection")
+    return len(frames), []

@@ -23,9 +23,12 @@ enum { READ_HEAD = 12, ADDRESS = 12, VALUE_HEAD = 4 };
  * then they. */
 enum { SCAN_RECORD = 28, LIST_HEAD = 12, BIT = 4, COUNTER = 12, MOST_COUNTERS = 256 };
 enum { BLOCK_BITS = 32768 };
+/* A transaction whose record has more room than this is not kept for the next one. */
+enum { SPARE_ROOM = 8192 };
 
 struct jnl {
     struct connection connection;
+    jnl_txn *spare; /* one that has ended, for the next one, or NULL */
 };
 
 /* The transaction's record, as far as it is spelled. */
@@ -102,10 +105,18 @@ int jnl_open_tcp(uint16_t port, jnl **out)
     return jnl_open_tcp_within(port, 0, out);
 }
 
+static void discard_transaction(jnl_txn *t)
+{
+    if (!t) return;
+    discard(t->record);
+    discard(t);
+}
+
 void jnl_close(jnl *j)
 {
     if (!j) return;
     jnl_connection_close(&j->connection);
+    discard_transaction(j->spare);
     discard(j);
 }
 
@@ -156,20 +167,23 @@ static int check(jnl *j, jnl_addr a, const uint8_t *value, size_t size)
 int jnl_begin(jnl *j, jnl_txn **out)
 {
     if (!j || !out) return JNL_MISUSE;
-    jnl_txn *t = calloc(1, sizeof *t);
+    jnl_txn *t = j->spare ? j->spare : calloc(1, sizeof *t);
     *out = t;
+    j->spare = NULL;
     if (!t) return JNL_NO_MEMORY;
-    t->j = j;
-    t->used = TRANSACTION_HEAD;
+    *t = (jnl_txn){.j = j, .record = t->record, .room = t->room, .used = TRANSACTION_HEAD};
     return JNL_OK;
 }
 
 void jnl_abort(jnl_txn *t)
 {
     if (!t) return;
-    discard(t->record);
     discard(t->table);
-    discard(t);
+    if (t->j->spare || t->room > SPARE_ROOM) {
+        discard_transaction(t);
+    } else {
+        t->j->spare = t;
+    }
 }
 
 static size_t size_of(const uint8_t *part)

@@ -78,9 +78,10 @@ typedef enum {
      * absent. */
     JNL_UNSURE = 65,
     /* No answer came, or none that the protocol has. A commit was done whole, or not at all: read
-     * to find out. Nothing sends it again but the caller. The next call connects again. At JNL_LOST
-     * errno says why: ETIMEDOUT after the limit of jnl_set_timeout, ECONNRESET where the port has
-     * ended the connection, or as the system says. */
+     * to find out. Nothing sends it again but the caller. The next call connects again, but not
+     * while answers of lost commits in flight are not taken (jnl_submit). At JNL_LOST errno says
+     * why: ETIMEDOUT after the limit of jnl_set_timeout, ECONNRESET where the port has ended the
+     * connection, or as the system says. */
     JNL_LOST = 96,
     JNL_PROTOCOL = 98,
     /* Nothing was done. */

@@ -26,18 +26,24 @@ type call struct {
 	decode    func(*answer) // nil for a commit, whose receipt is kept
 	receipt   Receipt
 	err       error
-	done      chan struct{} // has room for one, so that who answers never waits
-	isFlight  bool          // a lost one keeps others from being submitted
-	isStable  bool          // a commit that waits
-	note      func()        // called once the answer was read; may be nil
+	isStable  bool   // a commit that waits
+	note      func() // called once the answer was read; may be nil
+	// Who answers a call of one goroutine wakes it: there is room for one, so it never waits. That
+	// of a flight is nil: it is done once isDone is 1, which is told to all flights at once.
+	done   chan struct{}
+	isDone uint32
+}
+
+func (c *call) isFlight() bool {
+	return c.done == nil
 }
 
 var calls = sync.Pool{New: func() any { return &call{done: make(chan struct{}, 1)} }}
 
 func newCall(operation uint32, decode func(*answer)) *call {
 	made := calls.Get().(*call)
-	made.operation, made.decode = operation, decode
-	made.receipt, made.err, made.isFlight, made.isStable, made.note = Receipt{}, nil, false, false, nil
+	made.operation, made.decode, made.receipt, made.err = operation, decode, Receipt{}, nil
+	made.isStable, made.note = false, nil
 	return made
 }
 
@@ -53,7 +59,8 @@ type connection struct {
 	held      []byte // records that are not written yet
 	spare     []byte // the room of those that were written
 	isWriting bool
-	hasRoom   sync.Cond // signalled where less is held, and where the connection ends
+	hasRoom   sync.Cond // told where less is held, and where the connection ends
+	hasDone   sync.Cond // told where flights are done
 	// The session has ended: the next call makes another connection.
 	isOver bool
 	err    error // why the connection has ended
@@ -62,12 +69,12 @@ type connection struct {
 	// What the Journal was told of commits.
 	promises *promises
 
-	answered []*call // of the goroutine that reads
+	answered []*call // of the goroutine that reads: whom it wakes
 }
 
 func newConnection(socket net.Conn, untold *int64, told *promises) *connection {
 	c := &connection{socket: socket, untold: untold, promises: told}
-	c.hasRoom.L = &c.mu
+	c.hasRoom.L, c.hasDone.L = &c.mu, &c.mu
 	go c.read()
 	return c
 }
@@ -87,7 +94,7 @@ func (c *connection) ask(r request, mine *call, limit time.Duration) bool {
 	if limit > 0 {
 		defer c.endAfter(limit).Stop()
 	}
-	if !c.hold(r, mine) {
+	if isHeld, _ := c.hold(r, mine); !isHeld {
 		return false
 	}
 	// Others that are about to call do so first, so that many records are written at once.
@@ -101,9 +108,9 @@ func (c *connection) endAfter(limit time.Duration) *time.Timer {
 	return time.AfterFunc(limit, func() { c.end(&failure{ErrLost, errTimedOut}) })
 }
 
-// hold adds a record to those that are held. It returns false where the connection is of no more
-// use.
-func (c *connection) hold(r request, mine *call) bool {
+// hold adds a record to those that are held. It returns whether it did, which it does not where the
+// connection is of no more use, and whether so much is held that it is to be written.
+func (c *connection) hold(r request, mine *call) (isHeld, isMuch bool) {
 	binary.BigEndian.PutUint32(r, uint32(len(r)-lengthBytes))
 	c.mu.Lock()
 	defer c.mu.Unlock()
@@ -111,12 +118,12 @@ func (c *connection) hold(r request, mine *call) bool {
 		c.hasRoom.Wait()
 	}
 	if !c.isUsable() {
-		return false
+		return false, false
 	}
 	mine.isStable = mine.operation == opCommit && r.waits()
 	c.calls = append(c.calls, mine)
 	c.held = append(c.held, r...)
-	return true
+	return true, len(c.held) >= pieceBytes/2
 }
 
 // push writes what is held, unless another goroutine writes: that one sees to it. What is held
@@ -129,13 +136,6 @@ func (c *connection) push() {
 	if isMine {
 		c.writeHeld()
 	}
-}
-
-// holdsMuch says whether so much is held that it is to be written.
-func (c *connection) holdsMuch() bool {
-	c.mu.Lock()
-	defer c.mu.Unlock()
-	return len(c.held) >= pieceBytes/2
 }
 
 func (c *connection) writeHeld() {
@@ -230,13 +230,36 @@ func (c *connection) settle(came []byte) ([]byte, error) {
 	if err != nil {
 		c.err = err
 	}
-	c.answered = append(c.answered[:0], c.calls[:answered]...)
+	c.answered = c.answered[:0]
+	for _, each := range c.calls[:answered] {
+		if !each.finish() {
+			c.answered = append(c.answered, each)
+		}
+	}
 	c.calls = c.calls[:copy(c.calls, c.calls[answered:])]
+	c.hasDone.Broadcast()
 	c.mu.Unlock()
 	for _, each := range c.answered {
 		each.done <- struct{}{}
 	}
 	return came, err
+}
+
+// finish notes that a flight is done. It returns false for any other call.
+func (c *call) finish() bool {
+	if c.isFlight() {
+		atomic.StoreUint32(&c.isDone, 1)
+	}
+	return c.isFlight()
+}
+
+// await waits until a flight is done.
+func (c *connection) await(flight *call) {
+	c.mu.Lock()
+	defer c.mu.Unlock()
+	for atomic.LoadUint32(&flight.isDone) == 0 {
+		c.hasDone.Wait()
+	}
 }
 
 // settleOne answers a call. It returns an error where the answer is none of the protocol.
@@ -297,13 +320,15 @@ func (c *connection) end(reason error) {
 	for _, each := range c.calls {
 		each.err = reason
 		reason = lossAfter(reason)
-		if each.isFlight {
+		if each.finish() {
 			atomic.AddInt64(c.untold, 1)
+		} else {
+			each.done <- struct{}{}
 		}
-		each.done <- struct{}{}
 	}
 	c.calls = nil
 	c.hasRoom.Broadcast()
+	c.hasDone.Broadcast()
 }
 
 // lossAfter is what a call has met whose connection another one has ended.

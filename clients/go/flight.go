@@ -8,12 +8,9 @@ import (
 
 // Flight is a commit that was submitted. It is for one goroutine at a time.
 type Flight struct {
-	call  *call // nil: its end is known
-	over  *connection
+	call  call
+	over  *connection // nil: its end is known
 	limit time.Duration
-
-	receipt Receipt
-	err     error
 }
 
 var errUntold = errors.New("a flight was lost before: wait for it first")
@@ -33,36 +30,39 @@ var errUntold = errors.New("a flight was lost before: wait for it first")
 func (t *Tx) Submit(durability Durability) *Flight {
 	r, err := spellCommit(durability, &t.reads, &t.writes)
 	if err != nil {
-		return &Flight{err: err}
+		return &Flight{call: call{err: err}}
 	}
 	defer r.drop()
 	if err := t.journal.checkParts(&t.reads, &t.writes); err != nil {
-		return &Flight{err: err}
+		return &Flight{call: call{err: err}}
 	}
 	return t.journal.submit(r.request)
 }
 
 func (j *Journal) submit(r request) *Flight {
+	made := &Flight{call: call{operation: opCommit}, limit: j.Timeout}
 	if len(r) > maxRecord+lengthBytes {
-		return &Flight{err: TooLarge}
+		made.call.err = TooLarge
+		return made
 	}
-	mine := newCall(opCommit, nil)
-	mine.isFlight = true
 	deadline := j.deadline()
 	for {
 		// While there are losses to be told, no connection is made: it may tell of a restart.
 		if atomic.LoadInt64(&j.untold) > 0 {
-			return &Flight{err: &failure{ErrLost, errUntold}}
+			made.call.err = &failure{ErrLost, errUntold}
+			return made
 		}
 		over, err := j.connected(deadline)
 		if err != nil {
-			return &Flight{err: err}
+			made.call.err = err
+			return made
 		}
-		if over.hold(r, mine) {
-			if over.holdsMuch() {
+		if isHeld, isMuch := over.hold(r, &made.call); isHeld {
+			made.over = over
+			if isMuch {
 				over.push()
 			}
-			return &Flight{call: mine, over: over, limit: j.Timeout}
+			return made
 		}
 		j.forget(over)
 	}
@@ -71,21 +71,16 @@ func (j *Journal) submit(r request) *Flight {
 // Wait returns the receipt of the commit once it is answered, or its error, as Commit does. A
 // Timeout of the Journal is for one Wait: after it the connection ends.
 func (f *Flight) Wait() (Receipt, error) {
-	if f.call == nil {
-		return f.receipt, f.err
+	if f.over != nil {
+		if atomic.LoadUint32(&f.call.isDone) == 0 {
+			f.await()
+		}
+		if errors.Is(f.call.err, ErrLost) {
+			atomic.AddInt64(f.over.untold, -1)
+		}
+		f.over = nil
 	}
-	select {
-	case <-f.call.done:
-	default:
-		f.await()
-	}
-	f.receipt, f.err = f.call.receipt, f.call.err
-	if errors.Is(f.err, ErrLost) {
-		atomic.AddInt64(f.over.untold, -1)
-	}
-	calls.Put(f.call)
-	f.call = nil
-	return f.receipt, f.err
+	return f.call.receipt, f.call.err
 }
 
 // await waits for the answer, once all that is held was sent.
@@ -94,5 +89,5 @@ func (f *Flight) await() {
 		defer f.over.endAfter(f.limit).Stop()
 	}
 	f.over.push()
-	<-f.call.done
+	f.over.await(&f.call)
 }

@@ -231,10 +231,28 @@ func TestALossIsToldOfEach(t *testing.T) {
 				nothingIsSent(t, j)
 			}
 		}
-		if done := int(commits(t, j) - first); done < row.least || done > row.most {
+		if done := int(commitsAtRest(t, j) - first); done < row.least || done > row.most {
 			t.Errorf("bit %d: %d commits", row.bit, done)
 		}
 	}
+}
+
+// commitsAtRest returns the commits once a connection that this client has closed has none under
+// way any more.
+func commitsAtRest(t *testing.T, j *Journal) uint64 {
+	t.Helper()
+	last, same := commits(t, j), 0
+	for same < 3 {
+		time.Sleep(20 * time.Millisecond)
+		now := commits(t, j)
+		if now == last {
+			same++
+		} else {
+			same = 0
+		}
+		last = now
+	}
+	return last
 }
 
 // nothingIsSent wants a flight to be lost while others that were lost are not waited for.

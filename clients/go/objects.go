@@ -1,7 +1,11 @@
 package jnl
 
-// fewObjects are looked up one by one, and more by an index.
-const fewObjects = 16
+const (
+	// fewObjects are looked up one by one, and more by an index.
+	fewObjects = 16
+	// Values are kept in rooms of so many bytes at least.
+	leastRoom = 256
+)
 
 type object struct {
 	address Address
@@ -11,7 +15,9 @@ type object struct {
 // objects are values by their addresses, in the order in which these were first set.
 type objects struct {
 	list  []object
+	first [2]object       // the room of the first ones in the list
 	index map[Address]int // nil: there are few
+	room  []byte          // for values
 }
 
 // find returns the place of an object in the list, or -1.
@@ -38,13 +44,27 @@ func (o *objects) get(a Address) ([]byte, bool) {
 	return o.list[at].value, true
 }
 
+// setCopy sets an object to a copy of a value.
+func (o *objects) setCopy(a Address, value []byte) {
+	if len(value) > cap(o.room)-len(o.room) {
+		size := leastRoom
+		if len(value) > size {
+			size = len(value)
+		}
+		o.room = make([]byte, 0, size)
+	}
+	from := len(o.room)
+	o.room = append(o.room, value...)
+	o.set(a, o.room[from:len(o.room):len(o.room)])
+}
+
 func (o *objects) set(a Address, value []byte) {
 	if at := o.find(a); at >= 0 {
 		o.list[at].value = value
 		return
 	}
 	if o.list == nil {
-		o.list = make([]object, 0, 4)
+		o.list = o.first[:0]
 	}
 	o.list = append(o.list, object{a, value})
 	if o.index != nil {

@@ -81,7 +81,7 @@ func (t *Tx) fetch(missing []Address) error {
 
 // Write has the object overwritten by the commit, which finds a wrong address or size.
 func (t *Tx) Write(a Address, value []byte) {
-	t.writes.set(a, clone(value))
+	t.writes.setCopy(a, value)
 }
 
 // Expect has the commit compare an object with a value that the caller knows, as if it had been

@@ -111,22 +111,22 @@ static void order(void)
 /* A commit that meets a conflict is refused alone. */
 static void conflicts(void)
 {
-    unsigned char found[SIZE];
+    unsigned char found[SIZE], other = 0;
     jnl_txn *late[10];
     uint64_t before = commits();
     for (uint64_t i = 0; i < 10; i++) {
         jnl_addr a = {525, 1024 * (uint32_t)(i % 2)};
         late[i] = begun();
         want_status(jnl_read(late[i], a, found, SIZE), JNL_OK, "read", i);
+        if (i == 0) other = (unsigned char)(found[0] + 1);
         found[0] = (unsigned char)(found[0] + 1 + i);
         want_status(jnl_write(late[i], (jnl_addr){525, 2048}, found, SIZE), JNL_OK, "write", i);
     }
-    put_record((unsigned char)(before | 128), 0, 99);
-    put_record((unsigned char)(before & 127), 0, 100);
+    put_record(other, 0, 100);
     for (uint64_t i = 0; i < 10; i++) want_status(jnl_submit(late[i], 0, i), JNL_OK, "submit", i);
-    take(99, JNL_OK), take(100, JNL_OK);
+    take(100, JNL_OK);
     for (uint64_t i = 0; i < 10; i++) take(i, i % 2 ? JNL_OK : JNL_CONFLICT);
-    want(commits(), before + 7, "commits", 0);
+    want(commits(), before + 6, "commits", 0);
 }
 
 static void refusals(void)
@@ -228,6 +228,19 @@ static void submit_bit(uint32_t bit, uint64_t tag)
     want_status(jnl_submit(t, 0, tag), JNL_OK, "submit", tag);
 }
 
+/* The commits once a connection that this client has closed has none under way any more. */
+static uint64_t commits_at_rest(void)
+{
+    uint64_t last = commits();
+    for (int same = 0; same < 3;) {
+        nanosleep(&(struct timespec){0, 20000000}, NULL);
+        uint64_t now = commits();
+        same = now == last ? same + 1 : 0;
+        last = now;
+    }
+    return last;
+}
+
 /* While answers of a lost connection are not taken. */
 static void nothing_is_sent(void)
 {
@@ -250,7 +263,7 @@ static void a_fault(uint32_t bit, int status, int later, uint64_t least, uint64_
         if (later == JNL_LOST && i < AFTER) nothing_is_sent();
     }
     take_none();
-    uint64_t done = commits() - before;
+    uint64_t done = (status == JNL_PROTOCOL ? commits_at_rest() : commits()) - before;
     want(done >= least && done <= most, 1, "the commits with a fault are a beginning", bit);
 }
 
@@ -288,12 +301,13 @@ static void loss_while_sending(void)
     want(commits(), before + 2, "commits", 0);
 }
 
-/* A call that is not answered after some in flight that are. */
+/* A call that is not answered after some in flight that are, whose answers stay. */
 static void loss_of_another_call(void)
 {
     jnl_counts counts;
     for (uint64_t i = 0; i < BEFORE; i++) submit_bit(i == BEFORE - 1 ? 0 : FREE_BIT, i);
     want_status(jnl_stat(j, &counts), JNL_LOST, "a call without an answer", 0);
+    commits(); /* none in flight was lost, so the next call goes on */
     for (uint64_t i = 0; i < BEFORE; i++) take(i, JNL_OK);
     take_none();
     commits();

@@ -7,7 +7,8 @@
         await asyncio.gather(*(j.run(transfer) for _ in range(64)))
 
 A call does not wait for the answers of others, so one connection has as many requests in flight as
-there are calls. Commits are done in the order in which they were called.
+there are calls. Commits are done in the order in which they were called. While the socket takes no
+more, further calls wait, and answers are received.
 
 Where the connection is lost, each call without an answer raises Lost, and so does one that begins
 before the event loop has told those. Those commits that were done, if any, are the first ones of
