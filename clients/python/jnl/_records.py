@@ -416,7 +416,10 @@ def scan(block: int, first: int, value: bool, most: int) -> Request[List[int]]:
     most = max(0, min(most, BLOCK_BITS))
 
     def bits(answer: Reader) -> List[int]:
-        found = _list(answer, most, Reader.word)
+        count = answer.word()
+        if count > most:
+            raise ProtocolError("a list is too long")
+        found = list(struct.unpack(f">{count}I", answer.take(4 * count)))
         if any(b <= a for a, b in zip([first - 1] + found, found)) or found[-1:] > [BLOCK_BITS - 1]:
             raise ProtocolError("bits do not ascend within their block")
         return found
