@@ -8,7 +8,7 @@ import socket
 import struct
 from typing import NamedTuple
 
-HELLO, COMMIT, READ, FLUSH, STAT, STOP = range(6)
+HELLO, COMMIT, READ, FLUSH, STAT, STOP, COUNTERS, SCAN = range(8)
 LONGEST = 2097152
 MOST_BLOCKS = 128
 # What docs/PROTOCOL.md says that a port answers. A disk that has not failed, in a session that has
@@ -16,7 +16,12 @@ MOST_BLOCKS = 128
 KNOWN = frozenset({0, 2, 3, 4, 64, 66, 67, 68, 69, 70})
 TOO_LONG = 68
 # How many bytes are behind an operation that was done, where that is always the same.
-BYTES_DONE = {HELLO: 12, COMMIT: 16, FLUSH: 8, STAT: 16}
+BYTES_DONE = {COMMIT: 16, FLUSH: 8, STAT: 16}
+# The bytes of the answer to a hello in version 1, and in version 2 without its regions.
+HELLO_BYTES, OPENING_BYTES = 12, 28
+# How many items a list has at most, and the bytes of one.
+LISTS = {COUNTERS: (256, 12), SCAN: (32768, 4)}
+REGIONS = (8, 12)
 # What a socket says whose peer has ended the connection.
 ENDED = (errno.EPIPE, errno.ECONNRESET, errno.ENOTCONN)
 MOST_IN_BATCH = 40
@@ -68,11 +73,18 @@ class Maker:
         """A request. One that ends the service is refused over TCP."""
         if self.is_rare(200):
             return struct.pack(">I", STOP)
-        commits = (self.commit, self.commit)
-        return self.random.choice((self.hello, self.read, *commits, self.flush, self.stat))()
+        others = (self.hello, self.read, self.flush, self.stat, self.counters, self.scan)
+        return self.random.choice((self.commit, self.commit, self.commit, *others))()
 
     def hello(self):
-        return struct.pack(">II", HELLO, 1)
+        return struct.pack(">II", HELLO, self.random.choice((1, 2)))
+
+    def counters(self):
+        return struct.pack(">I", COUNTERS)
+
+    def scan(self):
+        first, most = self.random.randrange(32768), self.random.choice((0, 1, 3, 100, 32768, (1 << 32) - 1))
+        return struct.pack(">IQIII", SCAN, 514, first, self.random.randrange(2), most)
 
     def flush(self):
         return struct.pack(">I", FLUSH)
@@ -165,12 +177,28 @@ def check_answer(answer):
     operation = int.from_bytes(answer[4:8], "big") if status == 0 else None
     if operation is None and len(answer) != 4:
         raise Unexpected(f"{len(answer)} bytes behind status {status}")
-    if operation is not None and (operation == STOP or operation > STOP):
+    if operation is not None and (operation == STOP or operation > SCAN):
         raise Unexpected(f"operation {operation} was done")
-    wanted = BYTES_DONE.get(operation)
-    if wanted is not None and len(answer) != 8 + wanted:
+    if operation is not None and not has_its_length(operation, answer[8:]):
         raise Unexpected(f"{len(answer)} bytes answer operation {operation}")
     return status
+
+
+def has_its_length(operation, done):
+    """Whether what stands behind an operation is as long as the protocol says. Of a read it is not known."""
+    if operation in BYTES_DONE:
+        return len(done) == BYTES_DONE[operation]
+    if operation in LISTS:
+        return is_list(done, *LISTS[operation])
+    if operation == HELLO and done[:4] == b"\0\0\0\1":
+        return len(done) == HELLO_BYTES
+    return operation != HELLO or is_list(done[OPENING_BYTES:], *REGIONS)
+
+
+def is_list(done, most, size):
+    """Whether bytes are as many items of a size as they say, and no more than there may be."""
+    count = int.from_bytes(done[:4], "big")
+    return count <= most and len(done) == 4 + size * count
 
 
 def answers_of(stream):

@@ -6,7 +6,10 @@
 #include <string.h>
 #include <time.h>
 
-enum { VERSION = 1, FIRST_ROOM = 64 };
+enum { FIRST_VERSION = 1, VERSION = 2, FIRST_ROOM = 64 };
+/* The answer to a hello: the status, the operation and the version; then the blocks alone, or an
+ * opening with its regions. */
+enum { GREETING_HEAD = 12, OPENING = 28, REGION = 12, MOST_REGIONS = 8 };
 
 /* ---- commits in flight */
 
@@ -48,6 +51,33 @@ static void lose_flights(struct connection *c, int status)
     c->why = errno;
     answer_flight(&c->flights, status, NULL);
     while (unanswered(c)) answer_flight(&c->flights, JNL_LOST, NULL);
+}
+
+/* ---- what is stable */
+
+static void note_stable(struct connection *c, uint64_t stable)
+{
+    if (stable > c->stable) c->stable = stable;
+}
+
+/* Notes a commit that was told: with those up to it it is stable, or it may not be. */
+static void note_commit(struct connection *c, int status, int waits, uint64_t commits)
+{
+    if (status == JNL_OK && waits) note_stable(c, commits);
+    else if (commits > c->told) c->told = commits;
+}
+
+/* Notes what an answer that was done, or is not sure, says of commits. */
+static void note_answer(struct connection *c, uint32_t operation, const uint8_t *record,
+                        const uint8_t *answer, int status)
+{
+    if (operation == COMMIT) {
+        const uint8_t *receipt = answer + (status == JNL_OK ? 8 : 4);
+        note_commit(c, status, (int)get32(record + 8), get64(receipt + 8));
+    }
+    if (operation == FLUSH) note_stable(c, get64(answer + 8));
+    if (operation == STAT) note_stable(c, get64(answer + 16));
+    if (operation == STOP) note_stable(c, c->told);
 }
 
 /* ---- answers */
@@ -103,6 +133,12 @@ static size_t unread(const struct connection *c)
     return c->came_used - c->came_read;
 }
 
+/* Whether the first flight that has no answer is to wait. */
+static int next_waits(struct flights *f)
+{
+    return flight_at(f, f->answered)->waits;
+}
+
 /* Reads one answer of a flight, where it is there whole: 1, or else 0; or -1, and the line is
  * closed. */
 static int settle_one(struct connection *c)
@@ -115,8 +151,9 @@ static int settle_one(struct connection *c)
         close_line(c, s);
         return -1;
     }
-    int has_receipt = s == JNL_OK || s == JNL_UNSURE;
+    int has_receipt = s == JNL_OK || s == JNL_UNSURE, waits = next_waits(&c->flights);
     answer_flight(&c->flights, s, has_receipt ? answer + size - 16 : NULL);
+    if (has_receipt) note_commit(c, s, waits, get64(answer + size - 8));
     c->is_over |= ends_session(s);
     c->came_read += LENGTH + size;
     return 1;
@@ -246,28 +283,91 @@ static int ask_connected(struct connection *c, uint32_t operation, uint8_t *reco
     put32(record + LENGTH, operation);
     int s = exchange(c, record, n, answer, room, size);
     if (!s) s = judge(operation, answer, *size, wanted);
+    if (s == JNL_OK || s == JNL_UNSURE) note_answer(c, operation, record, answer, s);
     return s == JNL_LOST || s == JNL_PROTOCOL || ends_session(s) ? jnl_hang_up(c, s) : s;
+}
+
+/* Whether objects may have so many bits of their block. */
+static int is_kind(uint32_t bits)
+{
+    return bits == 1 || (bits >= 64 && bits <= 32768 && !(bits & (bits - 1)));
+}
+
+/* Reads the regions of an opening, of so many bytes. */
+static int read_regions(const uint8_t *p, size_t size, jnl_disk *d)
+{
+    d->region_count = get32(p);
+    if (d->region_count > MOST_REGIONS || size != 4 + d->region_count * REGION) return JNL_PROTOCOL;
+    p += 4;
+    for (unsigned i = 0; i < d->region_count; i++, p += REGION) {
+        d->regions[i] = (jnl_region){get64(p), get32(p + 8)};
+        if (!is_kind(d->regions[i].bits)) return JNL_PROTOCOL;
+    }
+    return JNL_OK;
+}
+
+/* Reads the answer to a hello in a version. */
+static int read_greeting(const uint8_t *answer, size_t size, uint32_t version, jnl_disk *d)
+{
+    const uint8_t *p = answer + GREETING_HEAD;
+    *d = (jnl_disk){.version = version};
+    if (size < GREETING_HEAD + 8) return JNL_PROTOCOL;
+    if (get32(answer + 8) != version) return JNL_OTHER_VERSION;
+    d->blocks = get64(p);
+    if (version == FIRST_VERSION) return size == GREETING_HEAD + 8 ? JNL_OK : JNL_PROTOCOL;
+    if (size < GREETING_HEAD + OPENING) return JNL_PROTOCOL;
+    d->opening = get64(p + 8);
+    d->slots = get32(p + 16);
+    d->most_blocks = get32(p + 20);
+    return read_regions(p + 24, size - GREETING_HEAD - 24, d);
+}
+
+/* Greets in a version. One that is not spoken leaves the line as it is. */
+static int greet(struct connection *c, uint32_t version, jnl_disk *d)
+{
+    uint8_t record[12], answer[GREETING_HEAD + OPENING + MOST_REGIONS * REGION];
+    size_t size;
+    put32(record + 8, version);
+    int s = ask_connected(c, HELLO, record, sizeof record, answer, sizeof answer, SIZE_MAX, &size);
+    if (s) return s;
+    s = read_greeting(answer, size, version, d);
+    return s ? jnl_hang_up(c, s) : s;
+}
+
+/* Notes the disk that a greeting has told. JNL_RESTARTED, once: it is another opening, and commits
+ * of the one before may be gone. Each start of a service of version 1 is taken for the same one,
+ * since it does not tell which it is. */
+static int meet(struct connection *c, const jnl_disk *d)
+{
+    int is_other = c->disk.version && (c->disk.version != d->version
+                                       || c->disk.opening != d->opening);
+    int may_be_gone = is_other && c->told > c->stable;
+    if (is_other) c->told = c->stable = 0;
+    c->disk = *d;
+    return may_be_gone ? JNL_RESTARTED : JNL_OK;
 }
 
 /* Makes a line. One that is lost before its greeting was answered is none. */
 static int dial(struct connection *c, uint64_t ends)
 {
-    uint8_t record[12], answer[20];
-    size_t size;
+    jnl_disk d;
     int s = jnl_line_open(c->port, ends, &c->line);
     if (s) return s;
-    put32(record + 8, VERSION);
-    s = ask_connected(c, HELLO, record, sizeof record, answer, sizeof answer, 12, &size);
+    s = greet(c, VERSION, &d);
+    if (s == JNL_OTHER_VERSION && c->line) s = greet(c, FIRST_VERSION, &d);
     if (s) return jnl_hang_up(c, s == JNL_LOST ? JNL_NO_PORT : s);
-    if (get32(answer + 8) != VERSION) return jnl_hang_up(c, JNL_OTHER_VERSION);
-    c->blocks = get64(answer + 12);
-    return JNL_OK;
+    return meet(c, &d);
 }
 
 /* Whether a line that owes no answer can be asked. */
 static int is_quiet(struct connection *c)
 {
     return !c->is_over && !unread(c) && jnl_line_is_quiet(c->line);
+}
+
+int jnl_is_current(struct connection *c)
+{
+    return c->line && (unanswered(c) || is_quiet(c));
 }
 
 /* Begins a call that sends. A line that the port ended since the last call is made again first:
@@ -287,6 +387,7 @@ int jnl_ask(struct connection *c, uint32_t operation, uint8_t *record, size_t n,
             size_t room, size_t wanted, size_t *size)
 {
     int s = begin_call(c);
+    if (!s && operation >= COUNTERS && c->disk.version < VERSION) return JNL_OTHER_VERSION;
     return s ? s : ask_connected(c, operation, record, n, answer, room, wanted, size);
 }
 
@@ -335,7 +436,8 @@ int jnl_put_in_flight(struct connection *c, uint8_t *record, size_t n, uint64_t 
     if (!s) s = begin_call(c);
     if (s) return s;
     put32(put32(record, (uint32_t)(n - LENGTH)), COMMIT);
-    *flight_at(&c->flights, c->flights.count++) = (struct flight){tag, JNL_LOST, {0, 0}};
+    int waits = (int)get32(record + 8);
+    *flight_at(&c->flights, c->flights.count++) = (struct flight){tag, waits, JNL_LOST, {0, 0}};
     /* Where it is lost by this, its answer says so, after those of the ones before it. */
     hold(c, record, n);
     return JNL_OK;

@@ -5,7 +5,7 @@
 #include "line.h"
 
 enum { MAX_RECORD = 2097152, LENGTH = 4, COMMIT_ANSWER = 24 };
-enum { HELLO, COMMIT, READ, FLUSH, STAT, STOP };
+enum { HELLO, COMMIT, READ, FLUSH, STAT, STOP, COUNTERS, SCAN };
 /* What came and is not read yet, and records that are held back to be sent by one call of the
  * system, have so many bytes at most. */
 enum { CAME_ROOM = 16384, HELD_ROOM = 32768, MOST_IN_FLIGHT = 16384 };
@@ -13,6 +13,7 @@ enum { CAME_ROOM = 16384, HELD_ROOM = 32768, MOST_IN_FLIGHT = 16384 };
 /* A commit that was submitted, with its answer once it is there. */
 struct flight {
     uint64_t tag;
+    int waits;
     int status;
     jnl_receipt receipt;
 };
@@ -27,7 +28,10 @@ struct flights {
 struct connection {
     struct jnl_port *port;
     struct jnl_line *line; /* NULL: not connected */
-    uint64_t blocks;
+    jnl_disk disk;         /* as the last greeting told it; version 0 before the first one */
+    uint64_t told;   /* the commits up to the last one of this opening that was told and did not
+                        wait, or is not known to be stable */
+    uint64_t stable; /* how many of this opening are known to be stable */
     unsigned timeout;
     struct flights flights;
     int is_over;         /* the session has ended: the next call makes another line */
@@ -67,6 +71,9 @@ int jnl_connection_open(struct connection *, const char *path, uint16_t number);
 
 /* Leaves the port, and drops what is in flight. errno stays as it is. */
 void jnl_connection_close(struct connection *);
+
+/* Whether the disk is known as the port has it now: the port has not ended the line. */
+int jnl_is_current(struct connection *);
 
 /* Closes the line, so that the next call makes another. Commits in flight that have no answer are
  * lost. Answers the status that it is given. errno stays as it is. */

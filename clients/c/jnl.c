@@ -1,6 +1,7 @@
 /* See jnl.h. */
 #define _POSIX_C_SOURCE 200809L
 #include "connection.h"
+#include "transaction.h"
 #include <errno.h>
 #include <stdlib.h>
 #include <string.h>
@@ -18,6 +19,10 @@ enum { FEW_PARTS = 16, HASH_BITS = 13, TABLE = 1 << HASH_BITS };
 /* A read: its length, its operation, how many addresses; then the addresses. What it is answered:
  * the status, the operation, how many values; then the values, each behind its length. */
 enum { READ_HEAD = 12, ADDRESS = 12, VALUE_HEAD = 4 };
+/* A scan. What it is answered, and counters are: the status, the operation, how many there are;
+ * then they. */
+enum { SCAN_RECORD = 28, LIST_HEAD = 12, BIT = 4, COUNTER = 12, MOST_COUNTERS = 256 };
+enum { BLOCK_BITS = 32768 };
 /* A transaction whose record has more room than this is not kept for the next one. */
 enum { SPARE_ROOM = 8192 };
 
@@ -122,7 +127,39 @@ void jnl_set_timeout(jnl *j, unsigned milliseconds)
 
 uint64_t jnl_blocks(const jnl *j)
 {
-    return j ? j->connection.blocks : 0;
+    return j ? j->connection.disk.blocks : 0;
+}
+
+void jnl_describe(const jnl *j, jnl_disk *out)
+{
+    if (out) *out = j ? j->connection.disk : (jnl_disk){0};
+}
+
+/* ---- addresses */
+
+/* How many bits the objects of a block have, or 0 where it has none. */
+static uint32_t bits_of(const jnl_disk *d, uint64_t block)
+{
+    uint32_t bits = 0;
+    if (block >= d->blocks) return 0;
+    for (unsigned i = 0; i < d->region_count; i++) {
+        if (d->regions[i].first <= block) bits = d->regions[i].bits;
+    }
+    return bits;
+}
+
+/* Whether an address names an object that may have this value, by the regions that the port has
+ * told. A port that has told none, or that may be another by now, is to say so itself. The value may
+ * be NULL. */
+static int check(jnl *j, jnl_addr a, const uint8_t *value, size_t size)
+{
+    const jnl_disk *d = &j->connection.disk;
+    uint32_t bits = bits_of(d, a.block);
+    int is_there = bits && a.bit < BLOCK_BITS && a.bit % bits == 0;
+    int is_bit = bits == 1 && size == 1 && (!value || *value <= 1);
+    if (is_there && (bits == 1 ? is_bit : size == bits / 8)) return JNL_OK;
+    if (!d->region_count || !jnl_is_current(&j->connection)) return JNL_OK;
+    return is_there ? JNL_BAD_SIZE : JNL_BAD_ADDRESS;
 }
 
 /* ---- transactions */
@@ -265,6 +302,8 @@ static int find_missing(jnl_txn *t, const jnl_object *objects, size_t n, struct 
         uint8_t *own = own_part(t, objects[i].addr);
         if (!objects[i].value) return JNL_MISUSE;
         if (own && size_of(own) != objects[i].size) return JNL_BAD_SIZE;
+        int s = own ? JNL_OK : check(t->j, objects[i].addr, NULL, objects[i].size);
+        if (s) return s;
         if (!own) m->numbers[m->count++] = (uint16_t)i;
     }
     return JNL_OK;
@@ -362,10 +401,26 @@ int jnl_write(jnl_txn *t, jnl_addr a, const void *bytes, size_t size)
     if (!t || !bytes) return JNL_MISUSE;
     if (size > MAX_VALUE) return JNL_BAD_SIZE;
     uint8_t *own = find(t, WRITE, a);
-    if (!own) return note(t, add(t, WRITE, a, bytes, size));
-    if (size_of(own) != size) return JNL_BAD_SIZE;
-    memcpy(own + PART_HEAD, bytes, size);
-    return JNL_OK;
+    if (own && size_of(own) != size) return JNL_BAD_SIZE;
+    if (own) return memcpy(own + PART_HEAD, bytes, size), JNL_OK;
+    int s = check(t->j, a, bytes, size);
+    return s ? s : note(t, add(t, WRITE, a, bytes, size));
+}
+
+int jnl_expect(jnl_txn *t, jnl_addr a, const void *bytes, size_t size)
+{
+    if (!t || !bytes) return JNL_MISUSE;
+    if (size > MAX_VALUE) return JNL_BAD_SIZE;
+    uint8_t *own = find(t, COMPARE, a);
+    if (own && size_of(own) != size) return JNL_BAD_SIZE;
+    if (own) return memcmp(own + PART_HEAD, bytes, size) ? JNL_CONFLICT : JNL_OK;
+    int s = check(t->j, a, bytes, size);
+    return s ? s : note(t, add(t, COMPARE, a, bytes, size));
+}
+
+int jnl_has(jnl_txn *t, jnl_addr a)
+{
+    return own_part(t, a) != NULL;
 }
 
 /* The record of a commit, but for its length and its operation. One without parts has no room of
@@ -528,6 +583,71 @@ int jnl_stat(jnl *j, jnl_counts *out)
     return s;
 }
 
+/* Reads counters that were answered: those that have room, and how many there are. */
+static int read_counters(const uint8_t *answer, size_t size, jnl_counter *into, size_t room,
+                         size_t *count)
+{
+    size_t n = size < LIST_HEAD ? SIZE_MAX : get32(answer + 8);
+    if (n > MOST_COUNTERS || size != LIST_HEAD + n * COUNTER) return JNL_PROTOCOL;
+    const uint8_t *p = answer + LIST_HEAD;
+    for (size_t i = 0; i < n && i < room; i++, p += COUNTER) {
+        into[i] = (jnl_counter){get32(p), get64(p + 4)};
+    }
+    *count = n;
+    return JNL_OK;
+}
+
+int jnl_counters(jnl *j, jnl_counter *into, size_t room, size_t *count)
+{
+    uint8_t record[8], answer[LIST_HEAD + MOST_COUNTERS * COUNTER];
+    size_t size;
+    if (!j || !count || (room && !into)) return JNL_MISUSE;
+    int s = ask(j, COUNTERS, record, sizeof record, answer, sizeof answer, SIZE_MAX, &size);
+    if (s) return s;
+    s = read_counters(answer, size, into, room, count);
+    return s ? jnl_hang_up(&j->connection, s) : s;
+}
+
+/* Reads bits that were answered: they ascend, are in the block, and are as many as may be. */
+static int read_bits(const uint8_t *answer, size_t size, uint32_t first, uint32_t *bits,
+                     size_t room, size_t *count)
+{
+    size_t n = size < LIST_HEAD ? SIZE_MAX : get32(answer + 8);
+    if (n > room || size != LIST_HEAD + n * BIT) return JNL_PROTOCOL;
+    for (size_t i = 0; i < n; i++) {
+        bits[i] = get32(answer + LIST_HEAD + i * BIT);
+        if (bits[i] < first || bits[i] >= BLOCK_BITS) return JNL_PROTOCOL;
+        first = bits[i] + 1;
+    }
+    *count = n;
+    return JNL_OK;
+}
+
+/* Asks for bits; `answer` has room for so many. */
+static int find_bits(jnl *j, const jnl_scan_of *what, uint32_t *bits, size_t room, size_t *count,
+                     uint8_t *answer)
+{
+    uint8_t record[SCAN_RECORD];
+    size_t size;
+    put32(put32(put32(put64(record + 8, what->block), what->first), what->value != 0),
+          (uint32_t)room);
+    int s = ask(j, SCAN, record, sizeof record, answer, LIST_HEAD + room * BIT, SIZE_MAX, &size);
+    if (s) return s;
+    s = read_bits(answer, size, what->first, bits, room, count);
+    return s ? jnl_hang_up(&j->connection, s) : s;
+}
+
+int jnl_scan(jnl *j, jnl_scan_of what, uint32_t *bits, size_t room, size_t *count)
+{
+    if (!j || !count || (room && !bits)) return JNL_MISUSE;
+    if (room > BLOCK_BITS) room = BLOCK_BITS;
+    uint8_t *answer = malloc(LIST_HEAD + room * BIT);
+    if (!answer) return JNL_NO_MEMORY;
+    int s = find_bits(j, &what, bits, room, count, answer);
+    discard(answer);
+    return s;
+}
+
 int jnl_stop(jnl *j)
 {
     uint8_t record[8], answer[8];
@@ -562,6 +682,8 @@ const char *jnl_strerror(int status)
     case JNL_FULL: return "as many commits are in flight as may be";
     case JNL_NONE: return "no commit is in flight";
     case JNL_FORKED: return "a fork of the process that opened the disk";
+    case JNL_RESTARTED: return "the service was started again; commits that did not wait may be gone";
+    case JNL_NO_FREE: return "no record is free";
     default: return "a status that is not known";
     }
 }

@@ -15,7 +15,8 @@
  * signal.
  *
  * A connection that the port has ended, for its silence or with the service, is made again by the
- * next call. */
+ * next call. Where the service was started again in between, and commits of this connection may be
+ * gone, that call answers JNL_RESTARTED. */
 #ifndef JNL_H
 #define JNL_H
 #include <stddef.h>
@@ -27,14 +28,33 @@ extern "C" {
 typedef struct jnl jnl;
 typedef struct jnl_txn jnl_txn;
 
-/* An object: its block, and its first bit there. Block 514 has bits, at each offset below 32768,
- * each a byte 0 or 1. Blocks 515 to 530 have objects of 128 bytes, at offsets that are multiples
- * of 1024. Blocks 513, and 531 to the last, are objects of 4096 bytes, at offset 0. Blocks 0 to
- * 512 are the journal's own. */
+/* An object: its block, and its first bit there. Which objects a block has follows from the regions
+ * of the disk (jnl_describe). On a disk that was created without any, block 514 has bits, at each
+ * offset below 32768, each a byte 0 or 1. Blocks 515 to 530 have objects of 128 bytes, at offsets
+ * that are multiples of 1024. Blocks 513, and 531 to the last, are objects of 4096 bytes, at offset
+ * 0. Blocks 0 to 512 are the journal's own. */
 typedef struct {
     uint64_t block;
     uint32_t bit;
 } jnl_addr;
+
+/* The blocks from one on, to the one before the next region. Their objects have so many bits: 1 is
+ * a bit, 64 to 16384 a record, 32768 the whole block. */
+typedef struct {
+    uint64_t first;
+    uint32_t bits;
+} jnl_region;
+
+/* A disk that is served. `opening` is another number each time that its service is started.
+ * `most_blocks` is how many distinct blocks a transaction may write. A port whose `version` of the
+ * protocol is 1 tells the blocks alone, and all else is 0. */
+typedef struct {
+    uint32_t version;
+    uint64_t blocks, opening;
+    uint32_t slots, most_blocks;
+    unsigned region_count;
+    jnl_region regions[8];
+} jnl_disk;
 
 typedef enum {
     JNL_OK = 0,
@@ -52,7 +72,7 @@ typedef enum {
     JNL_CLOSED = 13,        /* the journal was stopped */
     JNL_FENCED = 14,
     JNL_CONFLICT = 64,      /* a value that was read is another now: begin again */
-    JNL_OTHER_VERSION = 69,
+    JNL_OTHER_VERSION = 69, /* the port's version of the protocol lacks the call; nothing was sent */
     JNL_FORBIDDEN = 70,
     JNL_READ_ONLY = 71,     /* the service only reads the disk, and the transaction writes */
     /* The transaction stands, and is not known to be stable: after a crash it is there whole, or
@@ -71,9 +91,14 @@ typedef enum {
     /* Of the carrier in the process alone; nothing was done. */
     JNL_SECOND_DISK = 100,  /* another disk is open in this process */
     JNL_FORKED = 101,       /* this process is a copy that fork made of the one that opened */
+    /* The service was started again, and commits of this connection that did not wait may be gone:
+     * those that no flush, stat or waiting commit had told to be stable. Nothing was sent. It is
+     * told once, by the first call after that which would send something. The next one goes on. */
+    JNL_RESTARTED = 102,
     /* Of jnl_submit and jnl_next. */
     JNL_FULL = 103,         /* 16384 commits are in flight; nothing was done */
-    JNL_NONE = 104          /* no commit is in flight */
+    JNL_NONE = 104,         /* no commit is in flight */
+    JNL_NO_FREE = 105       /* of jnl_pool_take: no record is free; nothing was done */
 } jnl_status;
 
 /* An object that is read: where it is, and where its value goes. */
@@ -123,6 +148,9 @@ void jnl_set_timeout(jnl *, unsigned milliseconds);
 /* How many blocks the disk has. */
 uint64_t jnl_blocks(const jnl *);
 
+/* The disk, as the port told it when this connection was made last. */
+void jnl_describe(const jnl *, jnl_disk *out);
+
 /* A transaction that has done nothing. Refused: JNL_NO_MEMORY; *out is then NULL. */
 int jnl_begin(jnl *, jnl_txn **out);
 
@@ -138,9 +166,14 @@ int jnl_read(jnl_txn *, jnl_addr, void *into, size_t size);
  * was. */
 int jnl_read_many(jnl_txn *, const jnl_object *, size_t n);
 
-/* Has an object overwritten by the commit. A wrong address or size is found by the commit. Where
- * it is refused, by JNL_NO_MEMORY, JNL_BAD_SIZE or JNL_TOO_LARGE, the transaction is as it was. */
+/* Has an object overwritten by the commit. Where it is refused, by JNL_NO_MEMORY, JNL_BAD_ADDRESS,
+ * JNL_BAD_SIZE or JNL_TOO_LARGE, the transaction is as it was. A wrong address or size is found by
+ * this call where the port told its regions, else by the commit. */
 int jnl_write(jnl_txn *, jnl_addr, const void *bytes, size_t size);
+
+/* Has the commit compare an object with a value that the caller knows, as if it had been read.
+ * JNL_CONFLICT: the transaction has read another value. Refused as jnl_write is. */
+int jnl_expect(jnl_txn *, jnl_addr, const void *bytes, size_t size);
 
 /* Commits: where each object that was read still has its value, all writes are done at one place
  * of the history, else nothing. It ends the transaction whatever it answers. `receipt` may be
@@ -198,18 +231,56 @@ void jnl_abort(jnl_txn *);
  * JNL_TOO_LARGE, jnl_run asks the port whether all that it read was so at one moment, by a commit
  * that only compares. If not, the work is run again. If that request fails, jnl_run answers how it
  * failed, and not what the work answered. Nothing was done then. A status by which a call of the
- * transaction told the work that the port or the memory failed, as JNL_LOST, is answered at once.
+ * transaction told the work that the port or the memory failed, as JNL_LOST or JNL_RESTARTED, is
+ * answered at once.
  *
  * The work neither commits nor aborts the transaction, has no other effect, and ends whatever it
  * reads. jnl_read_many reads objects of one moment. */
 int jnl_run(jnl *, int (*work)(jnl_txn *, void *context), void *context, unsigned flags,
             jnl_receipt *receipt);
 
-/* Makes all commits stable that were answered before, since the service was started. One that was
- * killed and started again has lost commits that did not wait, and this call does not tell so.
- * `stable`, how many are, may be NULL. */
+/* Makes all commits stable that were answered before. Where the service was started again since, so
+ * that some of this connection may be gone, it answers JNL_RESTARTED, as each call does. `stable`,
+ * how many are stable of this opening, may be NULL. */
 int jnl_flush(jnl *, uint64_t *stable);
 int jnl_stat(jnl *, jnl_counts *);
+
+/* What the service has counted since it opened the disk, by ascending names, which
+ * docs/PROTOCOL.md has. `count` is how many there are, of which the first `room` ones are set.
+ * JNL_OTHER_VERSION: the port's version is 1. */
+typedef struct {
+    uint32_t name;
+    uint64_t value;
+} jnl_counter;
+int jnl_counters(jnl *, jnl_counter *into, size_t room, size_t *count);
+
+/* Finds the bits of a block that have a value, from a bit on, ascending, at most `room` of them. All
+ * bits are as they are at one moment, and a commit that was answered before is in it. A program that
+ * wants a bit to stay so has its commit compare it, by jnl_expect. JNL_BAD_ADDRESS: the block has no
+ * bits, or the first one is above 32767. JNL_OTHER_VERSION: the port's version is 1. */
+typedef struct {
+    uint64_t block;
+    uint32_t first;
+    int value;
+} jnl_scan_of;
+int jnl_scan(jnl *, jnl_scan_of, uint32_t *bits, size_t room, size_t *count);
+
+/* Free records, by the bits of a block from `first` to before `end`: that of a record is 1 where it
+ * is in use. One jnl_pool is for one thread at a time, as its connection. It looks once which
+ * records are free, and again when it has handed all of them out. */
+typedef struct jnl_pool jnl_pool;
+int jnl_pool_open(jnl *, uint64_t block, uint32_t first, uint32_t end, jnl_pool **out);
+
+/* Takes a record that is free in a transaction: its commit compares the bit with 0 and sets it.
+ * JNL_CONFLICT of the commit: another one has it by now; begin again, and another record is taken.
+ * JNL_NO_FREE: none is free. */
+int jnl_pool_take(jnl_pool *, jnl_txn *, uint32_t *bit);
+
+/* Gives a record back in a transaction. JNL_BAD_ADDRESS: it is not in use, or none of the pool. */
+int jnl_pool_give(jnl_pool *, jnl_txn *, uint32_t bit);
+
+/* NULL is fine. */
+void jnl_pool_close(jnl_pool *);
 
 /* Ends the service, after a flush. */
 int jnl_stop(jnl *);

@@ -2,7 +2,6 @@ package jnl
 
 import (
 	"errors"
-	"fmt"
 	"net"
 	"os"
 	"syscall"
@@ -39,14 +38,18 @@ func (j *Journal) connected(deadline time.Time) (*connection, error) {
 // await waits for a connection to be made, or makes it.
 func (j *Journal) await(attempt *dialing, isMine bool, deadline time.Time) error {
 	if isMine {
-		made, blocks, err := j.dial(deadline)
+		made, disk, err := j.dial(deadline)
+		hasLost := false
 		j.mu.Lock()
 		if err == nil {
-			j.connection, j.blocks = made, blocks
+			j.connection, hasLost = made, j.promises.meet(disk)
 		}
 		j.dialing, attempt.err = nil, err
 		j.mu.Unlock()
 		close(attempt.done)
+		if hasLost {
+			return ErrRestarted
+		}
 		return err
 	}
 	var late <-chan time.Time
@@ -64,23 +67,15 @@ func (j *Journal) await(attempt *dialing, isMine bool, deadline time.Time) error
 }
 
 // dial makes a connection and greets. Nothing was asked over it yet.
-func (j *Journal) dial(deadline time.Time) (*connection, uint64, error) {
+func (j *Journal) dial(deadline time.Time) (*connection, Disk, error) {
 	socket, err := connect(j.network, j.address, deadline)
 	if err != nil {
-		return nil, 0, &failure{ErrNoPort, err}
+		return nil, Disk{}, &failure{ErrNoPort, err}
 	}
-	made := newConnection(socket, &j.untold)
-	var spoken uint32
-	var blocks uint64
-	hello := newRequest(opHello, wordBytes).word(version)
-	greeting := newCall(opHello, func(a *answer) { spoken, blocks = a.word(), a.hyper() })
-	if made.ask(hello, greeting, left(deadline)) {
-		err = greeting.err
-	} else {
-		err = &failure{ErrNoPort, net.ErrClosed}
-	}
-	if err == nil && spoken != version {
-		err = fmt.Errorf("%w: the port speaks another version", ErrProtocol)
+	made := newConnection(socket, &j.untold, &j.promises)
+	disk, err := made.greet(version, deadline)
+	if err == OtherVersion {
+		disk, err = made.greet(firstVersion, deadline)
 	}
 	if err != nil {
 		made.end(&failure{ErrLost, net.ErrClosed})
@@ -89,7 +84,18 @@ func (j *Journal) dial(deadline time.Time) (*connection, uint64, error) {
 	if errors.As(err, &lost) {
 		err = &failure{ErrNoPort, lost.cause}
 	}
-	return made, blocks, err
+	return made, disk, err
+}
+
+// greet greets in a version. It returns OtherVersion where that is not spoken, and the connection is
+// as it was.
+func (c *connection) greet(version uint32, deadline time.Time) (disk Disk, err error) {
+	hello := newRequest(opHello, wordBytes).word(version)
+	greeting := newCall(opHello, func(a *answer) { disk = a.disk(version) })
+	if !c.ask(hello, greeting, left(deadline)) {
+		return disk, &failure{ErrNoPort, net.ErrClosed}
+	}
+	return disk, greeting.err
 }
 
 // left returns how long a call may still wait; 0 is for ever.
@@ -145,11 +151,28 @@ func (j *Journal) forget(over *connection) {
 
 // ask asks the port, and reads what stands behind the operation of its answer by decode.
 func (j *Journal) ask(r request, decode func(*answer)) error {
+	return j.askNoting(r, decode, nil)
+}
+
+// askNoting asks as ask does, and notes what the answer says of commits, where it was done.
+func (j *Journal) askNoting(r request, decode func(*answer), note func()) error {
 	mine := newCall(r.operation(), decode)
+	mine.note = note
 	err := j.askFor(r, mine)
-	mine.decode = nil
+	mine.decode, mine.note = nil, nil
 	calls.Put(mine)
 	return err
+}
+
+// askSecond asks what version 1 does not have.
+func (j *Journal) askSecond(r request, decode func(*answer)) error {
+	if _, err := j.connected(j.deadline()); err != nil {
+		return err
+	}
+	if j.Disk().Version < version {
+		return OtherVersion
+	}
+	return j.ask(r, decode)
 }
 
 // askFor asks the port for a call. A connection that the port ended since the last call is made

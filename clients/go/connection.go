@@ -26,6 +26,8 @@ type call struct {
 	decode    func(*answer) // nil for a commit, whose receipt is kept
 	receipt   Receipt
 	err       error
+	isStable  bool   // a commit that waits
+	note      func() // called once the answer was read; may be nil
 	// Who answers a call of one goroutine wakes it: there is room for one, so it never waits. That
 	// of a flight is nil: it is done once isDone is 1, which is told to all flights at once.
 	done   chan struct{}
@@ -41,6 +43,7 @@ var calls = sync.Pool{New: func() any { return &call{done: make(chan struct{}, 1
 func newCall(operation uint32, decode func(*answer)) *call {
 	made := calls.Get().(*call)
 	made.operation, made.decode, made.receipt, made.err = operation, decode, Receipt{}, nil
+	made.isStable, made.note = false, nil
 	return made
 }
 
@@ -63,12 +66,14 @@ type connection struct {
 	err    error // why the connection has ended
 	// So many flights of the Journal were lost, and nobody has waited for them.
 	untold *int64
+	// What the Journal was told of commits.
+	promises *promises
 
 	answered []*call // of the goroutine that reads: whom it wakes
 }
 
-func newConnection(socket net.Conn, untold *int64) *connection {
-	c := &connection{socket: socket, untold: untold}
+func newConnection(socket net.Conn, untold *int64, told *promises) *connection {
+	c := &connection{socket: socket, untold: untold, promises: told}
 	c.hasRoom.L, c.hasDone.L = &c.mu, &c.mu
 	go c.read()
 	return c
@@ -115,6 +120,7 @@ func (c *connection) hold(r request, mine *call) (isHeld, isMuch bool) {
 	if !c.isUsable() {
 		return false, false
 	}
+	mine.isStable = mine.operation == opCommit && r.waits()
 	c.calls = append(c.calls, mine)
 	c.held = append(c.held, r...)
 	return true, len(c.held) >= pieceBytes/2
@@ -259,6 +265,7 @@ func (c *connection) await(flight *call) {
 // settleOne answers a call. It returns an error where the answer is none of the protocol.
 func (c *connection) settleOne(of *call, record []byte) error {
 	of.err = (&answer{rest: record}).judge(of)
+	c.noteAnswer(of)
 	if of.err == nil {
 		return nil
 	}
@@ -270,6 +277,19 @@ func (c *connection) settleOne(of *call, record []byte) error {
 		return of.err
 	}
 	return nil
+}
+
+// noteAnswer notes what an answer says of commits. No other connection is made before that.
+func (c *connection) noteAnswer(of *call) {
+	var unsure *Unsure
+	switch {
+	case errors.As(of.err, &unsure):
+		c.promises.noteCommit(unsure.Receipt, false)
+	case of.err == nil && of.operation == opCommit:
+		c.promises.noteCommit(of.receipt, of.isStable)
+	case of.err == nil && of.note != nil:
+		of.note()
+	}
 }
 
 // nextRecord returns the first record of some bytes, and those behind it; or no record, where it is

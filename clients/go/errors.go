@@ -50,7 +50,7 @@ var reasons = map[Refusal]string{
 	UnknownOperation: "no operation has the request's number",
 	Malformed:        "the record is spelled as no request",
 	TooLong:          "the record is too long",
-	OtherVersion:     "the version is not spoken",
+	OtherVersion:     "the port's version of the protocol is another, and lacks the call",
 	Forbidden:        "this connection may not end the service",
 	ReadOnly:         "the service only reads the disk",
 }
@@ -81,6 +81,13 @@ var (
 	// Nothing sends it again but the caller. The next call makes a new connection. errors.Is tells
 	// why too, as by os.ErrDeadlineExceeded.
 	ErrLost = errors.New("jnl: no answer came")
+	// ErrRestarted says that the service was started again, and commits of this Journal may be gone:
+	// those that did not wait, and that no Flush, Stat or commit that waited had told to be stable.
+	// Nothing was sent. One call returns it, the first after that which would send something. Later
+	// ones go on.
+	ErrRestarted = errors.New("jnl: the service was started again; commits that did not wait may be gone")
+	// ErrNoneFree says that no record of a Pool is free. Nothing was done.
+	ErrNoneFree = errors.New("jnl: no record is free")
 	// ErrProtocol says that the port answered what the protocol does not have. It is an ErrLost too.
 	ErrProtocol = fmt.Errorf("%w that the protocol has", ErrLost)
 )
@@ -110,5 +117,6 @@ func saysThatThePortFailed(err error) bool {
 	if errors.As(err, &refusal) {
 		return refusal != BadAddress && refusal != BadSize && refusal != TooLarge
 	}
-	return errors.Is(err, ErrLost) || errors.Is(err, ErrNoPort) || errors.As(err, &unsure)
+	return errors.Is(err, ErrLost) || errors.Is(err, ErrNoPort) || errors.Is(err, ErrRestarted) ||
+		errors.As(err, &unsure)
 }

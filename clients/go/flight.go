@@ -33,6 +33,9 @@ func (t *Tx) Submit(durability Durability) *Flight {
 		return &Flight{call: call{err: err}}
 	}
 	defer r.drop()
+	if err := t.journal.checkParts(&t.reads, &t.writes); err != nil {
+		return &Flight{call: call{err: err}}
+	}
 	return t.journal.submit(r.request)
 }
 
@@ -44,10 +47,12 @@ func (j *Journal) submit(r request) *Flight {
 	}
 	deadline := j.deadline()
 	for {
-		over, err := j.connected(deadline)
-		if err == nil && atomic.LoadInt64(&j.untold) > 0 {
-			err = &failure{ErrLost, errUntold}
+		// While there are losses to be told, no connection is made: it may tell of a restart.
+		if atomic.LoadInt64(&j.untold) > 0 {
+			made.call.err = &failure{ErrLost, errUntold}
+			return made
 		}
+		over, err := j.connected(deadline)
 		if err != nil {
 			made.call.err = err
 			return made

@@ -14,8 +14,9 @@
 //
 // A Journal is one connection, for any number of goroutines at once. A call does not wait for the
 // answers of others, so as many requests are in flight as there are calls. One that the port has
-// ended, for its silence or with the service, is made again by the next call. Where the connection
-// is lost, each call without an answer returns ErrLost, in the order in which they were sent. Those
+// ended, for its silence or with the service, is made again by the next call. Where the service was
+// started again in between, and commits of the Journal may be gone, that call returns ErrRestarted.
+// Where the connection is lost, each call without an answer returns ErrLost, in the order in which they were sent. Those
 // commits that were done, if any, are the first ones of these. A Tx is for one goroutine at a time,
 // which has many commits in flight by Tx.Submit.
 //
@@ -30,7 +31,8 @@ import (
 )
 
 const (
-	version = 1
+	version      = 2
+	firstVersion = 1
 	// How often a transaction that meets conflicts is run.
 	tries        = 100
 	firstPause   = 500 * time.Microsecond
@@ -39,8 +41,8 @@ const (
 
 // Address is an object: its block, and its first bit there.
 //
-// Blocks 0 to 512 are the journal's own. What the others have follows from the regions that the
-// service was given. Without them block 514 has bits, at each bit below 32768, each a byte 0 or 1.
+// Blocks 0 to 512 are the journal's own. What the others have follows from the regions of the disk
+// (Journal.Disk). On a disk that was created without any block 514 has bits, at each bit below 32768, each a byte 0 or 1.
 // Blocks 515 to 530 have objects of 128 bytes, at multiples of 1024. Blocks 513, and 531 to the
 // last, are objects of 4096 bytes, at bit 0.
 type Address struct {
@@ -84,7 +86,8 @@ type Journal struct {
 	mu         sync.Mutex  // of what follows
 	connection *connection // nil: not connected
 	dialing    *dialing    // nil: no connection is being made
-	blocks     uint64
+
+	promises promises
 }
 
 // Dial connects to a port: the network is "unix" or "tcp", and the address as net.Dial has it.
@@ -117,9 +120,53 @@ func (j *Journal) Close() error {
 
 // Blocks returns how many blocks the disk has.
 func (j *Journal) Blocks() uint64 {
+	return j.Disk().Blocks
+}
+
+// Disk returns the disk, as the port told it when the connection was made last.
+func (j *Journal) Disk() Disk {
+	return j.promises.known()
+}
+
+// isCurrent says whether the disk is known as the port has it now: the port has not ended the
+// connection.
+func (j *Journal) isCurrent() bool {
 	j.mu.Lock()
-	defer j.mu.Unlock()
-	return j.blocks
+	c := j.connection
+	j.mu.Unlock()
+	if c == nil {
+		return false
+	}
+	c.mu.Lock()
+	defer c.mu.Unlock()
+	return c.isUsable()
+}
+
+// refuse returns what a look at the disk has found, unless the port has told no regions. One that
+// may be another by now is to say so itself.
+func (j *Journal) refuse(look func(*Disk) error) error {
+	d := j.Disk()
+	if len(d.Regions) == 0 {
+		return nil
+	}
+	if err := look(&d); err != nil && j.isCurrent() {
+		return err
+	}
+	return nil
+}
+
+// checkParts refuses a commit of objects that the disk does not have.
+func (j *Journal) checkParts(lists ...*objects) error {
+	return j.refuse(func(d *Disk) error {
+		for _, list := range lists {
+			for _, o := range list.list {
+				if err := d.check(o); err != nil {
+					return err
+				}
+			}
+		}
+		return nil
+	})
 }
 
 // Begin returns a transaction that has done nothing.
@@ -134,8 +181,8 @@ func (j *Journal) Begin() *Tx {
 // together. Where it returns an error, or its commit is refused by BadAddress, BadSize or TooLarge,
 // Run asks the port whether all that it read was so at one moment, by a commit that only compares.
 // If not, the work is run again. If that request fails, Run returns its error, and not that of the
-// work. Nothing was done then. ErrLost, ErrNoPort and what else says that the port failed is
-// returned at once.
+// work. Nothing was done then. ErrLost, ErrNoPort, ErrRestarted and what else says that the port
+// failed is returned at once.
 //
 // The work must end, and not panic, whatever it reads. Tx.ReadMany reads objects of one moment.
 func (j *Journal) Run(durability Durability, work func(*Tx) error) (Receipt, error) {
@@ -166,12 +213,21 @@ func (j *Journal) Read(addresses ...Address) ([][]byte, error) {
 	if len(addresses) > maxAddresses {
 		return nil, TooLarge
 	}
+	err := j.refuse(func(d *Disk) (err error) {
+		for i := 0; i < len(addresses) && err == nil; i++ {
+			err = d.checkAddress(addresses[i])
+		}
+		return err
+	})
+	if err != nil {
+		return nil, err
+	}
 	r := newRequest(opRead, wordBytes+len(addresses)*addressBytes).word(uint32(len(addresses)))
 	for _, a := range addresses {
 		r = r.address(a)
 	}
 	var values [][]byte
-	err := j.ask(r, func(a *answer) {
+	err = j.ask(r, func(a *answer) {
 		if a.word() != uint32(len(addresses)) {
 			a.fail("there are not as many values as addresses")
 		}
@@ -185,27 +241,73 @@ func (j *Journal) Read(addresses ...Address) ([][]byte, error) {
 	return values, nil
 }
 
-// Flush makes all commits stable that were answered before, since the service was started. It
-// returns how many are stable. It does not tell that the service was killed and started again,
-// which has lost commits that did not wait.
+// Flush makes all commits stable that were answered before. It returns how many are stable of this
+// opening. Where the service was started again since, so that some of this Journal may be gone, it
+// returns ErrRestarted, as each call does.
 func (j *Journal) Flush() (stable uint64, err error) {
-	err = j.ask(newRequest(opFlush, 0), func(a *answer) { stable = a.hyper() })
+	err = j.askNoting(newRequest(opFlush, 0), func(a *answer) { stable = a.hyper() },
+		func() { j.promises.noteStable(stable) })
 	return stable, err
 }
 
 // Stat returns how many commits there are, and how many of them are stable at least.
 func (j *Journal) Stat() (stat Stat, err error) {
-	err = j.ask(newRequest(opStat, 0), func(a *answer) { stat = Stat{a.hyper(), a.hyper()} })
+	err = j.askNoting(newRequest(opStat, 0), func(a *answer) { stat = Stat{a.hyper(), a.hyper()} },
+		func() { j.promises.noteStable(stat.Stable) })
 	return stat, err
 }
 
 // Stop ends the service, after a flush. It returns Forbidden where this connection may not.
 func (j *Journal) Stop() error {
-	return j.ask(newRequest(opStop, 0), func(*answer) {})
+	return j.askNoting(newRequest(opStop, 0), func(*answer) {}, j.promises.noteStop)
+}
+
+// Counters returns what the service has counted since it opened the disk, by the names of
+// docs/PROTOCOL.md. It returns OtherVersion, and nothing is sent, where the port's version is 1.
+func (j *Journal) Counters() (map[uint32]uint64, error) {
+	found := map[uint32]uint64{}
+	err := j.askSecond(newRequest(opCounters, 0), func(a *answer) {
+		for n := a.list(maxCounters); n > 0; n-- {
+			name := a.word()
+			found[name] = a.hyper()
+		}
+	})
+	if err != nil {
+		return nil, err
+	}
+	return found, nil
+}
+
+// Scan returns the bits of a block that have a value, from a bit on, ascending, at most so many. All
+// bits are as they are at one moment. It returns BadAddress where the block has no bits, or the
+// first one is above 32767, and OtherVersion, with nothing sent, where the port's version is 1.
+func (j *Journal) Scan(block uint64, first uint32, value bool, most int) ([]uint32, error) {
+	if most > blockBits {
+		most = blockBits
+	}
+	r := newRequest(opScan, addressBytes+2*wordBytes).address(Address{block, first})
+	var bits []uint32
+	err := j.askSecond(r.boolean(value).word(uint32(most)), func(a *answer) {
+		next := first
+		for n := a.list(most); n > 0; n-- {
+			bit := a.word()
+			if bit < next || bit >= blockBits {
+				a.fail("bits do not ascend within their block")
+			}
+			bits, next = append(bits, bit), bit+1
+		}
+	})
+	if err != nil {
+		return nil, err
+	}
+	return bits, nil
 }
 
 func (j *Journal) commit(durability Durability, compared, written *objects) (Receipt, error) {
 	r, err := spellCommit(durability, compared, written)
+	if err == nil {
+		err = j.checkParts(compared, written)
+	}
 	if err != nil {
 		return Receipt{}, err
 	}

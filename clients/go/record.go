@@ -27,6 +27,8 @@ const (
 	opFlush
 	opStat
 	opStop
+	opCounters
+	opScan
 )
 
 const (
@@ -66,6 +68,11 @@ func (r request) part(action uint32, o object) request {
 
 func (r request) operation() uint32 {
 	return binary.BigEndian.Uint32(r[4:])
+}
+
+// waits says whether a commit waits until it is stable.
+func (r request) waits() bool {
+	return binary.BigEndian.Uint32(r[8:]) == 1
 }
 
 // rooms are those of records of commits, which are copied before they are sent.

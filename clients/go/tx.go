@@ -1,6 +1,9 @@
 package jnl
 
-import "errors"
+import (
+	"bytes"
+	"errors"
+)
 
 // Tx has reads and writes that are committed as one.
 //
@@ -81,6 +84,16 @@ func (t *Tx) Write(a Address, value []byte) {
 	t.writes.setCopy(a, value)
 }
 
+// Expect has the commit compare an object with a value that the caller knows, as if it had been
+// read. It returns Conflict where the transaction has read another value.
+func (t *Tx) Expect(a Address, value []byte) error {
+	if known, ok := t.reads.get(a); ok && !bytes.Equal(known, value) {
+		return Conflict
+	}
+	t.reads.set(a, clone(value))
+	return nil
+}
+
 // Commit commits: where each object that was read still has its value, all writes are done at one
 // place of the history, else nothing. ErrLost leaves open whether it was done.
 func (t *Tx) Commit(durability Durability) (Receipt, error) {
@@ -116,6 +129,6 @@ func (t *Tx) compareAlone() error {
 	return err
 }
 
-func clone(bytes []byte) []byte {
-	return append([]byte(nil), bytes...)
+func clone(value []byte) []byte {
+	return append([]byte(nil), value...)
 }

@@ -36,10 +36,13 @@ A commit that writes nothing and compares one of these bits:
 A read of this bit, after a pause:
 
     32  is answered, and this connection and the next one ended   done; then there is no port
+    34  is answered, the connection ended, and the opening is     done; then restarted, if a commit
+        another from then on                                      before it did not wait; then done
 
 SOCKET.silent takes connections and answers nothing. SOCKET.full has no room for a connection.
 """
 
+import secrets
 import socket
 import struct
 import sys
@@ -80,7 +83,7 @@ class Connection:
             return self.send(word(14))
         if operation == HELLO and self.port.speaks_other:
             self.port.speaks_other = False
-            return self.send(word(0) + word(HELLO) + word(2) + struct.pack(">Q", 700))
+            return self.send(word(0) + word(HELLO) + word(3) + struct.pack(">Q", 700))
         if operation == COMMIT:
             return self.commit(record)
         if operation == READ:
@@ -156,6 +159,9 @@ class Connection:
         answer = self.port.answer(record)
         if record[8:16] == struct.pack(">Q", BLOCK_OF_BITS) and bit == 32:
             self.port.ends_next = True
+            self.end(framed(answer))
+        if record[8:16] == struct.pack(">Q", BLOCK_OF_BITS) and bit == 34:
+            self.port.opening = secrets.randbits(64)
             self.end(framed(answer))
         if record[8:16] == struct.pack(">Q", BLOCK_OF_BITS) and bit in self.port.to_read:
             self.port.to_read.remove(bit)

@@ -4,17 +4,22 @@
 
 It is written from docs/PROTOCOL.md alone, and knows nothing of the journal. It answers as the page
 says, keeps nothing, and refuses to stop. Its first line of output is the TCP port of this machine
-at which it listens too. BLOCKS and the regions are as of `jnl serve`, 513:block and so on.
+at which it listens too. BLOCKS and the regions are as of `jnl serve`, 513:block and so on. With
+JNL_VERSION=1 in its environment it speaks version 1 of the protocol alone.
 """
 
+import os
+import secrets
 import socket
 import struct
 import sys
 import threading
 
-VERSION = 1
+VERSION = int(os.environ.get("JNL_VERSION", "2"))
 MAX_RECORD, MAX_PARTS, MAX_ADDRESSES, MAX_VALUE, MAX_BLOCKS_WRITTEN = 2097152, 4096, 256, 4096, 128
-HELLO, COMMIT, READ, FLUSH, STAT, STOP = range(6)
+HELLO, COMMIT, READ, FLUSH, STAT, STOP, COUNTERS, SCAN = range(8)
+LAST_OPERATION = SCAN if VERSION > 1 else STOP
+SLOTS = 257
 COMPARE, WRITE = range(2)
 SIZES = {"bit": 1, "block": 4096, **{f"record{8 << i}": 8 << i for i in range(9)}}
 
@@ -47,7 +52,13 @@ class Layout:
             raise Refused(2)
 
 
-OF_FILES = Layout(700, "513:block", "514:bit", "515:record128", "531:block")
+    def spelled(self) -> bytes:
+        """The regions as a hello of version 2 tells them."""
+        pairs = [(first, 1 if size == 1 else 8 * size) for first, size in self.regions]
+        return word(len(pairs)) + b"".join(hyper(first) + word(bits) for first, bits in pairs)
+
+
+OF_FILES = Layout(1100, "513:block", "514:bit", "515:record128", "531:block")
 
 
 def word(n: int) -> bytes:
@@ -97,6 +108,7 @@ class Port:
         self.lock = threading.Lock()
         self.objects: dict = {}
         self.commits = 0
+        self.opening = secrets.randbits(64)
 
     def get(self, address: tuple) -> bytes:
         return self.objects.get(address, bytes(self.layout.size_of(address[0])))
@@ -122,14 +134,31 @@ class Port:
         found = [self.get(address) for address in addresses]
         return word(len(found)) + b"".join(word(len(v)) + v + bytes(-len(v) % 4) for v in found)
 
+    def greeting(self, version: int) -> bytes:
+        if version not in range(1, VERSION + 1):
+            raise Refused(69)
+        told = word(version) + hyper(self.layout.blocks)
+        if version == 1:
+            return told
+        most = word(SLOTS) + word(MAX_BLOCKS_WRITTEN)
+        return told + hyper(self.opening) + most + self.layout.spelled()
+
+    def counters(self) -> bytes:
+        counted = [(1, self.commits), (2, self.commits)]
+        return word(len(counted)) + b"".join(word(name) + hyper(n) for name, n in counted)
+
+    def bits(self, block: int, first: int, value: int, most: int) -> bytes:
+        if self.layout.size_of(block) != 1 or first > 32767:
+            raise Refused(2)
+        at = [bit for bit in range(first, 32768) if self.get((block, bit))[0] == value][:most]
+        return word(len(at)) + b"".join(map(word, at))
+
     def done(self, operation: int, reader: Reader) -> bytes:
         """Does a request, and gives what stands behind the operation of its answer."""
         if operation == HELLO:
             version = reader.word()
             reader.end()
-            if version != VERSION:
-                raise Refused(69)
-            return word(VERSION) + hyper(self.layout.blocks)
+            return self.greeting(version)
         if operation == COMMIT:
             reader.word(1)
             parts = [reader.part() for _ in range(reader.word(MAX_PARTS))]
@@ -139,7 +168,13 @@ class Port:
             addresses = [reader.address() for _ in range(reader.word(MAX_ADDRESSES))]
             reader.end()
             return self.values(addresses)
+        if operation == SCAN:
+            (block, first), value, most = reader.address(), reader.word(1), reader.word()
+            reader.end()
+            return self.bits(block, first, value, most)
         reader.end()
+        if operation == COUNTERS:
+            return self.counters()
         if operation == STOP:
             raise Refused(70)
         return hyper(self.commits) * (2 if operation == STAT else 1)
@@ -148,7 +183,7 @@ class Port:
         reader = Reader(record)
         try:
             operation = reader.word()
-            if operation > STOP:
+            if operation > LAST_OPERATION:
                 raise Refused(66)
             with self.lock:
                 return word(0) + word(operation) + self.done(operation, reader)

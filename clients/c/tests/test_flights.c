@@ -131,12 +131,15 @@ static void conflicts(void)
 
 static void refusals(void)
 {
+    static const unsigned char block[4096];
     jnl_txn *t = begun();
-    want_status(jnl_write(t, (jnl_addr){3, 0}, "", 1), JNL_OK, "write", 0);
+    for (uint64_t i = 0; i <= 128; i++) {
+        want_status(jnl_write(t, (jnl_addr){531 + i, 0}, block, sizeof block), JNL_OK, "write", i);
+    }
     put_record(1, 0, 1);
-    want_status(jnl_submit(t, 0, 2), JNL_OK, "a block of the log", 2);
+    want_status(jnl_submit(t, 0, 2), JNL_OK, "too many blocks", 2);
     put_record(2, JNL_WAIT, 3);
-    take(1, JNL_OK), take(2, JNL_BAD_ADDRESS), take(3, JNL_OK);
+    take(1, JNL_OK), take(2, JNL_TOO_LARGE), take(3, JNL_OK);
     want_status(jnl_submit(NULL, 0, 0), JNL_MISUSE, "no transaction", 0);
     want_status(jnl_next(j, NULL, NULL, NULL), JNL_MISUSE, "no place for an answer", 0);
     want_status(jnl_push(NULL), JNL_MISUSE, "nothing to push", 0);

@@ -117,22 +117,22 @@ static void run_transfers(jnl *j)
     for (unsigned i = 0; i < THREADS; i++) want(pthread_join(threads[i], NULL), 0, "a join");
 }
 
-static void write_and_commit(jnl *j, jnl_addr a, size_t size, int wanted, const char *what)
+static void refuse(jnl *j, jnl_addr a, size_t size, int wanted, const char *what)
 {
     unsigned char value[BLOCK] = {2};
     jnl_txn *t;
     want(jnl_begin(j, &t), JNL_OK, "begin");
-    want(jnl_write(t, a, value, size), JNL_OK, "write");
-    want(jnl_commit(t, 0, NULL), wanted, what);
+    want(jnl_write(t, a, value, size), wanted, what);
+    want(jnl_commit(t, 0, NULL), JNL_OK, "commit");
 }
 
 static void refusals(jnl *j)
 {
     unsigned char value[BLOCK] = {0};
     jnl_txn *first, *second;
-    write_and_commit(j, (jnl_addr){3, 0}, BLOCK, JNL_BAD_ADDRESS, "a block of the log");
-    write_and_commit(j, (jnl_addr){514, 0}, 1, JNL_BAD_SIZE, "a bit of 2");
-    write_and_commit(j, (jnl_addr){515, 0}, SIZE - 1, JNL_BAD_SIZE, "127 bytes");
+    refuse(j, (jnl_addr){3, 0}, BLOCK, JNL_BAD_ADDRESS, "a block of the log");
+    refuse(j, (jnl_addr){514, 0}, 1, JNL_BAD_SIZE, "a bit of 2");
+    refuse(j, (jnl_addr){515, 0}, SIZE - 1, JNL_BAD_SIZE, "127 bytes");
     want(jnl_begin(j, &first), JNL_OK, "begin");
     want(jnl_begin(j, &second), JNL_OK, "begin");
     want(jnl_read(first, (jnl_addr){531, 0}, value, BLOCK), JNL_OK, "read");
@@ -197,7 +197,9 @@ static void what_no_record_holds(jnl *j)
     jnl_addr bits = {514, 8192}, blocks = {531, 0};
     want(write_many(j, bits, MOST_PARTS, 1, 0), JNL_OK, "as many parts as may be");
     want(write_many(j, bits, MOST_PARTS + 1, 1, 0), JNL_TOO_LARGE, "one part more");
-    want(write_many(j, blocks, 512, BLOCK, 1), JNL_TOO_LARGE, "2 MiB");
+    if (jnl_blocks(j) > 531 + 512) {
+        want(write_many(j, blocks, 512, BLOCK, 1), JNL_TOO_LARGE, "2 MiB");
+    }
     want(write_many(j, blocks, 1, BLOCK + 1, 1), JNL_BAD_SIZE, "a value of 4097 bytes");
 }
 

@@ -48,8 +48,8 @@ static void refuse(jnl *j, jnl_addr at, size_t size, int wanted, const char *wha
     static const unsigned char value[BLOCK];
     jnl_txn *t;
     want(jnl_begin(j, &t), JNL_OK, "begin");
-    want(jnl_write(t, at, value, size), JNL_OK, "write");
-    want(jnl_commit(t, 0, NULL), wanted, what);
+    want(jnl_write(t, at, value, size), wanted, what);
+    want(jnl_commit(t, 0, NULL), JNL_OK, "commit");
 }
 
 int main(int argc, char **argv)

@@ -9,7 +9,8 @@
         j.run(transfer)
 
 One connection serves one thread at a time. One that the port has ended, for its silence or with the
-service, is made again by the next call.
+service, is made again by the next call. Where the service was started again in between, and commits
+of this connection may be gone, that call raises Restarted.
 
 `Transaction.submit` puts a commit in flight without waiting for its answer, and `Journal.next`
 gives the answers in order. `jnl.aio` has the same client for asyncio, whose calls may be made by
@@ -22,15 +23,20 @@ from ._records import (
     WRITE,
     Address,
     Conflict,
+    Disk,
     Full,
     Lost,
+    NoneFree,
     NoPort,
     ProtocolError,
     Receipt,
     Refused,
+    Region,
+    Restarted,
     Stat,
     Unsure,
 )
+from .pool import Pool
 
 __all__ = [
     "COMPARE",
@@ -38,13 +44,18 @@ __all__ = [
     "Address",
     "Answer",
     "Conflict",
+    "Disk",
     "Full",
     "Journal",
     "Lost",
     "NoPort",
+    "NoneFree",
+    "Pool",
     "ProtocolError",
     "Receipt",
     "Refused",
+    "Region",
+    "Restarted",
     "Stat",
     "Transaction",
     "Unsure",

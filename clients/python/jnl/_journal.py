@@ -10,7 +10,9 @@ from collections import deque
 from typing import (
     Callable,
     Deque,
+    Dict,
     Iterator,
+    List,
     NamedTuple,
     Optional,
     Sequence,
@@ -23,14 +25,17 @@ from . import _records
 from ._records import (
     Address,
     Conflict,
+    Disk,
     Full,
     Lost,
     Objects,
     Part,
+    Promises,
     ProtocolError,
     Receipt,
     Refused,
     Request,
+    Restarted,
     Stat,
     Unsure,
 )
@@ -84,6 +89,15 @@ class Transaction(Objects):
             self._keep(missing, self._journal.read(missing))
         return [self._own(a) for a in addresses]
 
+    def has(self, block: int, bit: int) -> bool:
+        """True if the transaction has read or overwritten the object."""
+        return self._own((block, bit)) is not None
+
+    def expect(self, block: int, bit: int, value: bytes) -> None:
+        """Has the commit compare an object with a value that the caller knows, as if it had been
+        read. Raises Conflict where the transaction has read another value."""
+        self._expect((block, bit), value)
+
     def commit(self, wait: bool = False) -> Receipt:
         """Commits. With `wait` it is stable once this returns."""
         return self._journal.commit(self._parts(), wait)
@@ -105,8 +119,8 @@ class Transaction(Objects):
 
 
 class Journal:
-    """A connection to the port. `blocks` is how many blocks the disk has. `last_receipt` is the
-    receipt of the last commit that was done over it, as by `run`, or None; commits that were
+    """A connection to the port. `disk` is the disk, as the port told it when the connection was made
+    last, and `blocks` is how many blocks it has. `last_receipt` is the receipt of the last commit that was done over it, as by `run`, or None; commits that were
     submitted have theirs in their answers."""
 
     def __init__(self, path: Optional[str], port: Optional[int], timeout: Optional[float]):
@@ -115,11 +129,11 @@ class Journal:
         self._timeout = timeout
         self._ends: Optional[float] = None
         self._socket: Optional[socket.socket] = None
-        self.blocks = 0
+        self._promises = Promises()
         self.last_receipt: Optional[Receipt] = None
         # Commits in flight: those without an answer, in the order of their submission, and the
         # answers that were not taken, all of commits before those.
-        self._flights: Deque[Tuple[object, Request[Receipt]]] = deque()
+        self._flights: Deque[Tuple[object, Request[Receipt], bool]] = deque()
         self._answers: Deque[Answer] = deque()
         self._has_lost = False
         # The session has ended: the next call makes another connection.
@@ -128,6 +142,15 @@ class Journal:
         self._came = bytearray()
         self._begin_call()
         self._connect()
+
+    @property
+    def disk(self) -> Disk:
+        assert self._promises.disk is not None
+        return self._promises.disk
+
+    @property
+    def blocks(self) -> int:
+        return self.disk.blocks
 
     def __enter__(self) -> "Journal":
         return self
@@ -151,7 +174,7 @@ class Journal:
         self._is_over = False
         self._held.clear()
         self._came.clear()
-        for tag, _ in self._flights:
+        for tag, _, _ in self._flights:
             self._has_lost = True
             self._answers.append(Answer(tag, None, reason))
             reason = _records.lost(reason.__cause__ or reason)
@@ -188,12 +211,23 @@ class Journal:
         try:
             _records.check_place(self._path, self._port)
             self._dial()
-            self.blocks = self._ask_connected(_records.hello())
+            disk = self._greet()
         except BaseException as error:
             self.close()
             if isinstance(error, (OSError, Lost)) and not isinstance(error, ProtocolError):
                 raise _records.no_port(error) from error
             raise
+        if self._promises.meet(disk):
+            raise Restarted("the service was started again; commits that did not wait may be gone")
+
+    def _greet(self) -> Disk:
+        """Greets by the newest version that the port speaks."""
+        try:
+            return self._ask_connected(_records.hello(_records.VERSION))
+        except Refused as error:
+            if error.status != _records.OTHER_VERSION:
+                raise
+            return self._ask_connected(_records.hello(_records.FIRST_VERSION))
 
     def _await(self, events: int) -> int:
         """Waits for events of the socket."""
@@ -229,14 +263,22 @@ class Journal:
 
     def _settle(self, answer: bytes) -> None:
         """Gives an answer to the first commit in flight that has none."""
-        tag, request = self._flights[0]
+        tag, request, wait = self._flights[0]
         try:
-            found = Answer(tag, request.result(answer), None)
+            receipt = request.result(answer)
+            found = Answer(tag, receipt, None)
+            self._promises.note_commit(receipt, wait)
         except (Refused, Unsure) as error:
             found = Answer(tag, None, error)
+            self._note_unsure(error)
             self._is_over = self._is_over or _records.ends_connection(error)
         self._flights.popleft()
         self._answers.append(found)
+
+    def _note_unsure(self, error: Exception) -> None:
+        """Notes a commit that stands, and is not known to be stable."""
+        if isinstance(error, Unsure):
+            self._promises.note_commit(error.receipt, False)
 
     def _send(self, record: bytes) -> None:
         """Sends bytes. While the socket takes none, answers are taken: a port that cannot be rid of
@@ -313,7 +355,9 @@ class Journal:
 
     def read(self, addresses: Sequence[Address]) -> list:
         """The values of at most 256 objects, all at one place of the history."""
-        return self._ask(_records.read_of(addresses))
+        request = _records.read_of(addresses)
+        self._check([(address, None) for address in addresses])
+        return self._ask(request)
 
     def commit(self, parts: Sequence[Part], wait: bool = False) -> Receipt:
         """Commits parts, each of which compares or writes."""
@@ -321,7 +365,27 @@ class Journal:
         return self.last_receipt
 
     def _commit(self, parts: Sequence[Part], wait: bool) -> Receipt:
-        return self._ask(_records.commit_of(parts, wait))
+        request = _records.commit_of(parts, wait)
+        self._check([(address, value) for _, address, value in parts])
+        try:
+            receipt = self._ask(request)
+        except Unsure as error:
+            self._note_unsure(error)
+            raise
+        self._promises.note_commit(receipt, wait)
+        return receipt
+
+    def _check(self, objects: Sequence[Tuple[Address, Optional[bytes]]]) -> None:
+        """Refuses what the disk does not have, where the port has told its regions. A port that may
+        be another by now is to say so itself."""
+        if not self.disk.regions or self._socket is None:
+            return
+        try:
+            for address, value in objects:
+                self.disk.check(address, value)
+        except Refused:
+            if self._flights or self._is_quiet():
+                raise
 
     def submit(self, parts: Sequence[Part], wait: bool = False, tag: object = None) -> None:
         """Puts a commit in flight, and does not wait for its answer, which `next` gives. Commits
@@ -344,7 +408,7 @@ class Journal:
             raise Full("as many commits are in flight as may be")
         request = _records.commit_of(parts, wait)
         self._begin_sending()
-        self._flights.append((tag, request))
+        self._flights.append((tag, request, wait))
         self._held += request.record
         if len(self._held) >= HELD_BYTES:
             self.push()
@@ -390,8 +454,8 @@ class Journal:
         together. Where it raises an exception, or its commit is refused by 2, 3 or 4, `run` asks
         the port whether all that it read was so at one moment, by a commit that only compares. If
         not, the work is run again. If that request fails, its exception is raised, with the work's
-        as its context. Nothing was done then. `Lost`, `NoPort` and what else says that the port
-        failed is raised at once.
+        as its context. Nothing was done then. `Lost`, `NoPort`, `Restarted` and what else says that
+        the port failed is raised at once.
 
         The work must end whatever it reads. `Transaction.read_many` reads objects of one moment."""
         for attempt in range(1, tries):
@@ -411,18 +475,43 @@ class Journal:
         return result
 
     def flush(self) -> int:
-        """Makes all commits stable that were answered before, since the service was started. How
-        many are stable. It does not tell that the service was killed and started again, which has
-        lost commits that did not wait."""
-        return self._ask(_records.flush())
+        """Makes all commits stable that were answered before. How many are stable of this opening.
+        Where the service was started again since, so that some of this connection may be gone, it
+        raises Restarted, as each call does."""
+        stable = self._ask(_records.flush())
+        self._promises.note_stable(stable)
+        return stable
 
     def stat(self) -> Stat:
         """How many commits there are, and how many of them are stable at least."""
-        return self._ask(_records.stat())
+        found = self._ask(_records.stat())
+        self._promises.note_stable(found.stable)
+        return found
+
+    def counters(self) -> Dict[int, int]:
+        """What the service has counted since it opened the disk, by the names of docs/PROTOCOL.md.
+        Refused by 69, and nothing is sent, where the port's version is 1."""
+        return self._ask_second(_records.counters())
+
+    def scan(
+        self, block: int, first: int = 0, value: bool = False, most: int = _records.BLOCK_BITS
+    ) -> List[int]:
+        """The bits of a block that have a value, from a bit on, ascending, at most so many. All bits
+        are as they are at one moment. Refused by 69, and nothing is sent, where the port's version
+        is 1."""
+        return self._ask_second(_records.scan(block, first, value, most))
+
+    def _ask_second(self, request: Request[T]) -> T:
+        """Asks what version 1 does not have."""
+        self._begin_sending()
+        if self.disk.version < _records.VERSION:
+            raise Refused(_records.OTHER_VERSION)
+        return self._ask_connected(request)
 
     def stop(self) -> None:
         """Ends the service, after a flush."""
         self._ask(_records.stop())
+        self._promises.note_stop()
         self.close()
 
 

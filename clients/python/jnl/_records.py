@@ -16,22 +16,28 @@ from typing import (
     TypeVar,
 )
 
-VERSION = 1
+FIRST_VERSION = 1
+VERSION = 2
 MAX_RECORD = 2097152
 MAX_VALUE = 4096
 MAX_PARTS = 4096
 MAX_ADDRESSES = 256
+MAX_REGIONS = 8
+MAX_COUNTERS = 256
+BLOCK_BITS = 32768
+BLOCK_BYTES = 4096
 # The bytes of a path that names a socket.
 MAX_PATH = 107
 LENGTH_BYTES = 4
 
-HELLO, COMMIT, READ, FLUSH, STAT, STOP = range(6)
+HELLO, COMMIT, READ, FLUSH, STAT, STOP, COUNTERS, SCAN = range(8)
 COMPARE, WRITE = range(2)
 BAD_ADDRESS = 2
 BAD_SIZE = 3
 TOO_LARGE = 4
 CONFLICT = 64
 UNSURE = 65
+OTHER_VERSION = 69
 READ_ONLY = 71
 # The session has ended: the next call begins another.
 ENDED = (9, 10, 11, 14)
@@ -51,7 +57,7 @@ REASONS = {
     66: "no operation has the request's number",
     67: "the record is spelled as no request",
     68: "the record is too long",
-    69: "the version is not spoken",
+    OTHER_VERSION: "the port's version of the protocol is another, and lacks the call",
     70: "this connection may not end the service",
     READ_ONLY: "the service only reads the disk",
 }
@@ -100,6 +106,17 @@ class ProtocolError(Lost):
     """The port answers what the protocol does not have. The connection was closed."""
 
 
+class Restarted(Exception):
+    """The service was started again, and commits of this connection may be gone: those that did not
+    wait, and that no flush, stat or waiting commit had told to be stable. Nothing was sent. It is
+    raised once, by the first call after that which would send something. The next one goes on.
+    """
+
+
+class NoneFree(Exception):
+    """No record of a pool is free. Nothing was done."""
+
+
 class NoPort(OSError):
     """No port answers. Nothing was done. `errno` says why, as ENOENT or ETIMEDOUT do."""
 
@@ -141,6 +158,79 @@ class Stat(NamedTuple):
 
     commits: int
     stable: int
+
+
+class Region(NamedTuple):
+    """The blocks from one on, to the one before the next region. Their objects have so many bits: 1
+    is a bit, 64 to 16384 a record, 32768 the whole block."""
+
+    first: int
+    bits: int
+
+
+class Disk(NamedTuple):
+    """A disk that is served. `opening` is another number each time that its service is started, and
+    `most_blocks` is how many distinct blocks a transaction may write. A port whose version of the
+    protocol is 1 tells the blocks alone: all else is 0, and there are no regions."""
+
+    version: int
+    blocks: int
+    opening: int = 0
+    slots: int = 0
+    most_blocks: int = 0
+    regions: Tuple[Region, ...] = ()
+
+    def check(self, address: Address, value: Optional[bytes] = None) -> None:
+        """Raises Refused where an address names no object, or a value is none of its object's."""
+        block, bit = address
+        bits = self._bits_of(block)
+        if bits == 0 or not 0 <= bit < BLOCK_BITS or bit % bits:
+            raise Refused(BAD_ADDRESS)
+        if value is not None and len(value) != (bits + 7) // 8:
+            raise Refused(BAD_SIZE)
+        if value is not None and bits == 1 and value[0] > 1:
+            raise Refused(BAD_SIZE)
+
+    def _bits_of(self, block: int) -> int:
+        """How many bits the objects of a block have, or 0 where it has none."""
+        if not 0 <= block < self.blocks:
+            return 0
+        return ([0] + [bits for first, bits in self.regions if first <= block])[-1]
+
+
+class Promises:
+    """What a client was told of commits of one opening after another."""
+
+    def __init__(self) -> None:
+        self.disk: Optional[Disk] = None
+        # The commits up to the last one that was told, and did not wait or is not known to be
+        # stable; and how many are known to be stable.
+        self._told = 0
+        self._stable = 0
+
+    def note_commit(self, receipt: Receipt, is_stable: bool) -> None:
+        if is_stable:
+            self.note_stable(receipt.commits)
+        else:
+            self._told = max(self._told, receipt.commits)
+
+    def note_stable(self, stable: int) -> None:
+        self._stable = max(self._stable, stable)
+
+    def note_stop(self) -> None:
+        """Notes that a service has ended after a flush."""
+        self.note_stable(self._told)
+
+    def meet(self, disk: Disk) -> bool:
+        """Notes the disk that a greeting has told. True, once, if it is another opening, and commits
+        of the one before may be gone. Each start of a service of version 1 is taken for the same
+        one, since it does not tell which it is."""
+        before, self.disk = self.disk, disk
+        if before is None or (before.version, before.opening) == (disk.version, disk.opening):
+            return False
+        may_be_gone = self._told > self._stable
+        self._told = self._stable = 0
+        return may_be_gone
 
 
 class Reader:
@@ -255,16 +345,34 @@ def _value(value: bytes) -> bytes:
     return struct.pack(">I", len(value)) + value + bytes(-len(value) % 4)
 
 
-def hello() -> Request[int]:
-    """A greeting. Its answer gives the number of blocks."""
+def _region(answer: Reader) -> Region:
+    region = Region(answer.hyper(), answer.word())
+    if region.bits != 1 and region.bits not in (64 << i for i in range(10)):
+        raise ProtocolError("a region has no such objects")
+    return region
 
-    def blocks(answer: Reader) -> int:
-        version, found = answer.word(), answer.hyper()
-        if version != VERSION:
-            raise ProtocolError(f"the port speaks version {version}")
-        return found
 
-    return Request(HELLO, struct.pack(">I", VERSION), blocks)
+def _list(answer: Reader, most: int, item: Callable[[Reader], T]) -> List[T]:
+    count = answer.word()
+    if count > most:
+        raise ProtocolError("a list is too long")
+    return [item(answer) for _ in range(count)]
+
+
+def hello(version: int) -> Request[Disk]:
+    """A greeting in a version. Its answer gives the disk."""
+
+    def disk(answer: Reader) -> Disk:
+        spoken, blocks = answer.word(), answer.hyper()
+        if spoken != version:
+            raise ProtocolError(f"the port speaks version {spoken}")
+        if version == FIRST_VERSION:
+            return Disk(version, blocks)
+        opening, slots, most_blocks = answer.hyper(), answer.word(), answer.word()
+        regions = _list(answer, MAX_REGIONS, _region)
+        return Disk(version, blocks, opening, slots, most_blocks, tuple(regions))
+
+    return Request(HELLO, struct.pack(">I", version), disk)
 
 
 def read_of(addresses: Sequence[Address]) -> Request[List[bytes]]:
@@ -296,6 +404,32 @@ def stat() -> Request[Stat]:
     return Request(STAT, b"", lambda answer: Stat(answer.hyper(), answer.hyper()))
 
 
+def counters() -> Request[Dict[int, int]]:
+    """The counters. Its answer gives the value of each by its name."""
+
+    def found(answer: Reader) -> Dict[int, int]:
+        return dict(_list(answer, MAX_COUNTERS, lambda a: (a.word(), a.hyper())))
+
+    return Request(COUNTERS, b"", found)
+
+
+def scan(block: int, first: int, value: bool, most: int) -> Request[List[int]]:
+    """A scan. Its answer gives the numbers of bits, which ascend."""
+    most = max(0, min(most, BLOCK_BITS))
+
+    def bits(answer: Reader) -> List[int]:
+        count = answer.word()
+        if count > most:
+            raise ProtocolError("a list is too long")
+        found = list(struct.unpack(f">{count}I", answer.take(4 * count)))
+        if any(b <= a for a, b in zip([first - 1] + found, found)) or found[-1:] > [BLOCK_BITS - 1]:
+            raise ProtocolError("bits do not ascend within their block")
+        return found
+
+    body = _address((block, first)) + struct.pack(">II", bool(value), most)
+    return Request(SCAN, body, bits)
+
+
 def stop() -> Request[None]:
     return Request(STOP, b"", lambda answer: None)
 
@@ -304,7 +438,7 @@ def _says_that_the_port_failed(error: Exception) -> bool:
     """And not that what was asked for is wrong, which may follow from reads of two moments."""
     if isinstance(error, Refused):
         return error.status not in (BAD_ADDRESS, BAD_SIZE, TOO_LARGE)
-    return isinstance(error, (Lost, NoPort, Unsure))
+    return isinstance(error, (Lost, NoPort, Restarted, Unsure))
 
 
 class Objects:
@@ -318,6 +452,11 @@ class Objects:
     def write(self, block: int, bit: int, value: bytes) -> None:
         """Has the object overwritten by the commit."""
         self._writes[(block, bit)] = bytes(value)
+
+    def _expect(self, address: Address, value: bytes) -> None:
+        """Has the commit compare an object with a value that was not read."""
+        if self._reads.setdefault(address, bytes(value)) != value:
+            raise Conflict()
 
     def _own(self, address: Address) -> Optional[bytes]:
         """What the transaction has of an object, or None."""

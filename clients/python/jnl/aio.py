@@ -31,6 +31,8 @@ from typing import (
     Awaitable,
     Callable,
     Deque,
+    Dict,
+    List,
     Optional,
     Sequence,
     Tuple,
@@ -42,13 +44,16 @@ from . import _records
 from ._records import (
     Address,
     Conflict,
+    Disk,
     Lost,
     Objects,
     Part,
+    Promises,
     ProtocolError,
     Receipt,
     Refused,
     Request,
+    Restarted,
     Stat,
     Unsure,
 )
@@ -223,8 +228,8 @@ class Transaction(Objects):
 
 
 class Journal:
-    """A connection to the port, for all tasks of one event loop. `blocks` is how many blocks the
-    disk has."""
+    """A connection to the port, for all tasks of one event loop. `disk` is the disk, as the port
+    told it when the connection was made last, and `blocks` is how many blocks it has."""
 
     def __init__(self, path: Optional[str], port: Optional[int], timeout: Optional[float]):
         self._path = path
@@ -232,7 +237,18 @@ class Journal:
         self._timeout = timeout or None
         self._connection: Optional[_Connection] = None
         self._connecting = asyncio.Lock()
-        self.blocks = 0
+        self._promises = Promises()
+        # It is another opening, commits of the one before may be gone, and no call has told so.
+        self._is_another = False
+
+    @property
+    def disk(self) -> Disk:
+        assert self._promises.disk is not None
+        return self._promises.disk
+
+    @property
+    def blocks(self) -> int:
+        return self.disk.blocks
 
     async def __aenter__(self) -> "Journal":
         return self
@@ -269,12 +285,13 @@ class Journal:
             _records.check_place(self._path, self._port)
             made = await self._connected_socket()
             await loop.connect_accepted_socket(lambda: connection, made)
-            self.blocks = await connection.ask(_records.hello())
+            disk = await _greet(connection)
         except BaseException as error:
             connection.end(Lost("the connection was not made"))
             if isinstance(error, (OSError, Lost)) and not isinstance(error, ProtocolError):
                 raise _records.no_port(error) from error
             raise
+        self._is_another = self._promises.meet(disk)
         return connection
 
     async def _usable(self) -> _Connection:
@@ -289,6 +306,11 @@ class Journal:
                     self._connection = await asyncio.wait_for(self._connect(), self._timeout)
                 except asyncio.TimeoutError as error:
                     raise _records.no_port(_timed_out()) from error
+            if self._is_another:
+                self._is_another = False
+                raise Restarted(
+                    "the service was started again; commits that did not wait may be gone"
+                )
             return self._connection
 
     async def _ask(self, request: Request[T]) -> T:
@@ -311,7 +333,13 @@ class Journal:
 
     async def commit(self, parts: Sequence[Part], wait: bool = False) -> Receipt:
         """Commits parts, each of which compares or writes."""
-        return await self._ask(_records.commit_of(parts, wait))
+        try:
+            receipt = await self._ask(_records.commit_of(parts, wait))
+        except Unsure as error:
+            self._promises.note_commit(error.receipt, False)
+            raise
+        self._promises.note_commit(receipt, wait)
+        return receipt
 
     def begin(self) -> Transaction:
         """A transaction that has done nothing yet."""
@@ -340,16 +368,48 @@ class Journal:
 
     async def flush(self) -> int:
         """Makes all commits stable that were answered before, as `jnl.Journal.flush` does."""
-        return await self._ask(_records.flush())
+        stable = await self._ask(_records.flush())
+        self._promises.note_stable(stable)
+        return stable
 
     async def stat(self) -> Stat:
         """How many commits there are, and how many of them are stable at least."""
-        return await self._ask(_records.stat())
+        found = await self._ask(_records.stat())
+        self._promises.note_stable(found.stable)
+        return found
+
+    async def counters(self) -> Dict[int, int]:
+        """What the service has counted, as `jnl.Journal.counters`."""
+        return await self._ask_second(_records.counters())
+
+    async def scan(
+        self, block: int, first: int = 0, value: bool = False, most: int = _records.BLOCK_BITS
+    ) -> List[int]:
+        """The bits of a block that have a value, as `jnl.Journal.scan`."""
+        return await self._ask_second(_records.scan(block, first, value, most))
+
+    async def _ask_second(self, request: Request[T]) -> T:
+        """Asks what version 1 does not have."""
+        await self._usable()
+        if self.disk.version < _records.VERSION:
+            raise Refused(_records.OTHER_VERSION)
+        return await self._ask(request)
 
     async def stop(self) -> None:
         """Ends the service, after a flush."""
         await self._ask(_records.stop())
+        self._promises.note_stop()
         await self.close()
+
+
+async def _greet(connection: _Connection) -> Disk:
+    """Greets by the newest version that the port speaks."""
+    try:
+        return await connection.ask(_records.hello(_records.VERSION))
+    except Refused as error:
+        if error.status != _records.OTHER_VERSION:
+            raise
+        return await connection.ask(_records.hello(_records.FIRST_VERSION))
 
 
 def _timed_out() -> OSError:

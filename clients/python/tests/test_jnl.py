@@ -242,7 +242,7 @@ class Journal(unittest.TestCase):
         def record(*words: int) -> bytes:
             return struct.pack(f">{len(words) + 1}I", 4 * len(words), *words)
 
-        records = [record(6), record(3, 0), record(0, 9), record(), record(4, 1)]
+        records = [record(8), record(3, 0), record(0, 9), record(), record(4, 1)]
         found = exchange(b"".join(records) + struct.pack(">I", 2097153))
         statuses = [int.from_bytes(found[i + 4 : i + 8], "big") for i in range(0, len(found), 8)]
         self.assertEqual(statuses, [66, 67, 69, 67, 67, 68])

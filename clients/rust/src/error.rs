@@ -17,6 +17,13 @@ pub enum Error {
     Lost(io::Error),
     /// The port answered what the protocol does not have. What [`Error::Lost`] says holds.
     Protocol(&'static str),
+    /// The service was started again, and commits of this connection may be gone: those that did not
+    /// wait, and that no flush, stat or waiting commit had told to be stable. Nothing was sent. It
+    /// is answered once, by the first call after that which would send something. The next one goes
+    /// on.
+    Restarted,
+    /// No record of a [`Pool`](crate::Pool) is free. Nothing was done.
+    NoneFree,
     /// [`MAX_IN_FLIGHT`](crate::MAX_IN_FLIGHT) commits are in flight. Nothing was done.
     Full,
 }
@@ -94,7 +101,9 @@ impl Refusal {
             Refusal::UnknownOperation => "no operation has the request's number",
             Refusal::Malformed => "the record is spelled as no request",
             Refusal::TooLong => "the record is too long",
-            Refusal::OtherVersion => "the version is not spoken",
+            Refusal::OtherVersion => {
+                "the port's version of the protocol is another, and lacks the call"
+            }
             Refusal::Forbidden => "this connection may not end the service",
             Refusal::ReadOnly => "the service only reads the disk",
         }
@@ -108,6 +117,7 @@ impl Error {
             Error::Refused(refusal) => refusal.ends_session(),
             Error::Lost(_) | Error::Protocol(_) | Error::NoPort(_) => true,
             Error::Conflict | Error::Unsure(_) | Error::Full => false,
+            Error::Restarted | Error::NoneFree => false,
         }
     }
 
@@ -138,6 +148,11 @@ impl fmt::Display for Error {
             Error::Lost(error) => write!(f, "no answer came: {error}"),
             Error::Protocol(why) => write!(f, "the protocol has no such answer: {why}"),
             Error::Full => write!(f, "as many commits are in flight as may be"),
+            Error::Restarted => write!(
+                f,
+                "the service was started again, and commits that did not wait may be gone"
+            ),
+            Error::NoneFree => write!(f, "no record is free"),
         }
     }
 }

@@ -1,5 +1,6 @@
 //! Commits in flight.
 
+use crate::disk::Promises;
 use crate::record::{Operation, Reader, Record};
 use crate::{Error, Journal, Receipt};
 use std::collections::VecDeque;
@@ -24,7 +25,7 @@ pub struct Answer {
 #[derive(Debug, Default)]
 pub(crate) struct Flights {
     /// Those without an answer, in the order of their submission.
-    waiting: VecDeque<u64>,
+    waiting: VecDeque<Flight>,
     /// The answers that were not taken, all of commits before those.
     answered: VecDeque<Answer>,
     /// Some were lost, and not all answers are taken.
@@ -33,6 +34,15 @@ pub(crate) struct Flights {
     is_over: bool,
     /// Records that are not sent yet.
     held: Vec<u8>,
+    /// What was told of these commits and of others.
+    pub promises: Promises,
+}
+
+/// A commit in flight: its tag, and whether it is to wait until it is stable.
+#[derive(Clone, Copy, Debug)]
+struct Flight {
+    tag: u64,
+    waits: bool,
 }
 
 impl Flights {
@@ -64,8 +74,8 @@ impl Flights {
     }
 
     /// Puts a commit in flight. Answers whether it is time to send what is held.
-    pub fn hold(&mut self, tag: u64, record: &[u8]) -> bool {
-        self.waiting.push_back(tag);
+    pub fn hold(&mut self, tag: u64, waits: bool, record: &[u8]) -> bool {
+        self.waiting.push_back(Flight { tag, waits });
         self.held.extend_from_slice(record);
         self.held.len() >= HELD_BYTES
     }
@@ -84,7 +94,8 @@ impl Flights {
             result => result,
         };
         self.is_over |= matches!(&result, Err(error) if error.ends_connection());
-        if let Some(tag) = self.waiting.pop_front() {
+        if let Some(Flight { tag, waits }) = self.waiting.pop_front() {
+            self.promises.note_commit(&result, waits);
             self.answered.push_back(Answer { tag, result });
         }
         Ok(())
@@ -93,7 +104,7 @@ impl Flights {
     /// Has the first commit without an answer end by an error, and the later ones as lost.
     pub fn lose(&mut self, error: &Error) {
         self.has_lost |= self.are_waiting();
-        for (i, tag) in self.waiting.drain(..).enumerate() {
+        for (i, Flight { tag, .. }) in self.waiting.drain(..).enumerate() {
             let error = match error {
                 Error::Protocol(why) if i == 0 => Error::Protocol(why),
                 error => again(error),
@@ -129,13 +140,13 @@ fn again(error: &Error) -> Error {
 }
 
 impl Journal {
-    pub(crate) fn submit(&mut self, record: Record, tag: u64) -> Result<(), Error> {
+    pub(crate) fn submit(&mut self, record: Record, waits: bool, tag: u64) -> Result<(), Error> {
         if self.flights.len() >= MAX_IN_FLIGHT {
             return Err(Error::Full);
         }
         let record = record.finish()?;
         let ends = self.begin_call()?;
-        if self.flights.hold(tag, &record) {
+        if self.flights.hold(tag, waits, &record) {
             self.send_held(ends);
         }
         Ok(())

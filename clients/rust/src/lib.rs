@@ -22,7 +22,8 @@
 //! ```
 //!
 //! A [`Journal`] is one connection. One that the port has ended, for its silence or with the
-//! service, is made again by the next call.
+//! service, is made again by the next call. Where the service was started again in between, and
+//! commits of this connection may be gone, that call answers [`Error::Restarted`].
 //!
 //! [`Transaction::submit`] puts a commit in flight without waiting for its answer, and
 //! [`Journal::answers`] gives the answers in order:
@@ -45,19 +46,25 @@
 #![forbid(unsafe_code)]
 #![warn(missing_docs)]
 
+mod disk;
 mod error;
 mod flight;
+mod pool;
 mod record;
 mod stream;
 mod transaction;
 
+pub use disk::{Disk, Region};
 pub use error::{Error, Refusal};
 pub use flight::{Answer, Answers, MAX_IN_FLIGHT};
+pub use pool::Pool;
 pub use transaction::Transaction;
 
+use disk::BLOCK_BITS;
 use flight::Flights;
 use record::{Operation, Reader, Record};
 use std::collections::hash_map::RandomState;
+use std::collections::BTreeMap;
 use std::hash::{BuildHasher, Hasher};
 use std::io::ErrorKind;
 use std::path::Path;
@@ -65,7 +72,9 @@ use std::thread;
 use std::time::Duration;
 use stream::{Deadline, Place, Stream};
 
-const VERSION: u32 = 1;
+const FIRST_VERSION: u32 = 1;
+const VERSION: u32 = 2;
+const MAX_COUNTERS: usize = 256;
 /// How often a transaction that meets conflicts is run.
 const TRIES: u32 = 100;
 const FIRST_PAUSE: Duration = Duration::from_micros(500);
@@ -73,8 +82,8 @@ const LONGEST_PAUSE: Duration = Duration::from_millis(100);
 
 /// An object: its block, and its first bit there.
 ///
-/// Blocks 0 to 512 are the journal's own. What the others have follows from the regions that the
-/// service was given. Without them block 514 has bits, at each bit below 32768, each a byte 0 or 1.
+/// Blocks 0 to 512 are the journal's own. What the others have follows from the regions of the disk
+/// ([`Journal::disk`]). On a disk that was created without any block 514 has bits, at each bit below 32768, each a byte 0 or 1.
 /// Blocks 515 to 530 have objects of 128 bytes, at multiples of 1024. Blocks 513, and 531 to the
 /// last, are objects of 4096 bytes, at bit 0.
 #[derive(Clone, Copy, Debug, PartialEq, Eq, PartialOrd, Ord, Hash)]
@@ -118,7 +127,7 @@ pub struct Journal {
     place: Place,
     stream: Option<Stream>,
     timeout: Option<Duration>,
-    blocks: u64,
+    disk: Disk,
     last_receipt: Option<Receipt>,
     flights: Flights,
 }
@@ -158,14 +167,19 @@ impl Journal {
     }
 
     fn at(place: Place, timeout: Option<Duration>) -> Result<Journal, Error> {
-        let (stream, blocks) = dial(&place, Deadline::after(timeout))?;
+        let (stream, disk) = dial(&place, Deadline::after(timeout))?;
         let flights = Flights::default();
-        Ok(Journal { place, stream: Some(stream), timeout, blocks, last_receipt: None, flights })
+        Ok(Journal { place, stream: Some(stream), timeout, disk, last_receipt: None, flights })
     }
 
     /// How many blocks the disk has.
     pub fn blocks(&self) -> u64 {
-        self.blocks
+        self.disk.blocks
+    }
+
+    /// The disk, as the port told it when the connection was made last.
+    pub fn disk(&self) -> &Disk {
+        &self.disk
     }
 
     /// The receipt of the last commit that was done over this connection, as by [`Journal::run`].
@@ -192,7 +206,9 @@ impl Journal {
     /// # Errors
     /// Each that says that nothing was done, and [`Error::Lost`].
     pub fn read(&mut self, addresses: &[Address]) -> Result<Vec<Vec<u8>>, Error> {
-        self.ask(Record::read(addresses)?, |answer| {
+        let record = Record::read(addresses)?;
+        self.refuse(|disk| addresses.iter().try_for_each(|a| disk.check_address(a).map(|_| ())))?;
+        self.ask(record, |answer| {
             if answer.word()? as usize != addresses.len() {
                 return Err(Error::Protocol("there are not as many values as addresses"));
             }
@@ -208,8 +224,8 @@ impl Journal {
     /// [`Refusal::BadSize`] or [`Refusal::TooLarge`], `run` asks the port whether all that it read
     /// was so at one moment, by a commit that only compares. If not, the work is run again. If that
     /// request fails, `run` answers its error, and not that of the work. Nothing was done then.
-    /// Where the port has failed the last call of the transaction, as by [`Error::Lost`], the error
-    /// of the work is answered at once.
+    /// Where the port has failed the last call of the transaction, as by [`Error::Lost`], or it has
+    /// told [`Error::Restarted`], the error of the work is answered at once.
     ///
     /// The work must end, and not panic, whatever it reads. [`Transaction::read_many`] reads
     /// objects of one moment.
@@ -236,14 +252,16 @@ impl Journal {
         Err(Error::Conflict.into())
     }
 
-    /// Makes all commits stable that were answered before, since the service was started. Answers
-    /// how many are stable. It does not tell that the service was killed and started again, which
-    /// has lost commits that did not wait.
+    /// Makes all commits stable that were answered before. Answers how many are stable of this
+    /// opening. Where the service was started again since, so that some of this connection may be
+    /// gone, it answers [`Error::Restarted`], as each call does.
     ///
     /// # Errors
     /// Each that says that nothing was done, and [`Error::Lost`].
     pub fn flush(&mut self) -> Result<u64, Error> {
-        self.ask(Record::flush(), |answer| answer.hyper())
+        let stable = self.ask(Record::flush(), |answer| answer.hyper())?;
+        self.flights.promises.note_stable(stable);
+        Ok(stable)
     }
 
     /// How many commits there are, and how many of them are stable at least.
@@ -251,8 +269,46 @@ impl Journal {
     /// # Errors
     /// Each that says that nothing was done, and [`Error::Lost`].
     pub fn stat(&mut self) -> Result<Stat, Error> {
-        self.ask(Record::stat(), |answer| {
+        let stat = self.ask(Record::stat(), |answer| {
             Ok(Stat { commits: answer.hyper()?, stable: answer.hyper()? })
+        })?;
+        self.flights.promises.note_stable(stat.stable);
+        Ok(stat)
+    }
+
+    /// What the service has counted since it opened the disk, by the names of `docs/PROTOCOL.md`.
+    ///
+    /// # Errors
+    /// [`Refusal::OtherVersion`], with nothing sent, where the port's version is 1; and the others.
+    pub fn counters(&mut self) -> Result<BTreeMap<u32, u64>, Error> {
+        let counters = self.ask_second(Record::counters(), |answer| {
+            answer.list(MAX_COUNTERS, |counter| Ok((counter.word()?, counter.hyper()?)))
+        })?;
+        Ok(counters.into_iter().collect())
+    }
+
+    /// The bits of a block that have a value, from a bit on, ascending, at most so many. All bits
+    /// are as they are at one moment.
+    ///
+    /// # Errors
+    /// [`Refusal::BadAddress`] where the block has no bits, or the first one is above 32767;
+    /// [`Refusal::OtherVersion`], with nothing sent, where the port's version is 1; and the others.
+    pub fn scan(
+        &mut self,
+        block: u64,
+        first: u32,
+        value: bool,
+        most: u32,
+    ) -> Result<Vec<u32>, Error> {
+        let most = most.min(BLOCK_BITS);
+        let record = Record::scan(Address { block, bit: first }, value, most);
+        self.ask_second(record, |answer| {
+            let bits = answer.list(most as usize, |bit| bit.word())?;
+            let ascend = bits.windows(2).all(|pair| pair[0] < pair[1]);
+            match ascend && bits.iter().all(|bit| (first..BLOCK_BITS).contains(bit)) {
+                true => Ok(bits),
+                false => Err(Error::Protocol("bits do not ascend within their block")),
+            }
         })
     }
 
@@ -261,11 +317,34 @@ impl Journal {
     /// # Errors
     /// [`Refusal::Forbidden`] where this connection may not; and the others.
     pub fn stop(&mut self) -> Result<(), Error> {
-        self.ask(Record::stop(), |_| Ok(()))
+        self.ask(Record::stop(), |_| Ok(()))?;
+        self.flights.promises.note_stop();
+        Ok(())
     }
 
-    fn commit(&mut self, record: Record) -> Result<Receipt, Error> {
-        self.ask(record, |answer| answer.receipt())
+    fn commit(&mut self, record: Record, durability: Durability) -> Result<Receipt, Error> {
+        let found = self.ask(record, |answer| answer.receipt());
+        self.flights.promises.note_commit(&found, durability == Durability::Stable);
+        found
+    }
+
+    /// Refuses what a look at the disk refuses, unless the port has told no regions. One that may be
+    /// another by now is to say so itself.
+    fn refuse(&self, look: impl FnOnce(&Disk) -> Result<(), Error>) -> Result<(), Error> {
+        if self.disk.regions.is_empty() {
+            return Ok(());
+        }
+        look(&self.disk).or_else(|refusal| match self.is_current() {
+            true => Err(refusal),
+            false => Ok(()),
+        })
+    }
+
+    /// Whether the disk is known as the port has it now: the port has not ended the connection.
+    fn is_current(&self) -> bool {
+        let flights = &self.flights;
+        let is_quiet = |stream: &Stream| !flights.is_over() && stream.is_quiet();
+        self.stream.as_ref().map_or(false, |stream| flights.are_waiting() || is_quiet(stream))
     }
 
     fn end_of_call(&self) -> Deadline {
@@ -282,11 +361,35 @@ impl Journal {
             self.stream = self.stream.take().filter(|stream| !is_over && stream.is_quiet());
         }
         if self.stream.is_none() {
-            let (stream, blocks) = dial(&self.place, ends)?;
-            (self.stream, self.blocks) = (Some(stream), blocks);
-            self.flights.begin_connection();
+            self.dial(ends)?;
         }
         Ok(ends)
+    }
+
+    /// Makes a connection. Where it is to another opening, and commits of the one before may be
+    /// gone, that is told once.
+    fn dial(&mut self, ends: Deadline) -> Result<(), Error> {
+        let (stream, disk) = dial(&self.place, ends)?;
+        self.flights.begin_connection();
+        let may_be_gone = self.flights.promises.meet(&self.disk, &disk);
+        (self.stream, self.disk) = (Some(stream), disk);
+        match may_be_gone {
+            true => Err(Error::Restarted),
+            false => Ok(()),
+        }
+    }
+
+    /// Asks what version 1 does not have.
+    fn ask_second<T>(
+        &mut self,
+        record: Record,
+        decode: impl FnOnce(&mut Reader<'_>) -> Result<T, Error>,
+    ) -> Result<T, Error> {
+        self.begin_call()?;
+        match self.disk.version {
+            FIRST_VERSION => Err(Error::Refused(Refusal::OtherVersion)),
+            _ => self.ask(record, decode),
+        }
     }
 
     /// Asks the port.
@@ -357,21 +460,22 @@ fn send_beside(
     sent
 }
 
-/// A connection that was greeted, and the number of blocks. Nothing was asked over it yet.
-fn dial(place: &Place, ends: Deadline) -> Result<(Stream, u64), Error> {
+/// A connection that was greeted by the newest version that the port speaks, and the disk. Nothing
+/// was asked over it yet.
+fn dial(place: &Place, ends: Deadline) -> Result<(Stream, Disk), Error> {
     let mut stream = Stream::connect(place, ends).map_err(Error::NoPort)?;
-    let (version, blocks) = greet(&mut stream, ends).map_err(Error::of_a_greeting)?;
-    if version != VERSION {
-        return Err(Error::Protocol("the port speaks another version"));
-    }
-    Ok((stream, blocks))
+    let greeting = match greet(&mut stream, VERSION, ends) {
+        Err(Error::Refused(Refusal::OtherVersion)) => greet(&mut stream, FIRST_VERSION, ends),
+        greeting => greeting,
+    };
+    Ok((stream, greeting.map_err(Error::of_a_greeting)?))
 }
 
-fn greet(stream: &mut Stream, ends: Deadline) -> Result<(u32, u64), Error> {
-    let hello = Record::hello(VERSION);
+fn greet(stream: &mut Stream, version: u32, ends: Deadline) -> Result<Disk, Error> {
+    let hello = Record::hello(version);
     let operation = hello.operation();
     stream.send(&hello.finish()?, ends).map_err(Error::Lost)?;
-    decoded(&stream.receive(ends)?, operation, |answer| Ok((answer.word()?, answer.hyper()?)))
+    decoded(&stream.receive(ends)?, operation, |answer| Disk::read(version, answer))
 }
 
 /// What an answer to an operation gives.
@@ -390,8 +494,11 @@ fn decoded<T>(
 fn pause_before(attempt: u32) {
     if attempt > 0 {
         let most = LONGEST_PAUSE.min(FIRST_PAUSE * (1 << attempt.min(8)));
-        // A hasher's keys are the random numbers that the standard library has.
-        let random = RandomState::new().build_hasher().finish() as u32;
-        thread::sleep(most.mul_f64(f64::from(random) / f64::from(u32::MAX)));
+        thread::sleep(most.mul_f64(f64::from(random()) / f64::from(u32::MAX)));
     }
+}
+
+/// A random number: a hasher's keys are those that the standard library has.
+fn random() -> u32 {
+    RandomState::new().build_hasher().finish() as u32
 }

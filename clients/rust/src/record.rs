@@ -20,6 +20,8 @@ pub(crate) enum Operation {
     Flush = 3,
     Stat = 4,
     Stop = 5,
+    Counters = 6,
+    Scan = 7,
 }
 
 #[derive(Clone, Copy)]
@@ -84,6 +86,19 @@ impl Record {
 
     pub fn stop() -> Record {
         Record::new(Operation::Stop)
+    }
+
+    pub fn counters() -> Record {
+        Record::new(Operation::Counters)
+    }
+
+    /// A scan from a bit on for a value, of so many bits at most.
+    pub fn scan(from: Address, value: bool, most: u32) -> Record {
+        let mut record = Record::new(Operation::Scan);
+        record.address(from);
+        record.word(value.into());
+        record.word(most);
+        record
     }
 
     pub fn operation(&self) -> Operation {
@@ -165,6 +180,19 @@ impl<'a> Reader<'a> {
 
     pub fn hyper(&mut self) -> Result<u64, Error> {
         self.number(8)
+    }
+
+    /// Items that follow their number, of which there are so many at most.
+    pub fn list<T>(
+        &mut self,
+        most: usize,
+        item: impl Fn(&mut Reader<'a>) -> Result<T, Error>,
+    ) -> Result<Vec<T>, Error> {
+        let count = self.word()? as usize;
+        if count > most {
+            return Err(Error::Protocol("a list is too long"));
+        }
+        (0..count).map(|_| item(self)).collect()
     }
 
     pub fn receipt(&mut self) -> Result<Receipt, Error> {

@@ -78,6 +78,37 @@ impl<'j> Transaction<'j> {
         self.writes.insert(address, value.into());
     }
 
+    /// Whether the transaction has read or overwritten an object.
+    pub fn has(&self, address: Address) -> bool {
+        self.own(&address).is_some()
+    }
+
+    /// Has the commit compare an object with a value that the caller knows, as if it had been read.
+    ///
+    /// # Errors
+    /// [`Error::Conflict`] where the transaction has read another value.
+    pub fn expect(&mut self, address: Address, value: impl Into<Vec<u8>>) -> Result<(), Error> {
+        let value = value.into();
+        match self.reads.get(&address) {
+            Some(known) if *known != value => Err(Error::Conflict),
+            _ => {
+                self.reads.insert(address, value);
+                Ok(())
+            }
+        }
+    }
+
+    pub(crate) fn scan(
+        &mut self,
+        block: u64,
+        first: u32,
+        value: bool,
+        most: u32,
+    ) -> Result<Vec<u32>, Error> {
+        let found = self.journal.scan(block, first, value, most);
+        self.note(found)
+    }
+
     /// Commits: where each object that was read still has its value, all writes are done at one
     /// place of the history, else nothing.
     ///
@@ -112,16 +143,22 @@ impl<'j> Transaction<'j> {
     /// [`Error::Lost`] after a loss, and what no record can hold.
     pub fn submit(self, durability: Durability, tag: u64) -> Result<(), Error> {
         let record = self.spelled(durability)?;
-        self.journal.submit(record, tag)
+        self.journal.submit(record, durability == Durability::Stable, tag)
     }
 
     fn spelled(&self, durability: Durability) -> Result<Record, Error> {
         let written = self.writes.iter().map(|(a, value)| (Action::Write, a, value));
-        spell(durability, self.compared().chain(written))
+        let parts = self.compared().chain(written);
+        let record = spell(durability, parts.clone())?;
+        self.journal.refuse(|disk| {
+            parts.clone().try_for_each(|(_, address, value)| disk.check(address, value))
+        })?;
+        Ok(record)
     }
 
     pub(crate) fn commit_parts(&mut self, durability: Durability) -> Result<Receipt, Error> {
-        let found = self.spelled(durability).and_then(|record| self.journal.commit(record));
+        let found =
+            self.spelled(durability).and_then(|record| self.journal.commit(record, durability));
         let receipt = self.note(found)?;
         self.journal.last_receipt = Some(receipt);
         Ok(receipt)
@@ -151,7 +188,7 @@ impl<'j> Transaction<'j> {
             End::Conflict => Err(Error::Conflict),
             End::Answered if self.requests > 1 => {
                 let record = spell(Durability::Lazy, self.compared())?;
-                self.journal.commit(record).map(|_| ())
+                self.journal.commit(record, Durability::Lazy).map(|_| ())
             }
             End::Answered | End::Failed => Ok(()),
         }

@@ -111,7 +111,9 @@ fn a_refusal_is_of_one_alone() {
     with_journal("JNL_SOCKET", |j| {
         let before = commits(j);
         submit(j, record(2048), value_of(before + 1), 1).expect("submit");
-        submit(j, Address { block: 3, bit: 0 }, vec![], 2).expect("submit");
+        let mut too_large = j.begin();
+        (531..=659).for_each(|block| too_large.write(Address { block, bit: 0 }, vec![0; 4096]));
+        too_large.submit(Durability::Lazy, 2).expect("submit");
         let mut late = j.begin();
         late.read(record(2048)).expect("read");
         late.write(record(2048), value_of(before + 9));
@@ -119,7 +121,7 @@ fn a_refusal_is_of_one_alone() {
         submit(j, Address { block: 531, bit: 0 }, vec![0; 5000], 4).expect_err("5000 bytes");
         submit(j, record(2048), value_of(before + 2), 5).expect("submit");
         take(j, 1, is_done);
-        take(j, 2, |found| matches!(found, Err(Error::Refused(Refusal::BadAddress))));
+        take(j, 2, |found| matches!(found, Err(Error::Refused(Refusal::TooLarge))));
         take(j, 3, is_done);
         assert_eq!(take(j, 5, is_done), before + 3);
     });

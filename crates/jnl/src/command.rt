@@ -4,6 +4,7 @@ use crate::disks::AskedDevice;
 use crate::fault::Fault;
 use crate::regions::{AskedLayout, Regions, named_regions};
 use crate::serving::Service;
+use crate::stat::StatForm;
 use clap::{Arg, ArgAction, ArgMatches, Command, value_parser};
 use journal_form::LogForm;
 use journal_program::{Room, Zeros};
@@ -47,6 +48,8 @@ const CONNECTIONS: &str = "connections";
 const REGION: &str = "region";
 
 const SLOTS_WORD: &str = "slots";
+
+const PROMETHEUS: &str = "prometheus";
 
 const PORT: &str = "port";
 
@@ -112,6 +115,11 @@ pub enum Subcommand<'w> {
     },
     /// Serve the disk in a file.
     Serve(Service<'w>),
+    /// Print what the service at a socket has counted.
+    Stat {
+        socket: &'w str,
+        form: StatForm,
+    },
     /// End the service at a socket.
     Stop {
         socket: &'w str,
@@ -154,6 +162,7 @@ impl<'w> Subcommand<'w> {
             }),
             "seal" => parse_seal(given),
             "serve" => parse_serve(given),
+            "stat" => parse_stat(given),
             "stop" => Ok(Subcommand::Stop {
                 socket: word(given, SOCKET)?,
             }),
@@ -246,6 +255,18 @@ fn parse_serve<'w>(given: &ArgMatches<'w>) -> Result<Subcommand<'w>, Fault<'w>> 
     }))
 }
 
+fn parse_stat<'w>(given: &ArgMatches<'w>) -> Result<Subcommand<'w>, Fault<'w>> {
+    let form = if given.get_flag(PROMETHEUS) {
+        StatForm::Prometheus
+    } else {
+        StatForm::Lines
+    };
+    Ok(Subcommand::Stat {
+        socket: word(given, SOCKET)?,
+        form,
+    })
+}
+
 fn parse_nfs<'w>(given: &ArgMatches<'w>) -> Result<Subcommand<'w>, Fault<'w>> {
     let text = word(given, ADDRESS)?;
     let Ok(address) = text.parse::<Ipv4Addr>() else {
@@ -278,6 +299,7 @@ fn command<'w>(alloc: Global) -> Result<Command<'w>, AllocError> {
         .subcommand(label_command(alloc)?)?
         .subcommand(grow_command(alloc)?)?
         .subcommand(serve_command(alloc)?)?
+        .subcommand(stat_command(alloc)?)?
         .subcommand(stop_command(alloc)?)?
         .subcommand(nfs_command(alloc)?)
 }
@@ -435,6 +457,20 @@ fn serve_command<'w>(alloc: Global) -> Result<Command<'w>, AllocError> {
         .arg(region_arg(alloc))?
         .arg(slots)?
         .arg(read_only)
+}
+
+fn stat_command<'w>(alloc: Global) -> Result<Command<'w>, AllocError> {
+    let prometheus = Arg::new(alloc, PROMETHEUS)
+        .long(PROMETHEUS)
+        .action(ArgAction::SetTrue)
+        .help("Prints the text that Prometheus reads");
+    Command::new(alloc, "stat")
+        .about("Prints what the service at a socket has counted since it opened its disk")
+        .after_help(
+            "Each line has a counter and its value. docs/OPERATING.md says what each counts, and what to do when it grows. The first line has the number of the opening: another number says that the service was started again, and that all counters began anew.",
+        )
+        .arg(socket_arg(alloc, "The socket of the service"))?
+        .arg(prometheus)
 }
 
 fn stop_command<'w>(alloc: Global) -> Result<Command<'w>, AllocError> {

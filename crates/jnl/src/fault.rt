@@ -139,6 +139,12 @@ pub enum Fault<'w> {
     NotStable {
         socket: &'w str,
     },
+    /// The service at the socket counts nothing: it is of version 1 of the protocol.
+    CountsNothing {
+        socket: &'w str,
+    },
+    /// The system gives no random bits.
+    NoRandom,
     /// Memory was refused, or a thread.
     NoMemory,
     /// Standard output failed.
@@ -246,6 +252,8 @@ impl<'w> Fault<'w> {
             | Fault::NotEnded { .. }
             | Fault::NotStopped { .. }
             | Fault::NotStable { .. }
+            | Fault::CountsNothing { .. }
+            | Fault::NoRandom
             | Fault::NoMemory
             | Fault::CannotWrite => 1,
         }
@@ -351,6 +359,11 @@ impl<'w> Fault<'w> {
                 faults,
                 "jnl: the service at {socket} has ended, and not all is stable: its device has failed"
             ),
+            Fault::CountsNothing { socket } => writeln!(
+                faults,
+                "jnl: the service at {socket} counts nothing; it speaks version 1 of the protocol alone"
+            ),
+            Fault::NoRandom => writeln!(faults, "jnl: the system gives no random number"),
             Fault::NoMemory => writeln!(faults, "jnl: no memory"),
             Fault::CannotWrite => writeln!(faults, "jnl: cannot write standard output"),
         }

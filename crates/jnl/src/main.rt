@@ -2,9 +2,9 @@
 //! `jnl info` prints what a disk is, `jnl check` whether it is sound, and `jnl seal` gives its log
 //! the form with one barrier a group, or the plain form again. `jnl backup` copies a disk that
 //! nobody writes. `jnl label` gives a disk its label, and `jnl grow` more blocks. `jnl serve` serves
-//! a disk to programs in any language, and `jnl stop` ends such a service. `jnl nfs` serves the
-//! files of a disk of the file service so that a Linux machine mounts them. `jnl --help` is the
-//! manual.
+//! a disk to programs in any language, `jnl stat` prints what such a service has counted, and
+//! `jnl stop` ends it. `jnl nfs` serves the files of a disk of the file service so that a Linux
+//! machine mounts them. `jnl --help` is the manual.
 #![tactic(auto)]
 
 ghost use Rattle.std.specs.Prelude.{◌≤◌};
@@ -12,16 +12,20 @@ ghost use Rattle.std.specs.Prelude.{◌≤◌};
 mod checking;
 mod command;
 mod copying;
+mod counted_disk;
+mod counts;
 mod disks;
 mod exporting;
 mod fault;
 mod labels;
 mod listener;
+mod numbering;
 mod peer;
 mod queue;
 mod regions;
 mod serving;
 mod socket;
+mod stat;
 mod stopping;
 mod working;
 
@@ -35,6 +39,7 @@ use std::fs::{File, Files};
 use std::io::{BufWriter, Write};
 use std::net::{Net, TcpListener, TcpStream};
 use std::process::ExitCode;
+use std::random::RandomSource;
 use std::sync::Wait;
 use std::thread::Threads;
 use std::time::Clock;
@@ -46,6 +51,7 @@ pub fn run<
     R: Files<File = File>
         + Net<Listener = TcpListener, Stream = TcpStream>
         + Clock
+        + RandomSource
         + Threads
         + Wait
         + Sync,
@@ -66,6 +72,7 @@ fn obey<
     R: Files<File = File>
         + Net<Listener = TcpListener, Stream = TcpStream>
         + Clock
+        + RandomSource
         + Threads
         + Wait
         + Sync,
@@ -106,6 +113,7 @@ fn obey<
         } => copying::back_up(rt, alloc, path, copy, replaces, output),
         Subcommand::Seal { path, form } => disks::seal(rt, alloc, path, form, output),
         Subcommand::Serve(service) => serving::serve(rt, alloc, service, output),
+        Subcommand::Stat { socket, form } => stat::stat(rt, alloc, socket, form, output),
         Subcommand::Stop { socket } => stopping::stop(rt, alloc, socket),
         Subcommand::Nfs { path, endpoint } => {
             exporting::export(rt, alloc, path, endpoint, output, faults)

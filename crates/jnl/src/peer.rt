@@ -1,6 +1,7 @@
 // A connection that is served, and how long its peer is waited for.
 ghost use Rattle.std.specs.Io.{ReadsAtMost, WritesAtMost};
 
+use crate::counts::{ConnectionCounts, Count};
 use crate::queue::Queue;
 use std::io;
 use std::io::{ErrorKind, Read, Write};
@@ -30,6 +31,7 @@ const LAST_PIECE_BYTES: usize = 32_768;
 pub struct Peer<'q, R: Clock> {
     stream: TcpStream,
     queue: &'q Queue,
+    counts: &'q ConnectionCounts,
     rt: &'q R,
     // When a worker took it, or the peer last took a byte of an answer, in milliseconds of the
     // clock. Each record has an answer, so this is also the time of the last record. A peer that
@@ -42,6 +44,7 @@ impl<'q, R: Clock> Drop for Peer<'q, R> {
         let Peer {
             stream: _,
             queue: _,
+            counts: _,
             rt: _,
             since: _,
         } = self;
@@ -50,7 +53,12 @@ impl<'q, R: Clock> Drop for Peer<'q, R> {
 
 impl<'q, R: Clock> Peer<'q, R> {
     /// A connection that a worker has just taken.
-    pub fn new(rt: &'q R, queue: &'q Queue, stream: TcpStream) -> Peer<'q, R> {
+    pub fn new(
+        rt: &'q R,
+        queue: &'q Queue,
+        counts: &'q ConnectionCounts,
+        stream: TcpStream,
+    ) -> Peer<'q, R> {
         // A Unix socket has no Nagle's delay, and refuses this. Each limit of time but 0 is taken.
         let _ = stream.set_nodelay(true);
         let turn = Duration::from_millis(TURN_MILLIS);
@@ -59,6 +67,7 @@ impl<'q, R: Clock> Peer<'q, R> {
         Peer {
             stream,
             queue,
+            counts,
             rt,
             since: AtomicU64::new(millis(rt)),
         }
@@ -69,8 +78,17 @@ impl<'q, R: Clock> Peer<'q, R> {
         let since = self.since.load(Ordering::SeqCst);
         let by_clock = millis(self.rt).saturating_sub(since);
         let waited = by_clock.max(turns.saturating_mul(TURN_MILLIS));
-        let is_short = self.queue.is_crowded() || self.queue.has_ended();
-        waited >= MILLIS_ALONE || (waited >= MILLIS_IN_CROWD && is_short)
+        if waited >= MILLIS_ALONE {
+            return true;
+        }
+        if waited < MILLIS_IN_CROWD {
+            return false;
+        }
+        let is_crowded = self.queue.is_crowded();
+        if is_crowded {
+            self.counts.crowded_out.add(1);
+        }
+        is_crowded || self.queue.has_ended()
     }
 
     // Takes bytes from the peer: none where it sends no more, or where the service has ended.
@@ -87,6 +105,7 @@ impl<'q, R: Clock> Peer<'q, R> {
             }
             let received = stream.read(into);
             if !has_timed_out(&received) {
+                count_bytes(&self.counts.received, &received);
                 return received;
             }
         }
@@ -105,6 +124,7 @@ impl<'q, R: Clock> Peer<'q, R> {
             let sent = stream.write(from);
             if !has_timed_out(&sent) {
                 self.since.store(millis(self.rt), Ordering::SeqCst);
+                count_bytes(&self.counts.sent, &sent);
                 return sent;
             }
         }
@@ -171,6 +191,13 @@ fn millis<R: Clock>(rt: &R) -> u64 {
             .saturating_mul(1000)
             .saturating_add(u64::from(time.subsec_millis())),
         Err(_) => 0,
+    }
+}
+
+// Counts the bytes of a call, where it has taken or given any.
+fn count_bytes(count: &Count, call: &io::Result<usize>) {
+    if let Ok(bytes) = call {
+        count.add(*bytes as u64);
     }
 }
 

@@ -48,7 +48,12 @@ impl Queue {
 
     /// Whether a connection waits for a worker.
     pub fn is_crowded(&self) -> bool {
-        self.count.load(Ordering::SeqCst) > 0
+        self.count() > 0
+    }
+
+    /// How many connections wait for a worker.
+    pub fn count(&self) -> u64 {
+        self.count.load(Ordering::SeqCst)
     }
 
     /// Ends the service: no further connection is put or taken.

@@ -3,13 +3,17 @@ ghost use Rattle.std.specs.Prelude.{◌≡◌, IfOk};
 ghost use Rattle.journal_world.specs.Files.{shape};
 ghost use Rattle.jnl.specs.Layouts.{asked_shape, told_or, told_of};
 
+use crate::counted_disk::CountedDisk;
+use crate::counts::{SyncCounts, micros};
 use crate::disks::{find, print_line, settle};
 use crate::fault::Fault;
 use crate::labels::told;
 use crate::listener::Listener;
+use crate::numbering::opening_number;
 use crate::regions::AskedLayout;
 use crate::socket;
-use crate::working::{FileJournal, Listeners, OpenDisk, Workers, WorkersFault};
+use crate::working::{Listeners, OpenDisk, OpenJournal, Workers, WorkersFault};
+use journal_disk::BlockDisk;
 use journal_history::{Book, Naming};
 use journal_lockmap::SlotCell;
 use journal_program::{Daemon, DiskFacts, SizedDisk, share_disk};
@@ -20,6 +24,7 @@ use std::fs::{File, Files};
 use std::io::Write;
 use std::marker::Brand;
 use std::net::{Ipv4Addr, Net, TcpListener, TcpStream};
+use std::random::RandomSource;
 use std::sync::Wait;
 use std::thread;
 use std::thread::Threads;
@@ -42,11 +47,12 @@ pub struct Service<'w> {
     pub is_read_only: bool,
 }
 
-// A disk, and the layout by which it is opened.
+// A disk, the layout by which it is opened, and the number of this opening.
 #[derive(Drop)]
 struct LaidOut {
     layout: Layout,
     disk: SizedDisk,
+    number: u64,
 }
 
 /// Serves the disk in the file until a client ends the service. Prints where it listens before the
@@ -58,8 +64,8 @@ struct LaidOut {
 ///
 /// Refused where another program uses the disk, where its label is not that of the file or tells
 /// other regions, where the disk is one of the file service, whose files would not stay sound,
-/// where the layout is not one of so many blocks, and as the opening of the journal is. Nothing
-/// listens then.
+/// where the layout is not one of so many blocks, where the system gives no random number for the
+/// opening, and as the opening of the journal is. Nothing listens then.
 ///
 /// Where the disk is only read, other services that only read it may have it too, no byte of it
 /// is written, and each transaction that writes is refused. Then it may also be a disk of the file
@@ -69,6 +75,7 @@ pub fn serve<
     R: Files<File = File>
         + Net<Listener = TcpListener, Stream = TcpStream>
         + Clock
+        + RandomSource
         + Threads
         + Wait
         + Sync,
@@ -87,7 +94,7 @@ pub fn serve<
 }
 
 // Opens the disk to write it.
-fn open_alone<'w, R: Files<File = File>>(
+fn open_alone<'w, R: Files<File = File> + RandomSource>(
     rt: &R,
     alloc: Global,
     service: Service<'w>,
@@ -98,11 +105,11 @@ fn open_alone<'w, R: Files<File = File>>(
     }
     let layout = lay_out(&found.facts, service)?;
     let disk = settle(service.path, found)?;
-    Ok(LaidOut { layout, disk })
+    number_opening(rt, layout, disk)
 }
 
 // Opens the disk to read it alone.
-fn open_shared<'w, R: Files<File = File>>(
+fn open_shared<'w, R: Files<File = File> + RandomSource>(
     rt: &R,
     alloc: Global,
     service: Service<'w>,
@@ -114,8 +121,24 @@ fn open_shared<'w, R: Files<File = File>>(
     };
     let layout = lay_out(&shared.facts, service)?;
     match shared.disk() {
-        Ok(disk) => Ok(LaidOut { layout, disk }),
+        Ok(disk) => number_opening(rt, layout, disk),
         Err(why) => Err(Fault::File { path, why }),
+    }
+}
+
+// Gives this opening of the disk its number.
+fn number_opening<'w, R: RandomSource>(
+    rt: &R,
+    layout: Layout,
+    disk: SizedDisk,
+) -> Result<LaidOut, Fault<'w>> {
+    match opening_number(rt) {
+        Ok(number) => Ok(LaidOut {
+            layout,
+            disk,
+            number,
+        }),
+        Err(_) => Err(Fault::NoRandom),
     }
 }
 
@@ -211,24 +234,35 @@ fn serve_book<'w, J: Naming + Send + Sync, R: Clock + Threads + Wait + Sync, O: 
     requires cell { cell ≡ J.cell }
     requires layout { shape disk.layout ≡ J.layout }
 {
-    let LaidOut { layout, disk } = disk;
+    let Ok(syncs) = SyncCounts::new(alloc) else {
+        return Err(Fault::NoMemory);
+    };
+    let LaidOut {
+        layout,
+        disk,
+        number,
+    } = disk;
+    let disk = CountedDisk::over(rt, disk, &syncs);
     let opened = Journal::open_layout(alloc, book, cell, layout, disk, &AnyMap, MAX_CACHED_BLOCKS);
-    let journal: FileJournal<J> = match opened {
+    let journal: OpenJournal<CountedDisk<SizedDisk, R>, J> = match opened {
         Ok(journal) => journal,
         Err(Refused { refusal, disk }) => {
-            return Err(Fault::failed_or_refused(service.path, disk, refusal));
+            return Err(Fault::failed_or_refused(service.path, disk.into_inner(), refusal));
         }
     };
     let open = OpenDisk {
         alloc,
         journal: &journal,
-        blocks: layout.blocks,
+        layout,
+        number,
+        opened_at: micros(rt),
+        syncs: &syncs,
         may_write: !service.is_read_only,
     };
     let served = serve_beside_daemon(rt, &open, service, listeners, output);
     drop(open);
     let disk = journal.into_disk().disk;
-    match disk.into_failure() {
+    match disk.into_inner().into_failure() {
         Some(why) => Err(Fault::DeviceFailed {
             path: service.path,
             why,
@@ -239,9 +273,16 @@ fn serve_book<'w, J: Naming + Send + Sync, R: Clock + Threads + Wait + Sync, O: 
 
 // Serves while the daemon runs, and ends it. All commits are stable then. The daemon ends by itself
 // only where the device failed, and the service with it.
-fn serve_beside_daemon<'w, 'b, J: Naming + Send + Sync, R: Clock + Threads + Wait + Sync, O: Write>(
+fn serve_beside_daemon<
+    'w,
+    'b,
+    D: BlockDisk + Send,
+    J: Naming + Send + Sync,
+    R: Clock + Threads + Wait + Sync,
+    O: Write,
+>(
     rt: &R,
-    disk: &OpenDisk<'_, 'b, J>,
+    disk: &OpenDisk<'_, 'b, D, J>,
     service: Service<'w>,
     listeners: &Listeners,
     output: &mut O,
@@ -275,9 +316,16 @@ fn serve_beside_daemon<'w, 'b, J: Naming + Send + Sync, R: Clock + Threads + Wai
 }
 
 // Prints that the service listens, and serves what comes in.
-fn serve_clients<'w, 'b, J: Naming + Send + Sync, R: Clock + Threads + Wait + Sync, O: Write>(
+fn serve_clients<
+    'w,
+    'b,
+    D: BlockDisk + Send,
+    J: Naming + Send + Sync,
+    R: Clock + Threads + Wait + Sync,
+    O: Write,
+>(
     rt: &R,
-    workers: &Workers<'_, '_, 'b, J>,
+    workers: &Workers<'_, '_, 'b, D, J>,
     service: Service<'w>,
     listeners: &Listeners,
     output: &mut O,
@@ -291,9 +339,9 @@ fn serve_clients<'w, 'b, J: Naming + Send + Sync, R: Clock + Threads + Wait + Sy
 }
 
 // Waits until all commits are stable.
-fn flush<'w, 'b, J: Naming, W: Wait>(
+fn flush<'w, 'b, D: BlockDisk, J: Naming, W: Wait>(
     rt: &W,
-    journal: &FileJournal<'b, J>,
+    journal: &OpenJournal<'b, D, J>,
     path: &'w str,
 ) -> Result<(), Fault<'w>> {
     let mut session = match journal.session(rt) {

@@ -1,7 +1,9 @@
 // A service is ended.
 
 use crate::fault::Fault;
-use journal_records::{Answer, Input, Next, Refused as Answered, Request, VERSION, write_request};
+use journal_records::{
+    Answer, FIRST_VERSION, Input, Next, Refused as Answered, Request, write_request,
+};
 use std::alloc::Global;
 use std::fs::Files;
 use std::io::{ErrorKind, Read, Write};
@@ -99,7 +101,8 @@ fn ask_to_stop<'w, R: Net>(rt: &R, alloc: Global, socket: &'w str) -> Result<(),
         Err(why) => return Err(Fault::File { path: socket, why }),
     };
     let mut input = Input::new(alloc);
-    for request in [Request::Hello(VERSION), Request::Stop] {
+    // Each version of the service speaks the first one.
+    for request in [Request::Hello(FIRST_VERSION), Request::Stop] {
         match ask(alloc, &mut stream, &mut input, &request, socket)? {
             Answer::Hello { .. } => {}
             Answer::Stopping => return Ok(()),
@@ -110,8 +113,8 @@ fn ask_to_stop<'w, R: Net>(rt: &R, alloc: Global, socket: &'w str) -> Result<(),
     Err(Fault::NoAnswer { socket })
 }
 
-// Asks a request, and waits for its answer.
-fn ask<'w>(
+/// Asks a request, and waits for its answer.
+pub fn ask<'w>(
     alloc: Global,
     stream: &mut UnixStream,
     input: &mut Input,

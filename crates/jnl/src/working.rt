@@ -1,14 +1,16 @@
 // The workers of a service, and who accepts connections for them.
 ghost use Rattle.std.specs.Prelude.{◌≡◌};
+ghost use Rattle.journal_world.specs.Files.{shape};
 
+use crate::counts::{ConnectionCounts, Figures, SyncCounts};
 use crate::listener::{Closer, Listener};
 use crate::peer::{Incoming, Outgoing, Peer};
 use crate::queue::{Accepted, Queue};
+use journal_disk::BlockDisk;
 use journal_history::Naming;
-use journal_port::{End, Rights, Terms, serve};
-use journal_program::SizedDisk;
+use journal_port::{End, Port, Rights, Terms, serve};
 use journal_twophase::Journal;
-use journal_world::AnyMap;
+use journal_world::{AnyMap, Layout};
 use std::alloc::Global;
 use std::sync::Wait;
 use std::sync::atomic::{AtomicBool, Ordering};
@@ -19,28 +21,37 @@ use std::{io, thread};
 // How many milliseconds a service goes on after its device has failed.
 const LAST_MILLIS: u64 = 250;
 
-/// A journal over a file that admits every map.
-pub type FileJournal<'b, J> = Journal<'b, SizedDisk, AnyMap, J>;
+/// A journal that admits every map.
+pub type OpenJournal<'b, D, J> = Journal<'b, D, AnyMap, J>;
 
 /// What is served.
-pub struct OpenDisk<'j, 'b, J: Naming> {
+pub struct OpenDisk<'j, 'b, D: BlockDisk, J: Naming> {
     /// What memory is taken from.
     pub alloc: Global,
     /// The journal.
-    pub journal: &'j FileJournal<'b, J>,
-    /// The number of blocks of its disk.
-    pub blocks: u64,
+    pub journal: &'j OpenJournal<'b, D, J>,
+    /// The layout by which it was opened.
+    pub layout: Layout,
+    /// The number of the opening.
+    pub number: u64,
+    /// When it was opened, in microseconds of the clock, where this could be read.
+    pub opened_at: Option<u64>,
+    /// What is counted of the syncs of its disk.
+    pub syncs: &'j SyncCounts,
     /// Whether transactions may write.
     pub may_write: bool,
-    pub ghost is_its_size: { blocks ≡ J.layout.blocks },
+    pub ghost is_its_layout: { shape layout ≡ J.layout },
 }
 
-impl<'j, 'b, J: Naming> Drop for OpenDisk<'j, 'b, J> {
+impl<'j, 'b, D: BlockDisk, J: Naming> Drop for OpenDisk<'j, 'b, D, J> {
     fn drop(self) {
         let OpenDisk {
             alloc: _,
             journal: _,
-            blocks: _,
+            layout: _,
+            number: _,
+            opened_at: _,
+            syncs: _,
             may_write: _,
         } = self;
     }
@@ -65,9 +76,10 @@ pub enum WorkersFault {
 }
 
 /// What the threads of a service share.
-pub struct Workers<'s, 'j, 'b, J: Naming> {
-    disk: &'s OpenDisk<'j, 'b, J>,
+pub struct Workers<'s, 'j, 'b, D: BlockDisk, J: Naming> {
+    disk: &'s OpenDisk<'j, 'b, D, J>,
     queue: Queue,
+    counts: ConnectionCounts,
     // What closes the socket.
     socket: Closer,
     // What closes the port, where there is one.
@@ -76,11 +88,12 @@ pub struct Workers<'s, 'j, 'b, J: Naming> {
     has_failed: AtomicBool,
 }
 
-impl<'s, 'j, 'b, J: Naming> Drop for Workers<'s, 'j, 'b, J> {
+impl<'s, 'j, 'b, D: BlockDisk, J: Naming> Drop for Workers<'s, 'j, 'b, D, J> {
     fn drop(self) {
         let Workers {
             disk: _,
             queue: _,
+            counts: _,
             socket: _,
             port: _,
             has_failed: _,
@@ -88,10 +101,10 @@ impl<'s, 'j, 'b, J: Naming> Drop for Workers<'s, 'j, 'b, J> {
     }
 }
 
-impl<'s, 'j, 'b, J: Naming + Send + Sync> Workers<'s, 'j, 'b, J> {
+impl<'s, 'j, 'b, D: BlockDisk + Send, J: Naming + Send + Sync> Workers<'s, 'j, 'b, D, J> {
     /// Workers for what is served and where it listens. Refused where the system refuses another
     /// number of a listener.
-    pub fn new(disk: &'s OpenDisk<'j, 'b, J>, listeners: &Listeners) -> io::Result<Self> {
+    pub fn new(disk: &'s OpenDisk<'j, 'b, D, J>, listeners: &Listeners) -> io::Result<Self> {
         let port = match &listeners.port {
             Some(listener) => Some(listener.closer()?),
             None => None,
@@ -99,6 +112,7 @@ impl<'s, 'j, 'b, J: Naming + Send + Sync> Workers<'s, 'j, 'b, J> {
         Ok(Workers {
             disk,
             queue: Queue::new(disk.alloc),
+            counts: ConnectionCounts::new(),
             socket: listeners.socket.closer()?,
             port,
             has_failed: AtomicBool::new(false),
@@ -183,33 +197,46 @@ impl<'s, 'j, 'b, J: Naming + Send + Sync> Workers<'s, 'j, 'b, J> {
     // Serves a connection under a session of its own, and answers how it ended, or `None` where it
     // was given up.
     fn serve_one<R: Clock + Wait>(&self, rt: &R, accepted: Accepted) -> Option<End> {
+        self.counts.taken.add(1);
+        self.counts.served.add(1);
+        let end = self.serve_counted(rt, accepted);
+        self.counts.served.take();
+        end
+    }
+
+    // The same, of a connection that is counted.
+    fn serve_counted<R: Clock + Wait>(&self, rt: &R, accepted: Accepted) -> Option<End> {
         let Accepted { stream, may_stop } = accepted;
         let disk = self.disk;
-        let may_write = disk.may_write;
-        let terms = Terms {
-            blocks: disk.blocks,
-            rights: Rights {
-                may_stop,
-                may_write,
+        let figures = Figures {
+            rt,
+            disk,
+            queue: &self.queue,
+            connections: &self.counts,
+        };
+        let port = Port {
+            alloc: disk.alloc,
+            journal: disk.journal,
+            counting: &figures,
+            terms: Terms {
+                layout: disk.layout,
+                number: disk.number,
+                rights: Rights {
+                    may_stop,
+                    may_write: disk.may_write,
+                },
             },
         };
-        let Ok(mut session) = disk.journal.session(rt) else {
-            return None;
-        };
-        let peer = Peer::new(rt, &self.queue, stream);
+        let mut session = disk.journal.session(rt).ok()?;
+        let peer = Peer::new(rt, &self.queue, &self.counts, stream);
         let served = serve(
             rt,
-            disk.alloc,
-            disk.journal,
+            &port,
             &mut session,
-            terms,
             &mut Incoming(&peer),
             &mut Outgoing(&peer),
         );
         peer.close();
-        match served {
-            Ok(served) => Some(served.end),
-            Err(_) => None,
-        }
+        Some(served.ok()?.end)
     }
 }

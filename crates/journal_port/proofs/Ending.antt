@@ -22,7 +22,7 @@ use Rattle.journal_records.specs.declared.request.Part.{Part}
 use Rattle.journal_port.specs.declared.parts.PartFault.{PartFault}
 use Rattle.journal_port.specs.declared.parts.PartFault.TheVariants as fault
 use Rattle.journal_records.specs.declared.answer.Answer.{Answer}
-use Rattle.journal_records.specs.declared.answer.Answer.TheVariants.{Committed, Refused, Unsure, Values, Hello, Flushed, Stat, Stopping}
+use Rattle.journal_records.specs.declared.answer.Answer.TheVariants.{Committed, Refused, Unsure, Values, Hello, Opening, Flushed, Stat, Stopping, Counters, Bits}
 use Rattle.journal_port.specs.Requests.{compared, written}
 use Rattle.journal_port.specs.Parts.{Does, IsRead, MatchesAt, IsPartRefusal, IsPartsFault}
 use Rattle.journal_port.specs.Answers.{AnyMap, EndsAt, IsEnd, CommitsParts, IsRefusal, IsRefusedFor, IsConflict, IsCommitAnswer, answer_of}
@@ -119,10 +119,13 @@ IsCommitAnswer-ended layout parts waits marks old from new t (Refused n) extends
   inr (ends.1.0, ends.1.1, refused_end layout parts old from new (core_of t) ends.1.0 extends (nothing_behind t.writes (written parts) did.writes) ends.1.2 ends.1.3),
 )
 IsCommitAnswer-ended layout parts waits marks old from new t (Values values) extends has_begun did ends = absurd ends
-IsCommitAnswer-ended layout parts waits marks old from new t (Hello version size) extends has_begun did ends = absurd ends
+IsCommitAnswer-ended layout parts waits marks old from new t (Hello size) extends has_begun did ends = absurd ends
 IsCommitAnswer-ended layout parts waits marks old from new t (Flushed stable) extends has_begun did ends = absurd ends
 IsCommitAnswer-ended layout parts waits marks old from new t (Stat commits stable) extends has_begun did ends = absurd ends
 IsCommitAnswer-ended layout parts waits marks old from new t Stopping extends has_begun did ends = absurd ends
+IsCommitAnswer-ended layout parts waits marks old from new t (Opening opening) extends has_begun did ends = absurd ends
+IsCommitAnswer-ended layout parts waits marks old from new t (Counters counters) extends has_begun did ends = absurd ends
+IsCommitAnswer-ended layout parts waits marks old from new t (Bits bits) extends has_begun did ends = absurd ends
 
 -- a part was given up
 pub IsCommitAnswer-fault : (layout : Shape) (parts : List Part) (waits : Bool) (marks : List Entry) (old new : SessionState) (fault : PartFault CauseState) → OnlyExtends old new → IsPartsFault layout parts new.seen fault
@@ -173,7 +176,10 @@ IsCommitAnswer-sorted layout xs ys waits marks old new (Refused n) moved reads w
     by (inl conflict) = inl (conflict.0, λ trusted. let found = conflict.1 trusted in (found.0, moved_back xs ys found.0 moved found.1, found.2))
     by (inr why) = inr (why.0, why.1, refused_sorted layout xs ys old new why.0 moved writes why.2)
 IsCommitAnswer-sorted layout xs ys waits marks old new (Values values) moved reads writes is = is
-IsCommitAnswer-sorted layout xs ys waits marks old new (Hello version size) moved reads writes is = is
+IsCommitAnswer-sorted layout xs ys waits marks old new (Hello size) moved reads writes is = is
 IsCommitAnswer-sorted layout xs ys waits marks old new (Flushed stable) moved reads writes is = is
 IsCommitAnswer-sorted layout xs ys waits marks old new (Stat commits stable) moved reads writes is = is
 IsCommitAnswer-sorted layout xs ys waits marks old new Stopping moved reads writes is = is
+IsCommitAnswer-sorted layout xs ys waits marks old new (Opening opening) moved reads writes is = is
+IsCommitAnswer-sorted layout xs ys waits marks old new (Counters counters) moved reads writes is = is
+IsCommitAnswer-sorted layout xs ys waits marks old new (Bits bits) moved reads writes is = is

@@ -12,12 +12,11 @@ use Rattle.journal_history.specs.Tokens.{SessionState, OnlyExtends}
 use Rattle.journal_records.specs.declared.answer.Answer.{Answer}
 use Rattle.journal_records.specs.declared.answer.Answer.TheVariants.{Stopping}
 use Rattle.journal_records.specs.Frames.{framed, frames, IsShort, IsPartial, BeginsTooLong}
-use Rattle.journal_port.specs.declared.rights.Rights.{Rights}
 use Rattle.journal_port.specs.declared.serving.End.{End}
 use Rattle.journal_port.specs.declared.serving.End.TheVariants.{NoMore, Stopped, TooLong}
 use Rattle.journal_port.specs.declared.turns.Turn.{Turn}
 use Rattle.journal_port.specs.declared.turns.Turn.TheVariants as turn
-use Rattle.journal_port.specs.Answers.{settled}
+use Rattle.journal_port.specs.Answers.{Offer, settled}
 use Rattle.journal_port.specs.Served.{IsReplyTo, AreAnswers, text_of, texts, IsSendable, Writes, AppendsFront, Turns, EndsTurn, Replies, RepliesInPart, refuses_long, Feeds, Exchange, Serves, Breaks, SoFar}
 use Rattle.journal_port.proofs.Ending.{OnlyExtends-refl}
 use Rattle.journal_port.proofs.Growing.{reply_grows, answers_grow}
@@ -59,37 +58,37 @@ writes_front before held holds first last one more = record {
 
 -- ---- a turn
 
-module _ (layout : Shape) (rights : Rights) where
-  pub turns_nothing : (waiting : List ℕ) (session : SessionState) (answers : List Answer) → answers ≡ [] → Turns layout rights waiting waiting session session answers
+module _ (layout : Shape) (offer : Offer) where
+  pub turns_nothing : (waiting : List ℕ) (session : SessionState) (answers : List Answer) → answers ≡ [] → Turns layout offer waiting waiting session session answers
   turns_nothing waiting session answers none = record { records = []; is = refl; short = tt; answered = (OnlyExtends-refl session, none) }
 
   -- one more record
-  pub turns_push : (waiting rest left bytes : List ℕ) (old mid new : SessionState) (answers held : List Answer) (told : Answer) → Turns layout rights waiting rest old mid answers
-      → IsShort bytes → rest ≡ framed bytes ++ left → IsReplyTo layout rights new.seen bytes mid new told → held ≡ answers ++ told ∷ []
-      → Turns layout rights waiting left old new held
+  pub turns_push : (waiting rest left bytes : List ℕ) (old mid new : SessionState) (answers held : List Answer) (told : Answer) → Turns layout offer waiting rest old mid answers
+      → IsShort bytes → rest ≡ framed bytes ++ left → IsReplyTo layout offer new.seen bytes mid new told → held ≡ answers ++ told ∷ []
+      → Turns layout offer waiting left old new held
   turns_push waiting rest left bytes old mid new answers held told so_far short is one pushed = record {
     records = so_far.records ++ bytes ∷ [];
     is = frames_more so_far.records (bytes ∷ []) waiting rest left so_far.is (is ∙ ap (λ (l : List ℕ). l ++ left) (sym (append-nil (framed bytes))));
     short = all_append IsShort so_far.records (bytes ∷ []) so_far.short (short, tt);
-    answered = subst (AreAnswers layout rights new.seen (so_far.records ++ bytes ∷ []) old new) (sym pushed)
-        (answers_push layout rights new.seen so_far.records bytes old mid new answers told
-        (answers_later layout rights mid.seen new.seen so_far.records old mid answers (reply_grows layout rights new.seen bytes mid new told one) so_far.answered) one);
+    answered = subst (AreAnswers layout offer new.seen (so_far.records ++ bytes ∷ []) old new) (sym pushed)
+        (answers_push layout offer new.seen so_far.records bytes old mid new answers told
+        (answers_later layout offer mid.seen new.seen so_far.records old mid answers (reply_grows layout offer new.seen bytes mid new told one) so_far.answered) one);
   }
 
   -- the session has seen more since, by which so many commits are stable
-  pub turns_settled : (waiting rest : List ℕ) (old mid new : SessionState) (answers : List Answer) (stable : ℕ) → Turns layout rights waiting rest old mid answers → OnlyExtends mid new
-      → stable ≤ floor new.seen → Turns layout rights waiting rest old new (map (settled stable) answers)
+  pub turns_settled : (waiting rest : List ℕ) (old mid new : SessionState) (answers : List Answer) (stable : ℕ) → Turns layout offer waiting rest old mid answers → OnlyExtends mid new
+      → stable ≤ floor new.seen → Turns layout offer waiting rest old new (map (settled stable) answers)
   turns_settled waiting rest old mid new answers stable turns extends marked = record {
     records = turns.records;
     is = turns.is;
     short = turns.short;
-    answered = answers_settled layout rights new.seen stable turns.records old new answers marked
-        (answers_after layout rights new.seen turns.records old mid new answers (answers_later layout rights mid.seen new.seen turns.records old mid answers extends.seen turns.answered) extends);
+    answered = answers_settled layout offer new.seen stable turns.records old new answers marked
+        (answers_after layout offer new.seen turns.records old mid new answers (answers_later layout offer mid.seen new.seen turns.records old mid answers extends.seen turns.answered) extends);
   }
 
   -- the answers were written up to some byte
-  pub replies_in_part : (waiting rest : List ℕ) (old mid new : SessionState) (held lent : List Answer) (stable : ℕ) (before holds : Option (List ℕ)) → Turns layout rights waiting rest old mid held
-      → OnlyExtends mid new → stable ≤ floor new.seen → lent ≡ held → AppendsFront before holds (texts (map (settled stable) lent)) → RepliesInPart layout rights waiting old new before holds
+  pub replies_in_part : (waiting rest : List ℕ) (old mid new : SessionState) (held lent : List Answer) (stable : ℕ) (before holds : Option (List ℕ)) → Turns layout offer waiting rest old mid held
+      → OnlyExtends mid new → stable ≤ floor new.seen → lent ≡ held → AppendsFront before holds (texts (map (settled stable) lent)) → RepliesInPart layout offer waiting old new before holds
   replies_in_part waiting rest old mid new held lent stable before holds turns extends marked same wrote = record {
     rest = rest;
     answers = map (settled stable) held;
@@ -105,33 +104,33 @@ ends_settled turn.Stopped rest answers stable ends = (map (settled stable) ends.
 ends_settled turn.TooLong rest answers stable ends = ends
 
 -- the answers were written
-pub replies_whole : (layout : Shape) (rights : Rights) (end : Turn) (waiting rest : List ℕ) (old mid new : SessionState) (held lent : List Answer) (stable : ℕ) (before holds : Option (List ℕ))
-    → Turns layout rights waiting rest old mid held → EndsTurn end rest held → OnlyExtends mid new → stable ≤ floor new.seen → lent ≡ held → Writes before holds (map (settled stable) lent)
-    → Replies layout rights end waiting rest old new before holds
-replies_whole layout rights end waiting rest old mid new held lent stable before holds turns ends extends marked same wrote = record {
+pub replies_whole : (layout : Shape) (offer : Offer) (end : Turn) (waiting rest : List ℕ) (old mid new : SessionState) (held lent : List Answer) (stable : ℕ) (before holds : Option (List ℕ))
+    → Turns layout offer waiting rest old mid held → EndsTurn end rest held → OnlyExtends mid new → stable ≤ floor new.seen → lent ≡ held → Writes before holds (map (settled stable) lent)
+    → Replies layout offer end waiting rest old new before holds
+replies_whole layout offer end waiting rest old mid new held lent stable before holds turns ends extends marked same wrote = record {
   answers = map (settled stable) held;
-  turns = turns_settled layout rights waiting rest old mid new held stable turns extends marked;
+  turns = turns_settled layout offer waiting rest old mid new held stable turns extends marked;
   ends = ends_settled end rest held stable ends;
   wrote = subst (λ (l : List Answer). Writes before holds (map (settled stable) l)) same wrote;
 }
 
 -- ---- a connection
 
-module _ (layout : Shape) (rights : Rights) (from left before held : Option (List ℕ)) (rest : List ℕ) (old mid : SessionState) where
+module _ (layout : Shape) (offer : Offer) (from left before held : Option (List ℕ)) (rest : List ℕ) (old mid : SessionState) where
   -- some more records were answered
-  exchange_turned : (waits : List ℕ) (new : SessionState) (answers more : List Answer) → Exchange layout rights from left rest old mid answers
-      → Turns layout rights rest waits mid new more → Exchange layout rights from left waits old new (answers ++ more)
+  exchange_turned : (waits : List ℕ) (new : SessionState) (answers more : List Answer) → Exchange layout offer from left rest old mid answers
+      → Turns layout offer rest waits mid new more → Exchange layout offer from left waits old new (answers ++ more)
   exchange_turned waits new answers more so_far turns = record {
     records = so_far.records ++ turns.records;
     read = subst (Consumes from left) (frames_more so_far.records turns.records (frames so_far.records ++ rest) rest waits refl turns.is) so_far.read;
     short = all_append IsShort so_far.records turns.records so_far.short turns.short;
-    answered = answers_append layout rights new.seen so_far.records turns.records old mid new answers more
-        (answers_later layout rights mid.seen new.seen so_far.records old mid answers (answers_grow layout rights new.seen turns.records mid new more turns.answered) so_far.answered) turns.answered;
+    answered = answers_append layout offer new.seen so_far.records turns.records old mid new answers more
+        (answers_later layout offer mid.seen new.seen so_far.records old mid answers (answers_grow layout offer new.seen turns.records mid new more turns.answered) so_far.answered) turns.answered;
   }
 
   -- a piece came
-  exchange_fed : (then : Option (List ℕ)) (piece : List ℕ) (answers : List Answer) → Exchange layout rights from left rest old mid answers → Consumes left then piece
-      → Exchange layout rights from then (rest ++ piece) old mid answers
+  exchange_fed : (then : Option (List ℕ)) (piece : List ℕ) (answers : List Answer) → Exchange layout offer from left rest old mid answers → Consumes left then piece
+      → Exchange layout offer from then (rest ++ piece) old mid answers
   exchange_fed then piece answers so_far more = record {
     records = so_far.records;
     read = subst (Consumes from then) (append_assoc (frames so_far.records) rest piece) (Consumes-trans from left then (frames so_far.records ++ rest) piece so_far.read more);
@@ -140,37 +139,37 @@ module _ (layout : Shape) (rights : Rights) (from left before held : Option (Lis
   }
 
 -- nothing has come
-pub begins_so_far : (layout : Shape) (rights : Rights) (from before : Option (List ℕ)) (waiting : List ℕ) (session : SessionState) → waiting ≡ [] → SoFar layout rights from from before before waiting session session
-begins_so_far layout rights from before waiting session none = record {
+pub begins_so_far : (layout : Shape) (offer : Offer) (from before : Option (List ℕ)) (waiting : List ℕ) (session : SessionState) → waiting ≡ [] → SoFar layout offer from from before before waiting session session
+begins_so_far layout offer from before waiting session none = record {
   answers = [];
   exchange = record { records = []; read = subst (Consumes from from) (sym none) (Consumes-nil from); short = tt; answered = (OnlyExtends-refl session, refl) };
   wrote = writes_nothing before;
 }
 
-module _ (layout : Shape) (rights : Rights) (from left before held : Option (List ℕ)) (rest : List ℕ) (old mid : SessionState) (so_far : SoFar layout rights from left before held rest old mid) where
+module _ (layout : Shape) (offer : Offer) (from left before held : Option (List ℕ)) (rest : List ℕ) (old mid : SessionState) (so_far : SoFar layout offer from left before held rest old mid) where
   -- a turn was answered
-  pub goes_on : (end : Turn) (waits : List ℕ) (new : SessionState) (holds : Option (List ℕ)) → Replies layout rights end rest waits mid new held holds → SoFar layout rights from left before holds waits old new
+  pub goes_on : (end : Turn) (waits : List ℕ) (new : SessionState) (holds : Option (List ℕ)) → Replies layout offer end rest waits mid new held holds → SoFar layout offer from left before holds waits old new
   goes_on end waits new holds replies = record {
     answers = so_far.answers ++ replies.answers;
-    exchange = exchange_turned layout rights from left before held rest old mid waits new so_far.answers replies.answers so_far.exchange replies.turns;
+    exchange = exchange_turned layout offer from left before held rest old mid waits new so_far.answers replies.answers so_far.exchange replies.turns;
     wrote = writes_more before held holds so_far.answers replies.answers so_far.wrote replies.wrote;
   }
 
   -- a piece came
-  pub is_fed : (then : Option (List ℕ)) (piece waits : List ℕ) → Consumes left then piece → waits ≡ rest ++ piece → SoFar layout rights from then before held waits old mid
+  pub is_fed : (then : Option (List ℕ)) (piece waits : List ℕ) → Consumes left then piece → waits ≡ rest ++ piece → SoFar layout offer from then before held waits old mid
   is_fed then piece waits more is = record {
     answers = so_far.answers;
-    exchange = subst (λ (l : List ℕ). Exchange layout rights from then l old mid so_far.answers) (sym is) (exchange_fed layout rights from left before held rest old mid then piece so_far.answers so_far.exchange more);
+    exchange = subst (λ (l : List ℕ). Exchange layout offer from then l old mid so_far.answers) (sym is) (exchange_fed layout offer from left before held rest old mid then piece so_far.answers so_far.exchange more);
     wrote = so_far.wrote;
   }
 
   -- it is given up after a piece at most
-  pub gives_up : (then : Option (List ℕ)) (piece : List ℕ) → Consumes left then piece → Breaks layout rights from then before held old mid
+  pub gives_up : (then : Option (List ℕ)) (piece : List ℕ) → Consumes left then piece → Breaks layout offer from then before held old mid
   gives_up then piece more = record {
     rest = rest ++ piece;
     answers = so_far.answers;
     behind = [];
-    exchange = exchange_fed layout rights from left before held rest old mid then piece so_far.answers so_far.exchange more;
+    exchange = exchange_fed layout offer from left before held rest old mid then piece so_far.answers so_far.exchange more;
     owed = inl refl;
     wrote = whole_front;
   }
@@ -184,19 +183,19 @@ module _ (layout : Shape) (rights : Rights) (from left before held : Option (Lis
       }
 
   -- it is given up within a turn
-  pub breaks : (new : SessionState) (holds : Option (List ℕ)) → RepliesInPart layout rights rest mid new held holds → Breaks layout rights from left before holds old new
+  pub breaks : (new : SessionState) (holds : Option (List ℕ)) → RepliesInPart layout offer rest mid new held holds → Breaks layout offer from left before holds old new
   breaks new holds part = record {
     rest = part.rest;
     answers = so_far.answers ++ part.answers;
     behind = [];
-    exchange = exchange_turned layout rights from left before held rest old mid part.rest new so_far.answers part.answers so_far.exchange part.turns;
+    exchange = exchange_turned layout offer from left before held rest old mid part.rest new so_far.answers part.answers so_far.exchange part.turns;
     owed = inl refl;
     wrote = subst (λ (l : List Answer). AppendsFront before holds (texts l)) (sym (append-nil (so_far.answers ++ part.answers)))
         (writes_front before held holds so_far.answers part.answers so_far.wrote part.wrote);
   }
 
   -- a record is too long, and the answer that it is was not written whole
-  pub breaks_long : (holds : Option (List ℕ)) → BeginsTooLong rest → AppendsFront held holds (texts (refuses_long ∷ [])) → Breaks layout rights from left before holds old mid
+  pub breaks_long : (holds : Option (List ℕ)) → BeginsTooLong rest → AppendsFront held holds (texts (refuses_long ∷ [])) → Breaks layout offer from left before holds old mid
   breaks_long holds long part = record {
     rest = rest;
     answers = so_far.answers;
@@ -207,7 +206,7 @@ module _ (layout : Shape) (rights : Rights) (from left before held : Option (Lis
   }
 
   -- it was
-  pub ends_long : (holds : Option (List ℕ)) → BeginsTooLong rest → Writes held holds (refuses_long ∷ []) → Serves layout rights TooLong from left before holds old mid
+  pub ends_long : (holds : Option (List ℕ)) → BeginsTooLong rest → Writes held holds (refuses_long ∷ []) → Serves layout offer TooLong from left before holds old mid
   ends_long holds long wrote = record {
     rest = rest;
     answers = so_far.answers;
@@ -221,25 +220,25 @@ module _ (layout : Shape) (rights : Rights) (from left before held : Option (Lis
   nothing_behind = subst (Writes before held) (sym (append-nil so_far.answers)) so_far.wrote
 
   -- nothing more comes
-  pub ends_dry : (then : Option (List ℕ)) → Consumes left then [] → IsAtEnd then → IsPartial rest → Serves layout rights NoMore from then before held old mid
+  pub ends_dry : (then : Option (List ℕ)) → Consumes left then [] → IsAtEnd then → IsPartial rest → Serves layout offer NoMore from then before held old mid
   ends_dry then more dry part = record {
     rest = rest;
     answers = so_far.answers;
     behind = [];
-    exchange = subst (λ (l : List ℕ). Exchange layout rights from then l old mid so_far.answers) (append-nil rest) (exchange_fed layout rights from left before held rest old mid then [] so_far.answers so_far.exchange more);
+    exchange = subst (λ (l : List ℕ). Exchange layout offer from then l old mid so_far.answers) (append-nil rest) (exchange_fed layout offer from left before held rest old mid then [] so_far.answers so_far.exchange more);
     wrote = nothing_behind;
     ends = (dry, part, refl);
   }
 
 -- the service ends
-pub ends_stopped : (layout : Shape) (rights : Rights) (from left before held holds : Option (List ℕ)) (rest waits : List ℕ) (old mid new : SessionState) (end : Turn) → SoFar layout rights from left before held rest old mid
-    → end ≡ turn.Stopped → Replies layout rights end rest waits mid new held holds → Serves layout rights Stopped from left before holds old new
-ends_stopped layout rights from left before held holds rest waits old mid new end so_far is replies =
+pub ends_stopped : (layout : Shape) (offer : Offer) (from left before held holds : Option (List ℕ)) (rest waits : List ℕ) (old mid new : SessionState) (end : Turn) → SoFar layout offer from left before held rest old mid
+    → end ≡ turn.Stopped → Replies layout offer end rest waits mid new held holds → Serves layout offer Stopped from left before holds old new
+ends_stopped layout offer from left before held holds rest waits old mid new end so_far is replies =
     let stops : EndsTurn turn.Stopped waits replies.answers = subst (λ (t : Turn). EndsTurn t waits replies.answers) is replies.ends in record {
       rest = waits;
       answers = so_far.answers ++ replies.answers;
       behind = [];
-      exchange = exchange_turned layout rights from left before held rest old mid waits new so_far.answers replies.answers so_far.exchange replies.turns;
+      exchange = exchange_turned layout offer from left before held rest old mid waits new so_far.answers replies.answers so_far.exchange replies.turns;
       wrote = subst (Writes before holds) (sym (append-nil (so_far.answers ++ replies.answers))) (writes_more before held holds so_far.answers replies.answers so_far.wrote replies.wrote);
       ends = (
         (so_far.answers ++ stops.0, ap (λ (l : List Answer). so_far.answers ++ l) stops.1 ∙ sym (append_assoc so_far.answers stops.0 (Stopping ∷ []))),
@@ -248,13 +247,13 @@ ends_stopped layout rights from left before held holds rest waits old mid new en
     }
 
 -- how a turn ends that leaves the reader for more, or finds a record that is too long
-pub ends_waiting : (layout : Shape) (rights : Rights) (end : Turn) (waiting rest : List ℕ) (old new : SessionState) (before holds : Option (List ℕ)) → end ≡ turn.Waiting
-    → Replies layout rights end waiting rest old new before holds → IsPartial rest
-ends_waiting layout rights end waiting rest old new before holds is replies = subst (λ (t : Turn). EndsTurn t rest replies.answers) is replies.ends
+pub ends_waiting : (layout : Shape) (offer : Offer) (end : Turn) (waiting rest : List ℕ) (old new : SessionState) (before holds : Option (List ℕ)) → end ≡ turn.Waiting
+    → Replies layout offer end waiting rest old new before holds → IsPartial rest
+ends_waiting layout offer end waiting rest old new before holds is replies = subst (λ (t : Turn). EndsTurn t rest replies.answers) is replies.ends
 
-pub ends_too_long : (layout : Shape) (rights : Rights) (end : Turn) (waiting rest : List ℕ) (old new : SessionState) (before holds : Option (List ℕ)) → end ≡ turn.TooLong
-    → Replies layout rights end waiting rest old new before holds → BeginsTooLong rest
-ends_too_long layout rights end waiting rest old new before holds is replies = subst (λ (t : Turn). EndsTurn t rest replies.answers) is replies.ends
+pub ends_too_long : (layout : Shape) (offer : Offer) (end : Turn) (waiting rest : List ℕ) (old new : SessionState) (before holds : Option (List ℕ)) → end ≡ turn.TooLong
+    → Replies layout offer end waiting rest old new before holds → BeginsTooLong rest
+ends_too_long layout offer end waiting rest old new before holds is replies = subst (λ (t : Turn). EndsTurn t rest replies.answers) is replies.ends
 
 pub is_dry : (from left : Option (List ℕ)) (waiting waits : List ℕ) (goes_on : Bool) → goes_on ≡ false → Feeds from left waiting waits goes_on → Feeds from left waiting waits false
 is_dry from left waiting waits goes_on is fed = subst (Feeds from left waiting waits) is fed
@@ -263,40 +262,40 @@ pub has_come : (from left : Option (List ℕ)) (waiting waits : List ℕ) (goes_
 has_come from left waiting waits goes_on is fed = subst (Feeds from left waiting waits) is fed
 
 -- it is given up before anything has come
-pub breaks_at_once : (layout : Shape) (rights : Rights) (from before : Option (List ℕ)) (session : SessionState) → Breaks layout rights from from before before session session
-breaks_at_once layout rights from before session =
-    gives_up layout rights from from before before [] session session (begins_so_far layout rights from before [] session refl) from [] (Consumes-nil from)
+pub breaks_at_once : (layout : Shape) (offer : Offer) (from before : Option (List ℕ)) (session : SessionState) → Breaks layout offer from from before before session session
+breaks_at_once layout offer from before session =
+    gives_up layout offer from from before before [] session session (begins_so_far layout offer from before [] session refl) from [] (Consumes-nil from)
 
 -- ---- the fence
 
-exchange_after : (layout : Shape) (rights : Rights) (from left : Option (List ℕ)) (rest : List ℕ) (old mid new : SessionState) (answers : List Answer) → OnlyExtends mid new
-    → Exchange layout rights from left rest old mid answers → Exchange layout rights from left rest old new answers
-exchange_after layout rights from left rest old mid new answers extends so_far = record {
+exchange_after : (layout : Shape) (offer : Offer) (from left : Option (List ℕ)) (rest : List ℕ) (old mid new : SessionState) (answers : List Answer) → OnlyExtends mid new
+    → Exchange layout offer from left rest old mid answers → Exchange layout offer from left rest old new answers
+exchange_after layout offer from left rest old mid new answers extends so_far = record {
   records = so_far.records;
   read = so_far.read;
   short = so_far.short;
-  answered = answers_after layout rights new.seen so_far.records old mid new answers
-      (answers_later layout rights mid.seen new.seen so_far.records old mid answers extends.seen so_far.answered) extends;
+  answered = answers_after layout offer new.seen so_far.records old mid new answers
+      (answers_later layout offer mid.seen new.seen so_far.records old mid answers extends.seen so_far.answered) extends;
 }
 
-pub serves_after : (layout : Shape) (rights : Rights) (end : End) (from left before holds : Option (List ℕ)) (old mid new : SessionState) → OnlyExtends mid new
-    → Serves layout rights end from left before holds old mid → Serves layout rights end from left before holds old new
-serves_after layout rights end from left before holds old mid new extends is = record {
+pub serves_after : (layout : Shape) (offer : Offer) (end : End) (from left before holds : Option (List ℕ)) (old mid new : SessionState) → OnlyExtends mid new
+    → Serves layout offer end from left before holds old mid → Serves layout offer end from left before holds old new
+serves_after layout offer end from left before holds old mid new extends is = record {
   rest = is.rest;
   answers = is.answers;
   behind = is.behind;
-  exchange = exchange_after layout rights from left is.rest old mid new is.answers extends is.exchange;
+  exchange = exchange_after layout offer from left is.rest old mid new is.answers extends is.exchange;
   wrote = is.wrote;
   ends = is.ends;
 }
 
-pub breaks_after : (layout : Shape) (rights : Rights) (from left before holds : Option (List ℕ)) (old mid new : SessionState) → OnlyExtends mid new
-    → Breaks layout rights from left before holds old mid → Breaks layout rights from left before holds old new
-breaks_after layout rights from left before holds old mid new extends is = record {
+pub breaks_after : (layout : Shape) (offer : Offer) (from left before holds : Option (List ℕ)) (old mid new : SessionState) → OnlyExtends mid new
+    → Breaks layout offer from left before holds old mid → Breaks layout offer from left before holds old new
+breaks_after layout offer from left before holds old mid new extends is = record {
   rest = is.rest;
   answers = is.answers;
   behind = is.behind;
-  exchange = exchange_after layout rights from left is.rest old mid new is.answers extends is.exchange;
+  exchange = exchange_after layout offer from left is.rest old mid new is.answers extends is.exchange;
   owed = is.owed;
   wrote = is.wrote;
 }

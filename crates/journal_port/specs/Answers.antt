@@ -1,10 +1,13 @@
 -- What a request is owed as an answer.
-use Rattle.std.specs.Prelude.{ℕ, ◌≡◌, ◌≢◌, ◌<◌, ◌≤◌, ◌⊎◌, nat_le, Bool, true, false, if◌then◌else◌, IsTrue, List, length, Contains, All}
-use Rattle.std.specs.List.{zip}
+use Rattle.std.specs.Prelude.{ℕ, ◌≡◌, ◌≢◌, ◌<◌, ◌≤◌, ◌⊎◌, ◌==◌, nat_le, Bool, true, false, if◌then◌else◌, IsTrue, List, [], ◌∷◌, length, Contains, All}
+use Rattle.std.specs.List.{zip, flat_map}
+use Rattle.std.specs.List.Sorted.{IsNonDecreasingBy, IsPermutation}
 use Rattle.journal_world.specs.declared.refusal.Refusal.{Refusal}
 use Rattle.journal_world.specs.declared.refusal.Refusal.TheVariants.{NoMemory, BadAddress, BadSize, TooLarge, DeviceFailed, Stale, Stranger, Worn, Closed, Fenced}
 use Rattle.journal_world.specs.declared.address.Addr.{Addr}
-use Rattle.journal_world.specs.Addresses.{Value, is_valid, Shape}
+use Rattle.journal_world.specs.declared.layout.Region.{Region}
+use Rattle.journal_world.specs.declared.layout.TheConstants.{UNUSED}
+use Rattle.journal_world.specs.Addresses.{Value, is_valid, bits_of, Shape}
 use Rattle.journal_world.specs.Maps.{Map, Pair, SamePairs, Agrees}
 use Rattle.journal_world.specs.Histories.{Entry, is_trusted, is_fenced, latest, count, floor}
 use Rattle.journal_tail.specs.declared.limits.TheConstants.{MAX_UPDATES}
@@ -12,18 +15,24 @@ use Rattle.journal_tail.specs.Writes.{written_blocks}
 use Rattle.journal_history.specs.Tokens.{SessionState, CommitPlace, OnlyExtends}
 use Rattle.journal_memory.specs.declared.refusal_number.RefusalNumber.TheVariants.{J6, J9, J11, J13}
 use Rattle.journal_memory.specs.Causes.{CauseState, IsUnexplained}
+use Rattle.journal_memory.specs.declared.bit_scan.BitScan.{BitScan}
+use Rattle.journal_memory.specs.Bits.{found_bits, is_scan, AreInOrder}
 use Rattle.journal_memory.specs.Transactions.{TransactionState}
-use Rattle.journal_twophase.specs.Journals.{IsShown}
+use Rattle.journal_twophase.specs.Journals.{IsShown, IsScanRefusal}
 use Rattle.journal_twophase.specs.Transactions.{TxnState, core_of}
 use Rattle.journal_twophase.specs.Commits.{IsCommitted, IsCommitRefusal, ShowsFence, ShowsStrange}
 use Rattle.journal_twophase.specs.Waits.{IsWaitRefusal}
 use Rattle.journal_records.specs.declared.request.Part.{Part}
 use Rattle.journal_records.specs.declared.request.Request.{Request}
-use Rattle.journal_records.specs.declared.request.Request.TheVariants.{Hello, Commit, Read, Flush, Stat, Stop}
-use Rattle.journal_records.specs.declared.limits.TheConstants.{VERSION}
+use Rattle.journal_records.specs.declared.request.Request.TheVariants.{Hello, Commit, Read, Flush, Stat, Stop, Counters, Scan}
+use Rattle.journal_records.specs.declared.greeting.ObjectRegion.{ObjectRegion}
+use Rattle.journal_records.specs.declared.greeting.Opening.{Opening}
+use Rattle.journal_records.specs.declared.answer.Counter.{Counter}
 use Rattle.journal_records.specs.declared.refused.Refused as refused
 use Rattle.journal_records.specs.declared.refused.Refused.TheVariants.{Conflict, OtherVersion, Forbidden, ReadOnly}
+use Rattle.journal_records.specs.declared.refused.Refused.TheVariants as refusal
 use Rattle.journal_records.specs.Statuses.{refused_as}
+use Rattle.journal_port.specs.declared.respond.Terms.{Terms}
 use Rattle.journal_port.specs.declared.parts.PartFault.{PartFault}
 use Rattle.journal_port.specs.declared.parts.PartFault.TheVariants as fault
 use Rattle.journal_records.specs.declared.answer.Answer.{Answer}
@@ -154,11 +163,38 @@ IsReadAnswer layout addrs old new other = ⊥
 
 -- ---- other requests
 
--- What a hello in this version is owed: the version and the layout, or that another is spoken
-abbrev pub IsHelloAnswer : ℕ → ℕ → SessionState → SessionState → Answer → Type 0
-IsHelloAnswer blocks asked old new (told.Hello version size) = (new ≡ old) × (asked ≡ VERSION) × (version ≡ VERSION) × (size ≡ blocks)
-IsHelloAnswer blocks asked old new (Refused n) = (new ≡ old) × (asked ≢ VERSION) × (n ≡ OtherVersion)
-IsHelloAnswer blocks asked old new other = ⊥
+-- what a connection may ask for, and what it is told of the opening: the number of the opening, and
+-- which counters the program tells
+pub record Offer : Type 1 where
+  pub rights : Rights
+  pub number : ℕ
+  pub tells : List Counter → Type 0
+
+abbrev pub offer : Terms → (List Counter → Type 0) → Offer
+offer terms tells = record { rights = terms.rights; number = terms.number; tells = tells }
+
+-- a region as a client is told it, where it is in use
+abbrev pub told_region : Region → List ObjectRegion
+told_region r = if r.first == UNUSED then [] else record { first = r.first; bits = bits_of r.kind } ∷ []
+
+abbrev pub told_regions : List Region → List ObjectRegion
+told_regions regions = flat_map told_region regions
+
+-- The opening is that of a disk with this layout, and has this number
+pub record TellsOpening (layout : Shape) (number : ℕ) (opening : Opening) : Type 0 where
+  pub blocks : opening.blocks ≡ layout.blocks
+  pub is_number : opening.number ≡ number
+  pub slots : opening.slots ≡ layout.slots
+  pub most_blocks : opening.most_blocks ≡ MAX_UPDATES
+  pub regions : opening.regions.items ≡ told_regions layout.regions
+
+-- What a hello in this version is owed: in version 1 the number of blocks, in version 2 the opening,
+-- or that another version is asked for
+abbrev pub IsHelloAnswer : Shape → ℕ → ℕ → SessionState → SessionState → Answer → Type 0
+IsHelloAnswer layout number asked old new (told.Hello blocks) = (new ≡ old) × (asked ≡ 1) × (blocks ≡ layout.blocks)
+IsHelloAnswer layout number asked old new (told.Opening opening) = (new ≡ old) × (asked ≡ 2) × TellsOpening layout number opening
+IsHelloAnswer layout number asked old new (Refused n) = (new ≡ old) × (((asked ≢ 1) × (asked ≢ 2) × (n ≡ OtherVersion)) ⊎ ((asked ≡ 2) × (n ≡ refusal.NoMemory)))
+IsHelloAnswer layout number asked old new other = ⊥
 
 -- So many commits are stable, and among them all that the session had seen
 abbrev pub IsFlushed : SessionState → SessionState → ℕ → Type 0
@@ -185,22 +221,43 @@ IsStopAnswer may_stop old new told.Stopping = IsTrue may_stop × ((stable : ℕ)
 IsStopAnswer may_stop old new (Refused n) = ((may_stop ≡ false) × (n ≡ Forbidden) × (new ≡ old)) ⊎ (IsTrue may_stop × IsNotFlushed old new n)
 IsStopAnswer may_stop old new other = ⊥
 
+abbrev pub name_of : Counter → ℕ
+name_of counter = counter.name
+
+-- Just the counters that the program tells, by ascending names, or that memory is refused
+abbrev pub IsCountersAnswer : (List Counter → Type 0) → SessionState → SessionState → Answer → Type 0
+IsCountersAnswer tells old new (told.Counters counters) = (new ≡ old) × ((passed : List Counter) × tells passed × IsPermutation passed counters.items × IsNonDecreasingBy name_of counters.items)
+IsCountersAnswer tells old new (Refused n) = (new ≡ old) × (n ≡ refusal.NoMemory)
+IsCountersAnswer tells old new other = ⊥
+
+-- The bits that the map has at the end of what was then seen, or why they are not found. They are in
+-- order, and of a block of bits
+abbrev pub IsScanAnswer : Shape → BitScan → SessionState → SessionState → Answer → Type 0
+IsScanAnswer layout scan old new (told.Bits bits) = OnlyExtends old new × IsTrue (is_scan layout scan) × AreInOrder scan bits.items × (IsTrue (is_trusted new.seen) → bits.items ≡ found_bits (latest new.seen) scan)
+IsScanAnswer layout scan old new (Refused n) = OnlyExtends old new × IsRefusedFor (IsScanRefusal layout scan) n
+IsScanAnswer layout scan old new other = ⊥
+
+abbrev pub scan_of : ℕ → ℕ → Bool → ℕ → BitScan
+scan_of block first value most = record { block = block; first = first; value = value; most = most }
+
 -- ---- any request
 
 -- What a request is owed as its answer, which leads the session from what it had seen to what it
 -- has then seen, by the marks of this history
-abbrev pub IsAnswerTo : Shape → Rights → List Entry → Request → SessionState → SessionState → Answer → Type 0
-IsAnswerTo layout rights marks (Hello version) old new answer = IsHelloAnswer layout.blocks version old new answer
-IsAnswerTo layout rights marks (Commit parts waits) old new answer = IsCommitReply layout (is_denied rights parts.items) parts.items waits marks old new answer
-IsAnswerTo layout rights marks (Read addrs) old new answer = IsReadAnswer layout addrs.items old new answer
-IsAnswerTo layout rights marks Flush old new answer = IsFlushAnswer old new answer
-IsAnswerTo layout rights marks Stat old new answer = IsStatAnswer old new answer
-IsAnswerTo layout rights marks Stop old new answer = IsStopAnswer rights.may_stop old new answer
+abbrev pub IsAnswerTo : Shape → Offer → List Entry → Request → SessionState → SessionState → Answer → Type 0
+IsAnswerTo layout offer marks (Hello version) old new answer = IsHelloAnswer layout offer.number version old new answer
+IsAnswerTo layout offer marks (Commit parts waits) old new answer = IsCommitReply layout (is_denied offer.rights parts.items) parts.items waits marks old new answer
+IsAnswerTo layout offer marks (Read addrs) old new answer = IsReadAnswer layout addrs.items old new answer
+IsAnswerTo layout offer marks Flush old new answer = IsFlushAnswer old new answer
+IsAnswerTo layout offer marks Stat old new answer = IsStatAnswer old new answer
+IsAnswerTo layout offer marks Stop old new answer = IsStopAnswer offer.rights.may_stop old new answer
+IsAnswerTo layout offer marks Counters old new answer = IsCountersAnswer offer.tells old new answer
+IsAnswerTo layout offer marks (Scan block first value most) old new answer = IsScanAnswer layout (scan_of block first value most) old new answer
 
 -- The request was done and led the session to a state, which has only seen more since, as the mark
 -- that it waited for
-abbrev pub IsAnswered : Shape → Rights → Request → SessionState → SessionState → Answer → Type 0
-IsAnswered layout rights request old new answer = (done : SessionState) × IsAnswerTo layout rights new.seen request old done answer × OnlyExtends done new
+abbrev pub IsAnswered : Shape → Offer → Request → SessionState → SessionState → Answer → Type 0
+IsAnswered layout offer request old new answer = (done : SessionState) × IsAnswerTo layout offer new.seen request old done answer × OnlyExtends done new
 
 -- what is answered where so many commits are stable: of one that was not known to be, that it is,
 -- where it is among them

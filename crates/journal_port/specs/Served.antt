@@ -16,12 +16,11 @@ use Rattle.journal_records.specs.declared.answer.Answer.TheVariants.{Refused, St
 use Rattle.journal_records.specs.Answers.{answer, told_of}
 use Rattle.journal_records.specs.Frames.{framed, frames, IsShort, FitsRecord, IsPartial, BeginsTooLong}
 use Rattle.journal_records.specs.Readings.{ReadsRequest}
-use Rattle.journal_port.specs.declared.rights.Rights.{Rights}
 use Rattle.journal_port.specs.declared.serving.End.{End}
 use Rattle.journal_port.specs.declared.serving.End.TheVariants.{NoMore, Stopped, TooLong}
 use Rattle.journal_port.specs.declared.turns.Turn.{Turn}
 use Rattle.journal_port.specs.declared.turns.Turn.TheVariants as turn
-use Rattle.journal_port.specs.Answers.{IsAnswerTo}
+use Rattle.journal_port.specs.Answers.{Offer, IsAnswerTo}
 
 -- ---- records and their answers
 
@@ -32,21 +31,21 @@ refused_for fault.UnknownOperation = UnknownOperation
 refused_for fault.Malformed = Malformed
 
 -- What is owed to what a record reads as. One that is no request changes nothing
-abbrev pub IsFoundAnswer : Shape → Rights → List Entry → Result Request ReadFault → SessionState → SessionState → Answer → Type 0
-IsFoundAnswer layout rights marks (Ok request) old new told = IsAnswerTo layout rights marks request old new told
-IsFoundAnswer layout rights marks (Err why) old new told = (new ≡ old) × (told ≡ Refused (refused_for why))
+abbrev pub IsFoundAnswer : Shape → Offer → List Entry → Result Request ReadFault → SessionState → SessionState → Answer → Type 0
+IsFoundAnswer layout offer marks (Ok request) old new told = IsAnswerTo layout offer marks request old new told
+IsFoundAnswer layout offer marks (Err why) old new told = (new ≡ old) × (told ≡ Refused (refused_for why))
 
 -- What a record is owed, by its bytes
-abbrev pub IsReplyTo : Shape → Rights → List Entry → List ℕ → SessionState → SessionState → Answer → Type 0
-IsReplyTo layout rights marks bytes old new told = (found : Result Request ReadFault) × ReadsRequest bytes found × IsFoundAnswer layout rights marks found old new told
+abbrev pub IsReplyTo : Shape → Offer → List Entry → List ℕ → SessionState → SessionState → Answer → Type 0
+IsReplyTo layout offer marks bytes old new told = (found : Result Request ReadFault) × ReadsRequest bytes found × IsFoundAnswer layout offer marks found old new told
 
 -- These are the answers to the records, in order. Each leads from one state of the session to
 -- another, and between them it may see more
-abbrev pub AreAnswers : Shape → Rights → List Entry → List (List ℕ) → SessionState → SessionState → List Answer → Type 0
-AreAnswers layout rights marks [] old new answers = OnlyExtends old new × (answers ≡ [])
-AreAnswers layout rights marks (r ∷ rs) old new answers =
+abbrev pub AreAnswers : Shape → Offer → List Entry → List (List ℕ) → SessionState → SessionState → List Answer → Type 0
+AreAnswers layout offer marks [] old new answers = OnlyExtends old new × (answers ≡ [])
+AreAnswers layout offer marks (r ∷ rs) old new answers =
     (begun : SessionState) × (mid : SessionState) × (first : Answer) × (more : List Answer)
-    × OnlyExtends old begun × IsReplyTo layout rights marks r begun mid first × AreAnswers layout rights marks rs mid new more × (answers ≡ first ∷ more)
+    × OnlyExtends old begun × IsReplyTo layout offer marks r begun mid first × AreAnswers layout offer marks rs mid new more × (answers ≡ first ∷ more)
 
 -- ---- the text of answers
 
@@ -82,11 +81,11 @@ pub record AppendsFront (old new : Option (List ℕ)) (bytes : List ℕ) : Type 
 -- ---- a turn
 
 -- Some records at the front of the bytes that wait were answered so, and the rest waits
-pub record Turns (layout : Shape) (rights : Rights) (waiting rest : List ℕ) (old new : SessionState) (answers : List Answer) : Type 0 where
+pub record Turns (layout : Shape) (offer : Offer) (waiting rest : List ℕ) (old new : SessionState) (answers : List Answer) : Type 0 where
   pub records : List (List ℕ)
   pub is : waiting ≡ frames records ++ rest
   pub short : AllByRecursion IsShort records
-  pub answered : AreAnswers layout rights new.seen records old new answers
+  pub answered : AreAnswers layout offer new.seen records old new answers
 
 -- the last of these says that the service ends
 abbrev pub EndsStopping : List Answer → Type 0
@@ -100,17 +99,17 @@ EndsTurn turn.Stopped rest answers = EndsStopping answers
 EndsTurn turn.TooLong rest answers = BeginsTooLong rest
 
 -- they were answered, and the answers written
-pub record Replies (layout : Shape) (rights : Rights) (turn : Turn) (waiting rest : List ℕ) (old new : SessionState) (before holds : Option (List ℕ)) : Type 0 where
+pub record Replies (layout : Shape) (offer : Offer) (turn : Turn) (waiting rest : List ℕ) (old new : SessionState) (before holds : Option (List ℕ)) : Type 0 where
   pub answers : List Answer
-  pub turns : Turns layout rights waiting rest old new answers
+  pub turns : Turns layout offer waiting rest old new answers
   pub ends : EndsTurn turn rest answers
   pub wrote : Writes before holds answers
 
 -- they were answered, and a front of the answers' text was written
-pub record RepliesInPart (layout : Shape) (rights : Rights) (waiting : List ℕ) (old new : SessionState) (before holds : Option (List ℕ)) : Type 0 where
+pub record RepliesInPart (layout : Shape) (offer : Offer) (waiting : List ℕ) (old new : SessionState) (before holds : Option (List ℕ)) : Type 0 where
   pub rest : List ℕ
   pub answers : List Answer
-  pub turns : Turns layout rights waiting rest old new answers
+  pub turns : Turns layout offer waiting rest old new answers
   pub wrote : AppendsFront before holds (texts answers)
 
 -- a piece came after what waited, or nothing more comes
@@ -125,11 +124,11 @@ FeedsInPart from left = (piece : List ℕ) × Consumes from left piece
 -- ---- a connection
 
 -- The reader gave some records and a rest, and these are the answers to the records
-pub record Exchange (layout : Shape) (rights : Rights) (from left : Option (List ℕ)) (rest : List ℕ) (old new : SessionState) (answers : List Answer) : Type 0 where
+pub record Exchange (layout : Shape) (offer : Offer) (from left : Option (List ℕ)) (rest : List ℕ) (old new : SessionState) (answers : List Answer) : Type 0 where
   pub records : List (List ℕ)
   pub read : Consumes from left (frames records ++ rest)
   pub short : AllByRecursion IsShort records
-  pub answered : AreAnswers layout rights new.seen records old new answers
+  pub answered : AreAnswers layout offer new.seen records old new answers
 
 -- the answer to a record that is too long
 abbrev pub refuses_long : Answer
@@ -148,25 +147,25 @@ IsEnd TooLong left rest answers behind = BeginsTooLong rest × (behind ≡ refus
 
 -- A connection that was served to its end: what the reader gave is some records and a rest, and
 -- what was written is the answers to the records, in order, and what is answered after them
-pub record Serves (layout : Shape) (rights : Rights) (end : End) (from left before holds : Option (List ℕ)) (old new : SessionState) : Type 0 where
+pub record Serves (layout : Shape) (offer : Offer) (end : End) (from left before holds : Option (List ℕ)) (old new : SessionState) : Type 0 where
   pub rest : List ℕ
   pub answers : List Answer
   pub behind : List Answer
-  pub exchange : Exchange layout rights from left rest old new answers
+  pub exchange : Exchange layout offer from left rest old new answers
   pub wrote : Writes before holds (answers ++ behind)
   pub ends : IsEnd end left rest answers behind
 
 -- One that was given up: a front of the answers' text was written
-pub record Breaks (layout : Shape) (rights : Rights) (from left before holds : Option (List ℕ)) (old new : SessionState) : Type 0 where
+pub record Breaks (layout : Shape) (offer : Offer) (from left before holds : Option (List ℕ)) (old new : SessionState) : Type 0 where
   pub rest : List ℕ
   pub answers : List Answer
   pub behind : List Answer
-  pub exchange : Exchange layout rights from left rest old new answers
+  pub exchange : Exchange layout offer from left rest old new answers
   pub owed : IsBehind rest behind
   pub wrote : AppendsFront before holds (texts (answers ++ behind))
 
 -- One on its way
-pub record SoFar (layout : Shape) (rights : Rights) (from left before holds : Option (List ℕ)) (rest : List ℕ) (old new : SessionState) : Type 0 where
+pub record SoFar (layout : Shape) (offer : Offer) (from left before holds : Option (List ℕ)) (rest : List ℕ) (old new : SessionState) : Type 0 where
   pub answers : List Answer
-  pub exchange : Exchange layout rights from left rest old new answers
+  pub exchange : Exchange layout offer from left rest old new answers
   pub wrote : Writes before holds answers

@@ -12,15 +12,19 @@
 #![tactic(auto)]
 
 mod commit;
+mod counting;
+mod greet;
 mod order;
 mod parts;
 mod read;
 mod respond;
 mod rights;
+mod scan;
 mod serving;
 mod streams;
 mod turns;
 
-pub use respond::{Terms, answer};
+pub use counting::Counting;
+pub use respond::{Port, Terms, answer};
 pub use rights::Rights;
 pub use serving::{ConnFault, End, Served, serve};

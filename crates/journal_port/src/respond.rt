@@ -1,43 +1,56 @@
 // A request, and its answer.
 ghost use Rattle.std.specs.Prelude.{◌≡◌, ◌≤◌, IfOk, IfErr};
 ghost use Rattle.journal_world.specs.Histories.{floor};
-ghost use Rattle.journal_history.specs.Tokens.{SessionState, OnlyExtends};
+ghost use Rattle.journal_world.specs.Files.{shape};
+ghost use Rattle.journal_history.specs.Tokens.{OnlyExtends};
 ghost use Rattle.journal_records.specs.declared.answer.Answer.TheVariants.{Unsure};
 ghost use Rattle.journal_twophase.specs.Waits.{IsWaitRefusal};
-ghost use Rattle.journal_port.specs.Answers.{IsAnswerTo, IsCommitReply, is_denied, IsHelloAnswer, IsFlushed, IsFlushAnswer, IsStatAnswer, IsStopAnswer, IsAnswered, settled};
+ghost use Rattle.journal_port.specs.Answers.{IsAnswerTo, IsCommitReply, is_denied, IsFlushed, IsFlushAnswer, IsStatAnswer, IsStopAnswer, IsAnswered, offer, settled};
 
 use crate::commit::commit;
+use crate::counting::{Counting, count};
+use crate::greet::greet;
 use crate::read::read;
 use crate::rights::Rights;
+use crate::scan::find_bits;
 use journal_disk::BlockDisk;
 use journal_history::{Naming, Session};
-use journal_records::{Answer, Part, Refused, Request, VERSION};
-use journal_twophase::{Journal, JournalRefusal};
-use journal_world::{AnyMap, CommitCount};
+use journal_records::{Answer, Part, Refused, Request};
+use journal_twophase::{BitScan, Journal, JournalRefusal};
+use journal_world::{AnyMap, CommitCount, Layout};
 use std::alloc::Global;
 use std::sync::Wait;
 
-/// What a connection is told of the disk, and what it may ask for.
+/// What a connection is told of the opening, and what it may ask for.
 #[derive(Clone, Copy, Debug)]
 pub struct Terms {
-    /// How many blocks the disk has.
-    pub blocks: u64,
+    /// The layout by which the journal was opened.
+    pub layout: Layout,
+    /// The number of the opening.
+    pub number: u64,
     /// What it may ask for.
     pub rights: Rights,
 }
 
-// What the requests of a connection are answered by.
-pub(crate) struct Port<'s, 'b, D: BlockDisk, J: Naming> {
+/// What the requests of a connection are answered by.
+pub struct Port<'s, 'b, D: BlockDisk, J: Naming, C: Counting> {
+    /// What memory is taken from.
     pub alloc: Global,
+    /// The journal.
     pub journal: &'s Journal<'b, D, AnyMap, J>,
+    /// What the program counts.
+    pub counting: &'s C,
+    /// What the connection is told.
     pub terms: Terms,
+    pub ghost is_its_layout: { shape terms.layout ≡ J.layout },
 }
 
-impl<'s, 'b, D: BlockDisk, J: Naming> Drop for Port<'s, 'b, D, J> {
+impl<'s, 'b, D: BlockDisk, J: Naming, C: Counting> Drop for Port<'s, 'b, D, J, C> {
     fn drop(self) {
         let Port {
             alloc: _,
             journal: _,
+            counting: _,
             terms: _,
         } = self;
     }
@@ -49,33 +62,27 @@ impl<'s, 'b, D: BlockDisk, J: Naming> Drop for Port<'s, 'b, D, J> {
 /// marked as stable; `Unsure` where it stands and is to wait, but no mark is known. A read is
 /// answered `Values`, which are what one map gives, at the end of what the session had seen once it
 /// was done. A flush is answered `Flushed` once all that the session has seen is stable, and a stop
-/// is answered `Stopping` then, where the connection may end the service.
+/// is answered `Stopping` then, where the connection may end the service. A hello is answered what
+/// the port's terms say, counters just what the program tells, by ascending names, and a scan
+/// `Bits`, which the map has at the end of what the session had then seen.
 ///
 /// `Refused` says that nothing was done: the history lacks the request's transaction. It is
 /// `Conflict` where the map, at the end of what the session had seen once it was done, gives some
-/// compared address another value, `OtherVersion` where another version is spoken, `Forbidden`
+/// compared address another value, `OtherVersion` where another version is asked for, `Forbidden`
 /// where the service may not be ended, `ReadOnly` where a commit writes and the connection may not,
 /// and else the journal's refusal. That is never `Busy`, since slots are taken in ascending order,
 /// nor `Full`, since a commit waits for room.
-pub fn answer<'b, D: BlockDisk, J: Naming, W: Wait>(
+pub fn answer<'b, D: BlockDisk, J: Naming, C: Counting, W: Wait>(
     rt: &W,
-    alloc: Global,
-    journal: &Journal<'b, D, AnyMap, J>,
+    port: &Port<'_, 'b, D, J, C>,
     session: &mut Session<'b, J, AnyMap>,
-    terms: Terms,
     request: Request,
 ) -> Answer
-    requires { terms.blocks ≡ J.layout.blocks }
-    ensures { IsAnswered J.layout terms.rights request session.old session.new result }
+    ensures { IsAnswered J.layout (offer port.now.terms (C.tells port.now.counting.now)) request session.old session.new result }
 {
-    let port = Port {
-        alloc,
-        journal,
-        terms,
-    };
-    match answer_no_wait(rt, &port, session, request) {
+    match answer_no_wait(rt, port, session, request) {
         Answer::Unsure { place, commits } => {
-            let stable = await_stable(rt, journal, session);
+            let stable = await_stable(rt, port.journal, session);
             settled(place, commits, stable)
         }
         told => told,
@@ -84,30 +91,44 @@ pub fn answer<'b, D: BlockDisk, J: Naming, W: Wait>(
 
 // Answers a request, but does not wait until a commit is stable: one that is to wait is answered
 // `Unsure`.
-pub(crate) fn answer_no_wait<'b, D: BlockDisk, J: Naming, W: Wait>(
+pub(crate) fn answer_no_wait<'b, D: BlockDisk, J: Naming, C: Counting, W: Wait>(
     rt: &W,
-    port: &Port<'_, 'b, D, J>,
+    port: &Port<'_, 'b, D, J, C>,
     session: &mut Session<'b, J, AnyMap>,
     request: Request,
 ) -> Answer
-    requires { port.now.terms.blocks ≡ J.layout.blocks }
-    ensures { IsAnswerTo J.layout port.now.terms.rights session.new.seen request session.old session.new result }
+    ensures { IsAnswerTo J.layout (offer port.now.terms (C.tells port.now.counting.now)) session.new.seen request session.old session.new result }
 {
     let (alloc, journal, terms) = (port.alloc, port.journal, port.terms);
     match request {
-        Request::Hello(version) => greet(terms, version),
+        Request::Hello(version) => greet(alloc, terms, version),
         Request::Commit { parts, waits } => commit_or_deny(rt, port, session, parts, waits),
         Request::Read(addresses) => read(rt, alloc, journal, session, &addresses),
         Request::Flush => flush(rt, journal, session),
         Request::Stat => stat(rt, journal, session),
         Request::Stop => stop(rt, journal, session, terms.rights.may_stop),
+        Request::Counters => count(alloc, port.counting),
+        Request::Scan {
+            block,
+            first,
+            value,
+            most,
+        } => {
+            let scan = BitScan {
+                block,
+                first,
+                value,
+                most,
+            };
+            find_bits(rt, alloc, journal, session, scan)
+        }
     }
 }
 
 // Commits the parts, unless they write and the connection may not.
-fn commit_or_deny<'b, D: BlockDisk, J: Naming, W: Wait>(
+fn commit_or_deny<'b, D: BlockDisk, J: Naming, C: Counting, W: Wait>(
     rt: &W,
-    port: &Port<'_, 'b, D, J>,
+    port: &Port<'_, 'b, D, J, C>,
     session: &mut Session<'b, J, AnyMap>,
     parts: Vec<Part>,
     waits: bool,
@@ -159,20 +180,6 @@ pub(crate) fn settled(place: u64, commits: u64, stable: u64) -> Answer
         Answer::Committed { place, commits }
     } else {
         Answer::Unsure { place, commits }
-    }
-}
-
-// Says the version and the layout.
-fn greet(terms: Terms, version: u32) -> Answer
-    ensures { (session : SessionState) → IsHelloAnswer terms.blocks version session session result }
-{
-    if version == VERSION {
-        Answer::Hello {
-            version: VERSION,
-            blocks: terms.blocks,
-        }
-    } else {
-        Answer::Refused(Refused::OtherVersion)
     }
 }
 

@@ -1,15 +1,16 @@
 // A connection, from its first byte to its end.
 ghost use Rattle.std.specs.Prelude.{◌≡◌, ◌<◌, ◌∷◌, [], true, IsTrue, length, IfOk, OnOk, OnErr};
 ghost use Rattle.journal_world.specs.Histories.{is_fenced};
+ghost use Rattle.journal_port.specs.Answers.{offer};
 ghost use Rattle.journal_port.specs.Served.{AppendsFront, Writes, texts, refuses_long, Serves, Breaks, Feeds, FeedsInPart};
 
-use crate::respond::{Port, Terms};
+use crate::counting::Counting;
+use crate::respond::Port;
 use crate::streams::read_piece;
 use crate::turns::{Turn, answer_turn, send};
 use journal_disk::BlockDisk;
 use journal_history::{Naming, Session};
 use journal_records::{Answer, Input, Refused};
-use journal_twophase::Journal;
 use journal_world::AnyMap;
 use std::alloc::Global;
 use std::io::{Read, Write};
@@ -71,30 +72,22 @@ pub enum ConnFault {
 /// Where it gives up, some of the records that it read were answered, from the first on, and their
 /// answers were written up to some byte: a request whose answer could not be written was done as
 /// its answer says.
-pub fn serve<'b, R: Read, W: Write, D: BlockDisk, J: Naming, H: Wait>(
+pub fn serve<'b, R: Read, W: Write, D: BlockDisk, J: Naming, C: Counting, H: Wait>(
     rt: &H,
-    alloc: Global,
-    journal: &Journal<'b, D, AnyMap, J>,
+    port: &Port<'_, 'b, D, J, C>,
     session: &mut Session<'b, J, AnyMap>,
-    terms: Terms,
     reader: &mut R,
     writer: &mut W,
 ) -> Result<Served, ConnFault>
-    requires { terms.blocks ≡ J.layout.blocks }
-    ensures served { IfOk result (λ served. Serves J.layout terms.rights served.end (R.remaining reader.old) (R.remaining reader.new)
+    ensures served { IfOk result (λ served. Serves J.layout (offer port.now.terms (C.tells port.now.counting.now)) served.end (R.remaining reader.old) (R.remaining reader.new)
         (W.contents writer.old) (W.contents writer.new) session.old session.new) }
     ensures fenced { IfOk result (λ served. IsTrue served.fenced → is_fenced session.new.number session.new.seen ≡ true) }
-    ensures given_up { OnErr result (Breaks J.layout terms.rights (R.remaining reader.old) (R.remaining reader.new)
+    ensures given_up { OnErr result (Breaks J.layout (offer port.now.terms (C.tells port.now.counting.now)) (R.remaining reader.old) (R.remaining reader.new)
         (W.contents writer.old) (W.contents writer.new) session.old session.new) }
 {
-    let port = Port {
-        alloc,
-        journal,
-        terms,
-    };
-    let outcome = answer_to_end(rt, &port, session, reader, writer);
+    let outcome = answer_to_end(rt, port, session, reader, writer);
     let own = session.number();
-    let fenced = journal.fence(rt, session, own).is_ok();
+    let fenced = port.journal.fence(rt, session, own).is_ok();
     match outcome {
         Ok(end) => Ok(Served { end, fenced }),
         Err(fault) => Err(fault),
@@ -102,17 +95,16 @@ pub fn serve<'b, R: Read, W: Write, D: BlockDisk, J: Naming, H: Wait>(
 }
 
 // Answers the requests, with a buffer of its own.
-fn answer_to_end<'b, R: Read, W: Write, D: BlockDisk, J: Naming, H: Wait>(
+fn answer_to_end<'b, R: Read, W: Write, D: BlockDisk, J: Naming, C: Counting, H: Wait>(
     rt: &H,
-    port: &Port<'_, 'b, D, J>,
+    port: &Port<'_, 'b, D, J, C>,
     session: &mut Session<'b, J, AnyMap>,
     reader: &mut R,
     writer: &mut W,
 ) -> Result<End, ConnFault>
-    requires { port.now.terms.blocks ≡ J.layout.blocks }
-    ensures served { IfOk result (λ end. Serves J.layout port.now.terms.rights end (R.remaining reader.old) (R.remaining reader.new)
+    ensures served { IfOk result (λ end. Serves J.layout (offer port.now.terms (C.tells port.now.counting.now)) end (R.remaining reader.old) (R.remaining reader.new)
         (W.contents writer.old) (W.contents writer.new) session.old session.new) }
-    ensures given_up { OnErr result (Breaks J.layout port.now.terms.rights (R.remaining reader.old) (R.remaining reader.new)
+    ensures given_up { OnErr result (Breaks J.layout (offer port.now.terms (C.tells port.now.counting.now)) (R.remaining reader.old) (R.remaining reader.new)
         (W.contents writer.old) (W.contents writer.new) session.old session.new) }
 {
     let Ok(mut buffer) = vec![in port.alloc; 0u8; PIECE_BYTES] else {
@@ -122,19 +114,18 @@ fn answer_to_end<'b, R: Read, W: Write, D: BlockDisk, J: Naming, H: Wait>(
 }
 
 // Answers the requests, with a buffer that takes a piece.
-fn answer_all<'b, R: Read, W: Write, D: BlockDisk, J: Naming, H: Wait>(
+fn answer_all<'b, R: Read, W: Write, D: BlockDisk, J: Naming, C: Counting, H: Wait>(
     rt: &H,
-    port: &Port<'_, 'b, D, J>,
+    port: &Port<'_, 'b, D, J, C>,
     session: &mut Session<'b, J, AnyMap>,
     reader: &mut R,
     writer: &mut W,
     buffer: &mut [u8],
 ) -> Result<End, ConnFault>
-    requires blocks { port.now.terms.blocks ≡ J.layout.blocks }
-    requires room { 0 < length buffer.old }
-    ensures served { IfOk result (λ end. Serves J.layout port.now.terms.rights end (R.remaining reader.old) (R.remaining reader.new)
+    requires { 0 < length buffer.old }
+    ensures served { IfOk result (λ end. Serves J.layout (offer port.now.terms (C.tells port.now.counting.now)) end (R.remaining reader.old) (R.remaining reader.new)
         (W.contents writer.old) (W.contents writer.new) session.old session.new) }
-    ensures given_up { OnErr result (Breaks J.layout port.now.terms.rights (R.remaining reader.old) (R.remaining reader.new)
+    ensures given_up { OnErr result (Breaks J.layout (offer port.now.terms (C.tells port.now.counting.now)) (R.remaining reader.old) (R.remaining reader.new)
         (W.contents writer.old) (W.contents writer.new) session.old session.new) }
 {
     let mut input = Input::new(port.alloc);

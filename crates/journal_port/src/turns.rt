@@ -6,9 +6,10 @@ ghost use Rattle.journal_history.specs.Tokens.{OnlyExtends};
 ghost use Rattle.journal_records.specs.declared.answer.Answer.TheVariants.{Stopping};
 ghost use Rattle.journal_records.specs.Answers.{answer as answer_item, told_of};
 ghost use Rattle.journal_records.specs.Frames.{IsRecordOf};
-ghost use Rattle.journal_port.specs.Answers.{settled};
+ghost use Rattle.journal_port.specs.Answers.{offer, settled};
 ghost use Rattle.journal_port.specs.Served.{AppendsFront, AreSpelled, Writes, texts, IsFoundAnswer, Turns, EndsTurn, Replies, RepliesInPart, refused_for};
 
+use crate::counting::Counting;
 use crate::respond::{Port, answer_no_wait, await_stable, settled};
 use crate::serving::ConnFault;
 use crate::streams::write_whole;
@@ -26,6 +27,9 @@ const ANSWERS_AT_ONCE: u32 = 1024;
 // No more requests are done once so many values are held, so that the memory for them stays small.
 const VALUES_AT_ONCE: usize = 256;
 
+// So many bits of a scan's answer take the memory of a value.
+const BITS_OF_VALUE: usize = 1024;
+
 // How a turn ends.
 #[derive(Clone, Copy)]
 pub(crate) enum Turn {
@@ -40,17 +44,16 @@ pub(crate) enum Turn {
 }
 
 // Answers records that have come, and writes the answers. `held` is room for them.
-pub(crate) fn answer_turn<'b, D: BlockDisk, J: Naming, H: Wait, W: Write>(
+pub(crate) fn answer_turn<'b, D: BlockDisk, J: Naming, C: Counting, H: Wait, W: Write>(
     rt: &H,
-    port: &Port<'_, 'b, D, J>,
+    port: &Port<'_, 'b, D, J, C>,
     session: &mut Session<'b, J, AnyMap>,
     input: &mut Input,
     held: &mut Vec<Answer>,
     writer: &mut W,
 ) -> Result<Turn, ConnFault>
-    requires { port.now.terms.blocks ≡ J.layout.blocks }
-    ensures done { IfOk result (λ turn. Replies J.layout port.now.terms.rights turn input.old input.new session.old session.new (W.contents writer.old) (W.contents writer.new)) }
-    ensures given_up { OnErr result (RepliesInPart J.layout port.now.terms.rights input.old session.old session.new (W.contents writer.old) (W.contents writer.new)) }
+    ensures done { IfOk result (λ turn. Replies J.layout (offer port.now.terms (C.tells port.now.counting.now)) turn input.old input.new session.old session.new (W.contents writer.old) (W.contents writer.new)) }
+    ensures given_up { OnErr result (RepliesInPart J.layout (offer port.now.terms (C.tells port.now.counting.now)) input.old session.old session.new (W.contents writer.old) (W.contents writer.new)) }
 {
     let Ok(turn) = take_turn(rt, port, session, input, held) else {
         return Err(ConnFault::NoMemory);
@@ -61,15 +64,14 @@ pub(crate) fn answer_turn<'b, D: BlockDisk, J: Naming, H: Wait, W: Write>(
 }
 
 // Does the requests of whole records in order, and holds their answers.
-fn take_turn<'b, D: BlockDisk, J: Naming, H: Wait>(
+fn take_turn<'b, D: BlockDisk, J: Naming, C: Counting, H: Wait>(
     rt: &H,
-    port: &Port<'_, 'b, D, J>,
+    port: &Port<'_, 'b, D, J, C>,
     session: &mut Session<'b, J, AnyMap>,
     input: &mut Input,
     held: &mut Vec<Answer>,
 ) -> Result<Turn, AllocError>
-    requires { port.now.terms.blocks ≡ J.layout.blocks }
-    ensures taken { Turns J.layout port.now.terms.rights input.old input.new session.old session.new held.new.items }
+    ensures taken { Turns J.layout (offer port.now.terms (C.tells port.now.counting.now)) input.old input.new session.old session.new held.new.items }
     ensures ended { IfOk result (λ turn. EndsTurn turn input.new held.new.items) }
 {
     held.clear();
@@ -83,6 +85,7 @@ fn take_turn<'b, D: BlockDisk, J: Naming, H: Wait>(
             Next::TooLong => return Ok(Turn::TooLong),
         };
         let told = reply(rt, port, session, found);
+        port.counting.note(&told);
         let stops = is_stopping(&told);
         values = count_values(&told).saturating_add(values);
         held.push_reserved(told);
@@ -97,14 +100,13 @@ fn take_turn<'b, D: BlockDisk, J: Naming, H: Wait>(
 }
 
 // Answers what a record reads as.
-fn reply<'b, D: BlockDisk, J: Naming, H: Wait>(
+fn reply<'b, D: BlockDisk, J: Naming, C: Counting, H: Wait>(
     rt: &H,
-    port: &Port<'_, 'b, D, J>,
+    port: &Port<'_, 'b, D, J, C>,
     session: &mut Session<'b, J, AnyMap>,
     found: Result<Request, ReadFault>,
 ) -> Answer
-    requires { port.now.terms.blocks ≡ J.layout.blocks }
-    ensures { IsFoundAnswer J.layout port.now.terms.rights session.new.seen found session.old session.new result }
+    ensures { IsFoundAnswer J.layout (offer port.now.terms (C.tells port.now.counting.now)) session.new.seen found session.old session.new result }
 {
     match found {
         Ok(request) => answer_no_wait(rt, port, session, request),
@@ -130,10 +132,13 @@ fn is_stopping(told: &Answer) -> bool
     matches!(told, Answer::Stopping)
 }
 
-// How many values it has.
+// How many values it has. The bits of a scan take the memory of as many as this says, and what was
+// counted that of one.
 fn count_values(told: &Answer) -> usize {
     match told {
         Answer::Values(values) => values.len(),
+        Answer::Bits(bits) => bits.len() / BITS_OF_VALUE + 1,
+        Answer::Counters(_) => 1,
         _ => 0,
     }
 }
@@ -145,9 +150,9 @@ fn owes_wait(held: &[Answer]) -> bool {
 }
 
 // Waits where one of the answers is to, and answers how many commits are known to be stable.
-fn stable_for<'b, D: BlockDisk, J: Naming, H: Wait>(
+fn stable_for<'b, D: BlockDisk, J: Naming, C: Counting, H: Wait>(
     rt: &H,
-    port: &Port<'_, 'b, D, J>,
+    port: &Port<'_, 'b, D, J, C>,
     session: &mut Session<'b, J, AnyMap>,
     held: &[Answer],
 ) -> u64
@@ -203,11 +208,14 @@ fn spell_one(alloc: Global, told: &Answer, stable: u64) -> Result<Vec<u8>, Write
             write_answer(alloc, &settled(*place, *commits, stable))
         }
         Answer::Hello { .. }
+        | Answer::Opening(_)
         | Answer::Committed { .. }
         | Answer::Values(_)
         | Answer::Flushed(_)
         | Answer::Stat { .. }
         | Answer::Stopping
+        | Answer::Counters(_)
+        | Answer::Bits(_)
         | Answer::Refused(_) => write_answer(alloc, told),
     }
 }

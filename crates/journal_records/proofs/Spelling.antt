@@ -9,17 +9,22 @@ use Rattle.journal_xdr.specs.Items.{Item, ◌>>=◌, pair, only, variant, IsGram
 use Rattle.journal_xdr.specs.ItemLaws.{bind_some, some_is, pair_laws, made_laws, coded_laws, tagged_laws, only_laws, variant_laws}
 use Rattle.journal_xdr.specs.Basic.{word, hyper, boolean, opaque}
 use Rattle.journal_xdr.specs.BasicLaws.{word_laws, hyper_laws, boolean_laws, opaque_laws, enumeration_laws, length-word, length-hyper, opaque_short}
-use Rattle.journal_records.specs.declared.limits.TheConstants.{PARTS, ADDRESSES, VALUE_BYTES, RECORD_BYTES}
+use Rattle.journal_world.specs.declared.layout.TheConstants.{REGIONS}
+use Rattle.journal_records.specs.declared.limits.TheConstants.{PARTS, ADDRESSES, VALUE_BYTES, BITS, COUNTERS, RECORD_BYTES}
+use Rattle.journal_records.specs.declared.answer.Counter.{Counter}
+use Rattle.journal_records.specs.declared.greeting.ObjectRegion.{ObjectRegion}
+use Rattle.journal_records.specs.declared.greeting.Version.{Version}
+use Rattle.journal_records.specs.declared.greeting.Version.TheVariants.{One, Two}
 use Rattle.journal_records.specs.declared.operation.Operation.{Operation}
 use Rattle.journal_records.specs.declared.operation.Operation.TheVariants as operations
 use Rattle.journal_records.specs.declared.refused.Refused as reason
 use Rattle.journal_records.specs.declared.request.Part.{Part}
-use Rattle.journal_records.specs.Operations.{operation, operation_of, operation_number, operation_back, action, action_of, action_number, action_back}
+use Rattle.journal_records.specs.Operations.{operation, operation_of, operation_number, operation_back, action, action_of, action_number, action_back, version, version_of, version_number, version_back}
 use Rattle.journal_records.specs.Statuses.{refused_of, refused_number, refused_back}
 use Rattle.journal_records.specs.Arrays.{array, several}
 use Rattle.journal_records.specs.Requests.{Message, value, address, part, request, request_arm, operation_asked}
 use Rattle.journal_records.specs.Requests as asked
-use Rattle.journal_records.specs.Answers.{Told, Status, Done, NotSure, NotDone, status, status_of, status_number, done, done_arm, operation_told, answer, answer_arm, status_told}
+use Rattle.journal_records.specs.Answers.{Told, Status, Done, NotSure, NotDone, status, status_of, status_number, done, done_arm, operation_told, region, counter, opening, greeting, greeting_arm, version_told, answer, answer_arm, status_told}
 use Rattle.journal_records.specs.Answers as told
 use Rattle.journal_records.specs.Frames.{IsShort}
 use Rattle.journal_records.specs.Readings.{AsksUnknown, SpellsNone, IsSpelling, Reads, ReadsRequest, ReadsAnswer}
@@ -77,6 +82,10 @@ read_is : (m : Message) (p : List Addr) → asked.read_part m ≡ Some p → ask
 read_is (asked.Read addresses) p e = cc
 read_is _ p e = absurd cc
 
+scan_is : (m : Message) (p : ℕ × (ℕ × (Bool × ℕ))) → asked.scan_part m ≡ Some p → asked.Scan p.0 p.1.0 p.1.1.0 p.1.1.1 ≡ m
+scan_is (asked.Scan block first value most) p e = let is = some_is (block, (first, (value, most))) p e in rw (← is) refl
+scan_is _ p e = absurd cc
+
 request_arm_laws : (o : Operation) → IsGrammar (request_arm o)
 request_arm_laws operations.Hello = variant_laws _ _ _ word_laws (λ p. refl) hello_is
 request_arm_laws operations.Commit = variant_laws _ _ _ (pair_laws _ _ boolean_laws (array_laws PARTS part part_laws)) (λ p. refl) commit_is
@@ -84,6 +93,8 @@ request_arm_laws operations.Read = variant_laws _ _ _ (array_laws ADDRESSES addr
 request_arm_laws operations.Flush = only_laws asked.Flush
 request_arm_laws operations.Stat = only_laws asked.Stat
 request_arm_laws operations.Stop = only_laws asked.Stop
+request_arm_laws operations.Counters = only_laws asked.Counters
+request_arm_laws operations.Scan = variant_laws _ _ _ (pair_laws _ _ hyper_laws (pair_laws _ _ word_laws (pair_laws _ _ boolean_laws word_laws))) (λ p. refl) scan_is
 
 request_arm_is : (o : Operation) (m : Message) → (request_arm o).Has m → operation_asked m ≡ o
 request_arm_is operations.Hello = variant_tag word (λ version. asked.Hello version) asked.hello_part operation_asked operations.Hello hello_is (λ p. refl)
@@ -92,6 +103,8 @@ request_arm_is operations.Read = variant_tag (array ADDRESSES address) (λ addre
 request_arm_is operations.Flush = only_tag asked.Flush operation_asked
 request_arm_is operations.Stat = only_tag asked.Stat operation_asked
 request_arm_is operations.Stop = only_tag asked.Stop operation_asked
+request_arm_is operations.Counters = only_tag asked.Counters operation_asked
+request_arm_is operations.Scan = variant_tag (pair hyper (pair word (pair boolean word))) (λ p. asked.Scan p.0 p.1.0 p.1.1.0 p.1.1.1) asked.scan_part operation_asked operations.Scan scan_is (λ p. refl)
 
 pub request_laws : IsGrammar request
 unfolding request
@@ -189,9 +202,24 @@ status_back n s e = at (n == 0) refl (n == 65) refl e
 status_laws : IsGrammar status
 status_laws = coded_laws word status_of status_number word_laws (λ n s h e. status_back n s e)
 
-told_hello_is : (m : Told) (p : ℕ × ℕ) → told.hello_part m ≡ Some p → told.Hello p.0 p.1 ≡ m
-told_hello_is (told.Hello a b) p e = let is = some_is (a, b) p e in rw (← is) refl
+version_laws : IsGrammar version
+version_laws = enumeration_laws version_of version_number version_back
+
+region_laws : IsGrammar region
+unfolding region
+region_laws = made_laws _ _ _ (pair_laws _ _ hyper_laws word_laws) (λ p. refl) (λ r. refl)
+
+counter_laws : IsGrammar counter
+unfolding counter
+counter_laws = made_laws _ _ _ (pair_laws _ _ word_laws hyper_laws) (λ p. refl) (λ c. refl)
+
+told_hello_is : (m : Told) (p : ℕ) → told.hello_part m ≡ Some p → told.Hello p ≡ m
+told_hello_is (told.Hello blocks) p e = cc
 told_hello_is _ p e = absurd cc
+
+opening_is : (m : Told) (p : ℕ × (ℕ × (ℕ × (ℕ × List ObjectRegion)))) → told.opening_part m ≡ Some p → told.Opening p.0 p.1.0 p.1.1.0 p.1.1.1.0 p.1.1.1.1 ≡ m
+opening_is (told.Opening blocks number slots most_blocks regions) p e = let is = some_is (blocks, (number, (slots, (most_blocks, regions)))) p e in rw (← is) refl
+opening_is _ p e = absurd cc
 
 committed_is : (m : Told) (p : ℕ × ℕ) → told.committed_part m ≡ Some p → told.Committed p.0 p.1 ≡ m
 committed_is (told.Committed a b) p e = let is = some_is (a, b) p e in rw (← is) refl
@@ -213,21 +241,65 @@ unsure_is : (m : Told) (p : ℕ × ℕ) → told.unsure_part m ≡ Some p → to
 unsure_is (told.Unsure a b) p e = let is = some_is (a, b) p e in rw (← is) refl
 unsure_is _ p e = absurd cc
 
+counters_is : (m : Told) (p : List Counter) → told.counters_part m ≡ Some p → told.Counters p ≡ m
+counters_is (told.Counters cs) p e = cc
+counters_is _ p e = absurd cc
+
+bits_is : (m : Told) (p : List ℕ) → told.bits_part m ≡ Some p → told.Bits p ≡ m
+bits_is (told.Bits bs) p e = cc
+bits_is _ p e = absurd cc
+
+opening_laws : IsGrammar opening
+unfolding opening
+opening_laws = variant_laws _ _ _ (pair_laws _ _ hyper_laws (pair_laws _ _ hyper_laws (pair_laws _ _ word_laws (pair_laws _ _ word_laws (array_laws REGIONS region region_laws))))) (λ p. refl) opening_is
+
+greeting_arm_laws : (v : Version) → IsGrammar (greeting_arm v)
+greeting_arm_laws One = variant_laws _ _ _ hyper_laws (λ p. refl) told_hello_is
+greeting_arm_laws Two = opening_laws
+
+greeting_arm_is : (v : Version) (m : Told) → (greeting_arm v).Has m → version_told m ≡ v
+unfolding opening
+greeting_arm_is One = variant_tag hyper (λ blocks. told.Hello blocks) told.hello_part version_told One told_hello_is (λ p. refl)
+greeting_arm_is Two = variant_tag (pair hyper (pair hyper (pair word (pair word (array REGIONS region))))) (λ p. told.Opening p.0 p.1.0 p.1.1.0 p.1.1.1.0 p.1.1.1.1) told.opening_part version_told Two opening_is (λ p. refl)
+
+greeting_laws : IsGrammar greeting
+unfolding greeting
+greeting_laws = tagged_laws version greeting_arm version_told version_laws greeting_arm_laws greeting_arm_is
+
+-- what answers a hello
+greeting_operation : (m : Told) → greeting.Has m → operation_told m ≡ operations.Hello
+unfolding greeting
+greeting_operation (told.Hello blocks) has = refl
+greeting_operation (told.Opening blocks number slots most_blocks regions) has = refl
+greeting_operation (told.Committed a b) has = absurd has.1
+greeting_operation (told.Values vs) has = absurd has.1
+greeting_operation (told.Flushed n) has = absurd has.1
+greeting_operation (told.Stat a b) has = absurd has.1
+greeting_operation told.Stopping has = absurd has.1
+greeting_operation (told.Counters cs) has = absurd has.1
+greeting_operation (told.Bits bs) has = absurd has.1
+greeting_operation (told.Unsure a b) has = absurd has.1
+greeting_operation (told.Refused why) has = absurd has.1
+
 done_arm_laws : (o : Operation) → IsGrammar (done_arm o)
-done_arm_laws operations.Hello = variant_laws _ _ _ (pair_laws _ _ word_laws hyper_laws) (λ p. refl) told_hello_is
+done_arm_laws operations.Hello = greeting_laws
 done_arm_laws operations.Commit = variant_laws _ _ _ (pair_laws _ _ hyper_laws hyper_laws) (λ p. refl) committed_is
 done_arm_laws operations.Read = variant_laws _ _ _ (array_laws ADDRESSES value value_laws) (λ p. refl) values_is
 done_arm_laws operations.Flush = variant_laws _ _ _ hyper_laws (λ p. refl) flushed_is
 done_arm_laws operations.Stat = variant_laws _ _ _ (pair_laws _ _ hyper_laws hyper_laws) (λ p. refl) stat_is
 done_arm_laws operations.Stop = only_laws told.Stopping
+done_arm_laws operations.Counters = variant_laws _ _ _ (array_laws COUNTERS counter counter_laws) (λ p. refl) counters_is
+done_arm_laws operations.Scan = variant_laws _ _ _ (array_laws BITS word word_laws) (λ p. refl) bits_is
 
 done_arm_is : (o : Operation) (m : Told) → (done_arm o).Has m → operation_told m ≡ o
-done_arm_is operations.Hello = variant_tag (pair word hyper) (λ p. told.Hello p.0 p.1) told.hello_part operation_told operations.Hello told_hello_is (λ p. refl)
+done_arm_is operations.Hello = greeting_operation
 done_arm_is operations.Commit = variant_tag (pair hyper hyper) (λ p. told.Committed p.0 p.1) told.committed_part operation_told operations.Commit committed_is (λ p. refl)
 done_arm_is operations.Read = variant_tag (array ADDRESSES value) (λ values. told.Values values) told.values_part operation_told operations.Read values_is (λ p. refl)
 done_arm_is operations.Flush = variant_tag hyper (λ stable. told.Flushed stable) told.flushed_part operation_told operations.Flush flushed_is (λ p. refl)
 done_arm_is operations.Stat = variant_tag (pair hyper hyper) (λ p. told.Stat p.0 p.1) told.stat_part operation_told operations.Stat stat_is (λ p. refl)
 done_arm_is operations.Stop = only_tag told.Stopping operation_told
+done_arm_is operations.Counters = variant_tag (array COUNTERS counter) (λ p. told.Counters p) told.counters_part operation_told operations.Counters counters_is (λ p. refl)
+done_arm_is operations.Scan = variant_tag (array BITS word) (λ p. told.Bits p) told.bits_part operation_told operations.Scan bits_is (λ p. refl)
 
 done_laws : IsGrammar done
 unfolding done
@@ -236,12 +308,15 @@ done_laws = tagged_laws operation done_arm operation_told operation_laws done_ar
 -- what was done has the status of it
 done_status : (m : Told) → done.Has m → status_told m ≡ Done
 unfolding done
-done_status (told.Hello a b) has = refl
+done_status (told.Hello blocks) has = refl
+done_status (told.Opening blocks number slots most_blocks regions) has = refl
 done_status (told.Committed a b) has = refl
 done_status (told.Values vs) has = refl
 done_status (told.Flushed n) has = refl
 done_status (told.Stat a b) has = refl
 done_status told.Stopping has = refl
+done_status (told.Counters cs) has = refl
+done_status (told.Bits bs) has = refl
 done_status (told.Unsure a b) has = absurd (let e : told.Unsure a b ≡ told.Stopping = has.1 in cc)
 done_status (told.Refused why) has = absurd (let e : told.Refused why ≡ told.Stopping = has.1 in cc)
 
@@ -290,6 +365,38 @@ array_length vs has =
     let le : length vs ≤ ADDRESSES = search (rules, has.0.1) in
     omega (arith, length-append (word.spelling (length vs)) (flat_map value.spelling vs), length-word (length vs), values_length vs has.1.1, le)
 
+regions_length : (rs : List ObjectRegion) → length (flat_map region.spelling rs) ≤ 12 * length rs
+unfolding region
+regions_length [] = omega arith
+regions_length (r ∷ rs) = omega (arith, length-append (region.spelling r) (flat_map region.spelling rs), length-append (hyper.spelling r.first) (word.spelling r.bits), length-hyper r.first, length-word r.bits, regions_length rs)
+
+counters_length : (cs : List Counter) → length (flat_map counter.spelling cs) ≤ 12 * length cs
+unfolding counter
+counters_length [] = omega arith
+counters_length (c ∷ cs) = omega (arith, length-append (counter.spelling c) (flat_map counter.spelling cs), length-append (word.spelling c.name) (hyper.spelling c.value), length-word c.name, length-hyper c.value, counters_length cs)
+
+words_length : (ns : List ℕ) → length (flat_map word.spelling ns) ≤ 4 * length ns
+words_length [] = omega arith
+words_length (n ∷ ns) = omega (arith, length-append (word.spelling n) (flat_map word.spelling ns), length-word n, words_length ns)
+
+region_array_length : (rs : List ObjectRegion) → (array REGIONS region).Has rs → length ((array REGIONS region).spelling rs) ≤ 100
+unfolding array several
+region_array_length rs has =
+    let le : length rs ≤ REGIONS = search (rules, has.0.1) in
+    omega (arith, length-append (word.spelling (length rs)) (flat_map region.spelling rs), length-word (length rs), regions_length rs, le)
+
+counter_array_length : (cs : List Counter) → (array COUNTERS counter).Has cs → length ((array COUNTERS counter).spelling cs) ≤ 3076
+unfolding array several
+counter_array_length cs has =
+    let le : length cs ≤ COUNTERS = search (rules, has.0.1) in
+    omega (arith, length-append (word.spelling (length cs)) (flat_map counter.spelling cs), length-word (length cs), counters_length cs, le)
+
+word_array_length : (ns : List ℕ) → (array BITS word).Has ns → length ((array BITS word).spelling ns) ≤ 131076
+unfolding array several
+word_array_length ns has =
+    let le : length ns ≤ BITS = search (rules, has.0.1) in
+    omega (arith, length-append (word.spelling (length ns)) (flat_map word.spelling ns), length-word (length ns), words_length ns, le)
+
 -- the spelling of a number before others
 behind_word : (n k : ℕ) (rest : List ℕ) → length rest ≤ k → length (word.spelling n ++ rest) ≤ 4 + k
 behind_word n k rest le = omega (arith, length-append (word.spelling n) rest, length-word n, le)
@@ -304,13 +411,17 @@ less : (n m : ℕ) → n ≤ m → m ≤ 1050380 → n ≤ RECORD_BYTES
 less n m a b = omega (arith, a, b)
 
 pub answer_length : (m : Told) → answer.Has m → IsShort (answer.spelling m)
-unfolding answer done
-answer_length (told.Hello a b) has = less _ _ (behind_word 0 _ _ (behind_word 0 _ _ (behind_word a _ _ (hyper_length b)))) (omega arith)
+unfolding answer done greeting opening
+answer_length (told.Hello blocks) has = less _ _ (behind_word 0 _ _ (behind_word 0 _ _ (behind_word 1 _ _ (hyper_length blocks)))) (omega arith)
+answer_length (told.Opening blocks number slots most_blocks regions) has =
+    less _ _ (behind_word 0 _ _ (behind_word 0 _ _ (behind_word 2 _ _ (behind_hyper blocks _ _ (behind_hyper number _ _ (behind_word slots _ _ (behind_word most_blocks _ _ (region_array_length regions has.1.1.1.1.1.1.1)))))))) (omega arith)
 answer_length (told.Committed a b) has = less _ _ (behind_word 0 _ _ (behind_word 1 _ _ (behind_hyper a _ _ (hyper_length b)))) (omega arith)
 answer_length (told.Values vs) has = less _ _ (behind_word 0 _ _ (behind_word 2 _ _ (array_length vs has.1.1))) (omega arith)
 answer_length (told.Flushed n) has = less _ _ (behind_word 0 _ _ (behind_word 3 _ _ (hyper_length n))) (omega arith)
 answer_length (told.Stat a b) has = less _ _ (behind_word 0 _ _ (behind_word 4 _ _ (behind_hyper a _ _ (hyper_length b)))) (omega arith)
 answer_length told.Stopping has = less _ _ (behind_word 0 _ _ (behind_word 5 0 [] (omega arith))) (omega arith)
+answer_length (told.Counters cs) has = less _ _ (behind_word 0 _ _ (behind_word 6 _ _ (counter_array_length cs has.1.1))) (omega arith)
+answer_length (told.Bits bs) has = less _ _ (behind_word 0 _ _ (behind_word 7 _ _ (word_array_length bs has.1.1))) (omega arith)
 answer_length (told.Unsure a b) has = less _ _ (behind_word 65 _ _ (behind_hyper a _ _ (hyper_length b))) (omega arith)
 answer_length (told.Refused why) has = less _ _ (behind_word (refused_number why) 0 [] (omega arith)) (omega arith)
 
@@ -327,3 +438,15 @@ read_has addresses has = has.1
 pub values_has : (vs : List (List ℕ)) → answer.Has (told.Values vs) → (array ADDRESSES value).Has vs
 unfolding answer done
 values_has vs has = has.1.1
+
+pub regions_has : (blocks number slots most_blocks : ℕ) (regions : List ObjectRegion) → answer.Has (told.Opening blocks number slots most_blocks regions) → (array REGIONS region).Has regions
+unfolding answer done greeting opening
+regions_has blocks number slots most_blocks regions has = has.1.1.1.1.1.1.1
+
+pub counters_has : (cs : List Counter) → answer.Has (told.Counters cs) → (array COUNTERS counter).Has cs
+unfolding answer done
+counters_has cs has = has.1.1
+
+pub bits_has : (bs : List ℕ) → answer.Has (told.Bits bs) → (array BITS word).Has bs
+unfolding answer done
+bits_has bs has = has.1.1

@@ -1,36 +1,51 @@
 -- How answers are spelled.
 use Rattle.std.specs.Prelude.{ℕ, ◌==◌, if◌then◌else◌, List, Option, Some, None}
-use Rattle.journal_xdr.specs.Items.{Item, ◌>>=◌, pair, coded, tagged, only, variant}
+use Rattle.journal_xdr.specs.Items.{Item, ◌>>=◌, pair, coded, mapped_item, tagged, only, variant}
 use Rattle.journal_xdr.specs.Basic.{word, hyper}
-use Rattle.journal_records.specs.declared.limits.TheConstants.{ADDRESSES}
+use Rattle.journal_world.specs.declared.layout.TheConstants.{REGIONS}
+use Rattle.journal_records.specs.declared.limits.TheConstants.{ADDRESSES, BITS, COUNTERS}
+use Rattle.journal_records.specs.declared.greeting.ObjectRegion.{ObjectRegion}
+use Rattle.journal_records.specs.declared.greeting.Opening as code_opening
+use Rattle.journal_records.specs.declared.greeting.Version.{Version}
+use Rattle.journal_records.specs.declared.greeting.Version.TheVariants.{One, Two}
+use Rattle.journal_records.specs.declared.answer.Counter.{Counter}
 use Rattle.journal_records.specs.declared.operation.Operation.{Operation}
 use Rattle.journal_records.specs.declared.operation.Operation.TheVariants as operations
 use Rattle.journal_records.specs.declared.refused.Refused as reason
 use Rattle.journal_records.specs.declared.answer.Answer as code_answer
 use Rattle.journal_records.specs.declared.answer.Answer.TheVariants as code
-use Rattle.journal_records.specs.Operations.{operation}
+use Rattle.journal_records.specs.Operations.{operation, version}
 use Rattle.journal_records.specs.Statuses.{refused_of, refused_number}
 use Rattle.journal_records.specs.Arrays.{array}
 use Rattle.journal_records.specs.Requests.{value}
 
 -- What is answered
 pub data Told : Type 0 where
-  Hello : (version blocks : ℕ) → Told
+  Hello : (blocks : ℕ) → Told
+  Opening : (blocks number slots most_blocks : ℕ) → List ObjectRegion → Told
   Committed : (place commits : ℕ) → Told
   Values : List (List ℕ) → Told
   Flushed : (stable : ℕ) → Told
   Stat : (commits stable : ℕ) → Told
   Stopping : Told
+  Counters : List Counter → Told
+  Bits : List ℕ → Told
   Unsure : (place commits : ℕ) → Told
   Refused : reason.Refused → Told
 
+abbrev pub told_opening : code_opening.Opening → Told
+told_opening o = Opening o.blocks o.number o.slots o.most_blocks o.regions.items
+
 abbrev pub told_of : code_answer.Answer → Told
-told_of (code.Hello version blocks) = Hello version blocks
+told_of (code.Hello blocks) = Hello blocks
+told_of (code.Opening opening) = told_opening opening
 told_of (code.Committed place commits) = Committed place commits
 told_of (code.Values values) = Values values.items
 told_of (code.Flushed stable) = Flushed stable
 told_of (code.Stat commits stable) = Stat commits stable
 told_of code.Stopping = Stopping
+told_of (code.Counters counters) = Counters counters.items
+told_of (code.Bits bits) = Bits bits.items
 told_of (code.Unsure place commits) = Unsure place commits
 told_of (code.Refused why) = Refused why
 
@@ -52,9 +67,21 @@ status_number (NotDone why) = refused_number why
 abbrev pub status : Item Status
 status = coded word status_of status_number
 
-abbrev pub hello_part : Told → Option (ℕ × ℕ)
-hello_part (Hello version blocks) = Some (version, blocks)
+-- a region: its first block, and how many bits an object has
+unfoldable pub region : Item ObjectRegion
+region = mapped_item (pair hyper word) (λ p. record { first = p.0; bits = p.1 }) (λ r. (r.first, r.bits))
+
+-- a counter: its name and its value
+unfoldable pub counter : Item Counter
+counter = mapped_item (pair word hyper) (λ p. record { name = p.0; value = p.1 }) (λ c. (c.name, c.value))
+
+abbrev pub hello_part : Told → Option ℕ
+hello_part (Hello blocks) = Some blocks
 hello_part _ = None
+
+abbrev pub opening_part : Told → Option (ℕ × (ℕ × (ℕ × (ℕ × List ObjectRegion))))
+opening_part (Opening blocks number slots most_blocks regions) = Some (blocks, (number, (slots, (most_blocks, regions))))
+opening_part _ = None
 
 abbrev pub committed_part : Told → Option (ℕ × ℕ)
 committed_part (Committed place commits) = Some (place, commits)
@@ -76,21 +103,56 @@ abbrev pub unsure_part : Told → Option (ℕ × ℕ)
 unsure_part (Unsure place commits) = Some (place, commits)
 unsure_part _ = None
 
+abbrev pub counters_part : Told → Option (List Counter)
+counters_part (Counters counters) = Some counters
+counters_part _ = None
+
+abbrev pub bits_part : Told → Option (List ℕ)
+bits_part (Bits bits) = Some bits
+bits_part _ = None
+
+-- an opening: the blocks, its number, the slots, the most blocks of a transaction, the regions
+unfoldable pub opening : Item Told
+opening = variant (pair hyper (pair hyper (pair word (pair word (array REGIONS region))))) (λ p. Opening p.0 p.1.0 p.1.1.0 p.1.1.1.0 p.1.1.1.1) opening_part
+
+-- what stands behind the version of the answer to a hello
+abbrev pub greeting_arm : Version → Item Told
+greeting_arm One = variant hyper (λ blocks. Hello blocks) hello_part
+greeting_arm Two = opening
+
+abbrev pub version_told : Told → Version
+version_told (Opening blocks number slots most_blocks regions) = Two
+version_told _ = One
+
+unfoldable pub greeting : Item Told
+greeting = tagged version greeting_arm version_told
+
+-- it answers a hello
+abbrev pub IsGreeting : Told → Type 0
+IsGreeting (Hello blocks) = Unit {0}
+IsGreeting (Opening blocks number slots most_blocks regions) = Unit {0}
+IsGreeting other = ⊥
+
 -- what stands behind the status of what was done and the number of its operation
 abbrev pub done_arm : Operation → Item Told
-done_arm operations.Hello = variant (pair word hyper) (λ p. Hello p.0 p.1) hello_part
+done_arm operations.Hello = greeting
 done_arm operations.Commit = variant (pair hyper hyper) (λ p. Committed p.0 p.1) committed_part
 done_arm operations.Read = variant (array ADDRESSES value) (λ values. Values values) values_part
 done_arm operations.Flush = variant hyper (λ stable. Flushed stable) flushed_part
 done_arm operations.Stat = variant (pair hyper hyper) (λ p. Stat p.0 p.1) stat_part
 done_arm operations.Stop = only Stopping
+done_arm operations.Counters = variant (array COUNTERS counter) (λ counters. Counters counters) counters_part
+done_arm operations.Scan = variant (array BITS word) (λ bits. Bits bits) bits_part
 
 abbrev pub operation_told : Told → Operation
-operation_told (Hello version blocks) = operations.Hello
+operation_told (Hello blocks) = operations.Hello
+operation_told (Opening blocks number slots most_blocks regions) = operations.Hello
 operation_told (Committed place commits) = operations.Commit
 operation_told (Values values) = operations.Read
 operation_told (Flushed stable) = operations.Flush
 operation_told (Stat commits stable) = operations.Stat
+operation_told (Counters counters) = operations.Counters
+operation_told (Bits bits) = operations.Scan
 operation_told _ = operations.Stop
 
 unfoldable pub done : Item Told

@@ -20,6 +20,8 @@ pub data Message : Type 0 where
   Flush : Message
   Stat : Message
   Stop : Message
+  Counters : Message
+  Scan : (block first : ℕ) → (value : Bool) → (most : ℕ) → Message
 
 abbrev pub message_of : code_request.Request → Message
 message_of (code.Hello version) = Hello version
@@ -28,6 +30,8 @@ message_of (code.Read addresses) = Read addresses.items
 message_of code.Flush = Flush
 message_of code.Stat = Stat
 message_of code.Stop = Stop
+message_of code.Counters = Counters
+message_of (code.Scan block first value most) = Scan block first value most
 
 -- an object's bytes
 unfoldable pub value : Item (List ℕ)
@@ -53,8 +57,13 @@ abbrev pub read_part : Message → Option (List Addr)
 read_part (Read addresses) = Some addresses
 read_part _ = None
 
+abbrev pub scan_part : Message → Option (ℕ × (ℕ × (Bool × ℕ)))
+scan_part (Scan block first wanted most) = Some (block, (first, (wanted, most)))
+scan_part _ = None
+
 -- what stands behind the operation's number: of a hello the client's version, of a transaction
--- whether it waits and its parts, of a request to read the addresses
+-- whether it waits and its parts, of a request to read the addresses, of a scan the block, the first
+-- bit, the value and how many bits are wanted
 abbrev pub request_arm : Operation → Item Message
 request_arm operations.Hello = variant word (λ version. Hello version) hello_part
 request_arm operations.Commit = variant (pair boolean (array PARTS part)) (λ p. Commit p.1 p.0) commit_part
@@ -62,6 +71,8 @@ request_arm operations.Read = variant (array ADDRESSES address) (λ addresses. R
 request_arm operations.Flush = only Flush
 request_arm operations.Stat = only Stat
 request_arm operations.Stop = only Stop
+request_arm operations.Counters = only Counters
+request_arm operations.Scan = variant (pair hyper (pair word (pair boolean word))) (λ p. Scan p.0 p.1.0 p.1.1.0 p.1.1.1) scan_part
 
 abbrev pub operation_asked : Message → Operation
 operation_asked (Hello version) = operations.Hello
@@ -70,6 +81,8 @@ operation_asked (Read addresses) = operations.Read
 operation_asked Flush = operations.Flush
 operation_asked Stat = operations.Stat
 operation_asked Stop = operations.Stop
+operation_asked Counters = operations.Counters
+operation_asked (Scan block first wanted most) = operations.Scan
 
 unfoldable pub request : Item Message
 request = tagged operation request_arm operation_asked

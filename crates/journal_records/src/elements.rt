@@ -1,10 +1,13 @@
-// The values that lists hold: addresses, values of objects, and parts of transactions.
+// The values that lists hold: addresses, values of objects, parts of transactions, regions,
+// counters and bits.
 ghost use Rattle.std.specs.Prelude.{◌≡◌};
 ghost use Rattle.journal_xdr.specs.Items.{ReadsItem};
 ghost use Rattle.journal_records.specs.Requests.{address};
 
+use crate::answer::Counter;
 use crate::array::Element;
 use crate::fault::ReadFault;
+use crate::greeting::ObjectRegion;
 use crate::limits::VALUE_BYTES;
 use crate::request::Part;
 use journal_world::{Addr, Value};
@@ -103,5 +106,86 @@ impl Element for Part {
         writer.enumeration(self.action)?;
         self.addr.write(writer)?;
         self.value.write(writer)
+    }
+}
+
+impl Element for ObjectRegion {
+    ghost use Rattle.journal_records.specs.Answers.{region};
+    ghost use Rattle.journal_records.specs.Limits.{is_short_region, region_short};
+
+    ghost item = { region };
+
+    ghost is_short = { is_short_region };
+
+    ghost has_short = { region_short };
+
+    #[tactic(auto, unfolding(crate::specs::Answers::region))]
+    fn read(_alloc: Global, reader: &mut Reader<'_>) -> Result<ObjectRegion, ReadFault> {
+        Ok(ObjectRegion {
+            first: reader.hyper().ok_or(ReadFault::Malformed)?,
+            bits: reader.word().ok_or(ReadFault::Malformed)?,
+        })
+    }
+
+    fn is_short(&self) -> bool {
+        true
+    }
+
+    #[tactic(auto, unfolding(crate::specs::Answers::region))]
+    fn write(&self, writer: &mut Writer) -> Result<(), AllocError> {
+        writer.hyper(self.first)?;
+        writer.word(self.bits)
+    }
+}
+
+impl Element for Counter {
+    ghost use Rattle.journal_records.specs.Answers.{counter};
+    ghost use Rattle.journal_records.specs.Limits.{is_short_counter, counter_short};
+
+    ghost item = { counter };
+
+    ghost is_short = { is_short_counter };
+
+    ghost has_short = { counter_short };
+
+    #[tactic(auto, unfolding(crate::specs::Answers::counter))]
+    fn read(_alloc: Global, reader: &mut Reader<'_>) -> Result<Counter, ReadFault> {
+        Ok(Counter {
+            name: reader.word().ok_or(ReadFault::Malformed)?,
+            value: reader.hyper().ok_or(ReadFault::Malformed)?,
+        })
+    }
+
+    fn is_short(&self) -> bool {
+        true
+    }
+
+    #[tactic(auto, unfolding(crate::specs::Answers::counter))]
+    fn write(&self, writer: &mut Writer) -> Result<(), AllocError> {
+        writer.word(self.name)?;
+        writer.hyper(self.value)
+    }
+}
+
+impl Element for u32 {
+    ghost use Rattle.journal_xdr.specs.Basic.{word};
+    ghost use Rattle.journal_records.specs.Limits.{is_short_bit, bit_short};
+
+    ghost item = { word };
+
+    ghost is_short = { is_short_bit };
+
+    ghost has_short = { bit_short };
+
+    fn read(_alloc: Global, reader: &mut Reader<'_>) -> Result<u32, ReadFault> {
+        reader.word().ok_or(ReadFault::Malformed)
+    }
+
+    fn is_short(&self) -> bool {
+        true
+    }
+
+    fn write(&self, writer: &mut Writer) -> Result<(), AllocError> {
+        writer.word(*self)
     }
 }

@@ -15,6 +15,7 @@ mod answer;
 mod array;
 mod elements;
 mod fault;
+mod greeting;
 mod input;
 mod laws;
 mod limits;
@@ -25,11 +26,14 @@ mod refused;
 mod request;
 mod writing;
 
-pub use answer::Answer;
+pub use answer::{Answer, Counter};
 pub use fault::{ReadFault, WriteFault};
+pub use greeting::{ObjectRegion, Opening, Version};
 pub use input::{Input, Next};
 pub use laws::{answers_are_spellings, cuttings_do_not_matter, requests_are_spellings};
-pub use limits::{ADDRESSES, PARTS, RECORD_BYTES, VALUE_BYTES, VERSION};
+pub use limits::{
+    ADDRESSES, BITS, COUNTERS, FIRST_VERSION, PARTS, RECORD_BYTES, VALUE_BYTES, VERSION,
+};
 pub use operation::Operation;
 pub use output::{write_answer, write_request};
 pub use reading::{read_answer, read_request};

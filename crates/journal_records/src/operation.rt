@@ -7,7 +7,7 @@ use journal_xdr::Enumeration;
 /// done.
 #[derive(Clone, Copy, Debug, PartialEq, Eq)]
 pub enum Operation {
-    /// Which version of the protocol is spoken, and how many blocks the disk has.
+    /// Which version of the protocol is spoken, and what the disk is.
     Hello,
     /// To commit a transaction.
     Commit,
@@ -19,6 +19,10 @@ pub enum Operation {
     Stat,
     /// To end the service.
     Stop,
+    /// What the service has counted.
+    Counters,
+    /// Which bits of a block have a value.
+    Scan,
 }
 
 impl Enumeration for Operation {
@@ -40,6 +44,8 @@ impl Enumeration for Operation {
             3 => Some(Operation::Flush),
             4 => Some(Operation::Stat),
             5 => Some(Operation::Stop),
+            6 => Some(Operation::Counters),
+            7 => Some(Operation::Scan),
             _ => None,
         }
     }
@@ -52,6 +58,8 @@ impl Enumeration for Operation {
             Operation::Flush => 3,
             Operation::Stat => 4,
             Operation::Stop => 5,
+            Operation::Counters => 6,
+            Operation::Scan => 7,
         }
     }
 }

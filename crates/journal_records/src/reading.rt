@@ -1,16 +1,18 @@
 // Reading records.
 ghost use Rattle.std.specs.Prelude.{◌≡◌};
 ghost use Rattle.journal_records.specs.Requests.{request, request_arm, message_of};
-ghost use Rattle.journal_records.specs.Answers.{answer, done, told_of};
+ghost use Rattle.journal_records.specs.Answers.{answer, done, greeting, opening, told_of};
 ghost use Rattle.journal_records.specs.Readings.{Reads, ReadsRequest, ReadsAnswer};
 
 use crate::answer::{Answer, DONE, UNSURE};
 use crate::array::read_array;
 use crate::fault::ReadFault;
-use crate::limits::{ADDRESSES, PARTS};
+use crate::greeting::{Opening, Version};
+use crate::limits::{ADDRESSES, BITS, COUNTERS, PARTS};
 use crate::operation::Operation;
 use crate::refused::Refused;
 use crate::request::Request;
+use journal_world::REGIONS;
 use journal_xdr::{Enumeration, Reader};
 use std::alloc::Global;
 
@@ -51,6 +53,13 @@ fn read_asked(
         Operation::Flush => Request::Flush,
         Operation::Stat => Request::Stat,
         Operation::Stop => Request::Stop,
+        Operation::Counters => Request::Counters,
+        Operation::Scan => Request::Scan {
+            block: reader.hyper().ok_or(ReadFault::Malformed)?,
+            first: reader.word().ok_or(ReadFault::Malformed)?,
+            value: reader.boolean().ok_or(ReadFault::Malformed)?,
+            most: reader.word().ok_or(ReadFault::Malformed)?,
+        },
     })
 }
 
@@ -91,10 +100,7 @@ fn read_done(alloc: Global, reader: &mut Reader<'_>) -> Result<Answer, ReadFault
     ensures { Reads done told_of reader.old reader.new result }
 {
     Ok(match reader.enumeration().ok_or(ReadFault::Malformed)? {
-        Operation::Hello => Answer::Hello {
-            version: reader.word().ok_or(ReadFault::Malformed)?,
-            blocks: reader.hyper().ok_or(ReadFault::Malformed)?,
-        },
+        Operation::Hello => read_greeting(alloc, reader)?,
         Operation::Commit => Answer::Committed {
             place: reader.hyper().ok_or(ReadFault::Malformed)?,
             commits: reader.hyper().ok_or(ReadFault::Malformed)?,
@@ -106,5 +112,34 @@ fn read_done(alloc: Global, reader: &mut Reader<'_>) -> Result<Answer, ReadFault
             stable: reader.hyper().ok_or(ReadFault::Malformed)?,
         },
         Operation::Stop => Answer::Stopping,
+        Operation::Counters => Answer::Counters(read_array(alloc, reader, COUNTERS)?),
+        Operation::Scan => Answer::Bits(read_array(alloc, reader, BITS)?),
     })
+}
+
+// Reads the answer to a hello.
+#[tactic(auto, unfolding(crate::specs::Answers::greeting))]
+fn read_greeting(alloc: Global, reader: &mut Reader<'_>) -> Result<Answer, ReadFault>
+    ensures { Reads greeting told_of reader.old reader.new result }
+{
+    Ok(match reader.enumeration().ok_or(ReadFault::Malformed)? {
+        Version::One => Answer::Hello {
+            blocks: reader.hyper().ok_or(ReadFault::Malformed)?,
+        },
+        Version::Two => read_opening(alloc, reader)?,
+    })
+}
+
+// Reads an opening.
+#[tactic(auto, unfolding(crate::specs::Answers::opening))]
+fn read_opening(alloc: Global, reader: &mut Reader<'_>) -> Result<Answer, ReadFault>
+    ensures { Reads opening told_of reader.old reader.new result }
+{
+    Ok(Answer::Opening(Opening {
+        blocks: reader.hyper().ok_or(ReadFault::Malformed)?,
+        number: reader.hyper().ok_or(ReadFault::Malformed)?,
+        slots: reader.word().ok_or(ReadFault::Malformed)?,
+        most_blocks: reader.word().ok_or(ReadFault::Malformed)?,
+        regions: read_array(alloc, reader, REGIONS)?,
+    }))
 }

@@ -54,8 +54,7 @@ pub struct Part {
 /// What a client asks.
 #[derive(Debug, Drop)]
 pub enum Request {
-    /// To say the version of the protocol and the number of blocks. It names the client's own
-    /// version.
+    /// To say what the disk is, in the version of the protocol that it names.
     Hello(u32),
     /// To commit the parts as one transaction.
     Commit {
@@ -72,4 +71,17 @@ pub enum Request {
     Stat,
     /// To end the service.
     Stop,
+    /// To say what the service has counted.
+    Counters,
+    /// To find bits of a block that have a value.
+    Scan {
+        /// The block.
+        block: u64,
+        /// The first bit that is looked at.
+        first: u32,
+        /// The value.
+        value: bool,
+        /// How many bits are wanted at most.
+        most: u32,
+    },
 }

@@ -2,14 +2,16 @@
 ghost use Rattle.std.specs.Prelude.{◌≡◌, IsTrue, OnOk};
 ghost use Rattle.journal_xdr.specs.Items.{AddsItem};
 ghost use Rattle.journal_records.specs.Requests.{request as request_item, message_of};
-ghost use Rattle.journal_records.specs.Answers.{answer as answer_item, done, told_of, IsDone};
+ghost use Rattle.journal_records.specs.Answers.{answer as answer_item, done, greeting, opening as opening_item, told_of, told_opening, IsDone, IsGreeting};
 ghost use Rattle.journal_records.specs.Limits.{IsAskable, IsTellable};
 
 use crate::answer::{Answer, DONE, UNSURE};
 use crate::array::{is_array, write_array};
-use crate::limits::{ADDRESSES, PARTS};
+use crate::greeting::{Opening, Version};
+use crate::limits::{ADDRESSES, BITS, COUNTERS, PARTS};
 use crate::operation::Operation;
 use crate::request::Request;
+use journal_world::REGIONS;
 use journal_xdr::{Enumeration, Writer};
 use std::alloc::AllocError;
 
@@ -21,7 +23,12 @@ pub(crate) fn is_request(request: &Request) -> bool
     match request {
         Request::Commit { parts, .. } => is_array(parts, PARTS),
         Request::Read(addresses) => is_array(addresses, ADDRESSES),
-        Request::Hello(_) | Request::Flush | Request::Stat | Request::Stop => true,
+        Request::Hello(_)
+        | Request::Flush
+        | Request::Stat
+        | Request::Stop
+        | Request::Counters
+        | Request::Scan { .. } => true,
     }
 }
 
@@ -48,6 +55,19 @@ pub(crate) fn write_asked(writer: &mut Writer, request: &Request) -> Result<(), 
         Request::Flush => writer.enumeration(Operation::Flush),
         Request::Stat => writer.enumeration(Operation::Stat),
         Request::Stop => writer.enumeration(Operation::Stop),
+        Request::Counters => writer.enumeration(Operation::Counters),
+        Request::Scan {
+            block,
+            first,
+            value,
+            most,
+        } => {
+            writer.enumeration(Operation::Scan)?;
+            writer.hyper(*block)?;
+            writer.word(*first)?;
+            writer.boolean(*value)?;
+            writer.word(*most)
+        }
     }
 }
 
@@ -58,6 +78,9 @@ pub(crate) fn is_answer(answer: &Answer) -> bool
 {
     match answer {
         Answer::Values(values) => is_array(values, ADDRESSES),
+        Answer::Opening(opening) => is_array(&opening.regions, REGIONS),
+        Answer::Counters(counters) => is_array(counters, COUNTERS),
+        Answer::Bits(bits) => is_array(bits, BITS),
         _ => true,
     }
 }
@@ -76,11 +99,14 @@ pub(crate) fn write_told(writer: &mut Writer, answer: &Answer) -> Result<(), All
             writer.hyper(*commits)
         }
         Answer::Hello { .. }
+        | Answer::Opening(_)
         | Answer::Committed { .. }
         | Answer::Values(_)
         | Answer::Flushed(_)
         | Answer::Stat { .. }
-        | Answer::Stopping => {
+        | Answer::Stopping
+        | Answer::Counters(_)
+        | Answer::Bits(_) => {
             writer.word(DONE)?;
             write_done(writer, answer)
         }
@@ -95,10 +121,9 @@ fn write_done(writer: &mut Writer, answer: &Answer) -> Result<(), AllocError>
     ensures { OnOk result (AddsItem done (told_of answer.now) writer.old writer.new) }
 {
     match answer {
-        Answer::Hello { version, blocks } => {
+        Answer::Hello { .. } | Answer::Opening(_) => {
             writer.enumeration(Operation::Hello)?;
-            writer.word(*version)?;
-            writer.hyper(*blocks)
+            write_greeting(writer, answer)
         }
         Answer::Committed { place, commits } => {
             writer.enumeration(Operation::Commit)?;
@@ -118,6 +143,47 @@ fn write_done(writer: &mut Writer, answer: &Answer) -> Result<(), AllocError>
             writer.hyper(*commits)?;
             writer.hyper(*stable)
         }
+        Answer::Counters(counters) => {
+            writer.enumeration(Operation::Counters)?;
+            write_array(writer, counters)
+        }
+        Answer::Bits(bits) => {
+            writer.enumeration(Operation::Scan)?;
+            write_array(writer, bits)
+        }
         _ => writer.enumeration(Operation::Stop),
     }
+}
+
+// Writes the answer to a hello behind the number of its operation.
+#[tactic(auto, unfolding(crate::specs::Answers::greeting))]
+fn write_greeting(writer: &mut Writer, answer: &Answer) -> Result<(), AllocError>
+    requires within { IsTellable (told_of answer.now) }
+    requires greets { IsGreeting (told_of answer.now) }
+    ensures { OnOk result (AddsItem greeting (told_of answer.now) writer.old writer.new) }
+{
+    match answer {
+        Answer::Hello { blocks } => {
+            writer.enumeration(Version::One)?;
+            writer.hyper(*blocks)
+        }
+        Answer::Opening(opening) => {
+            writer.enumeration(Version::Two)?;
+            write_opening(writer, opening)
+        }
+        _ => Ok(()),
+    }
+}
+
+// Writes an opening.
+#[tactic(auto, unfolding(crate::specs::Answers::opening))]
+fn write_opening(writer: &mut Writer, opening: &Opening) -> Result<(), AllocError>
+    requires { IsTellable (told_opening opening.now) }
+    ensures { OnOk result (AddsItem opening_item (told_opening opening.now) writer.old writer.new) }
+{
+    writer.hyper(opening.blocks)?;
+    writer.hyper(opening.number)?;
+    writer.word(opening.slots)?;
+    writer.word(opening.most_blocks)?;
+    write_array(writer, &opening.regions)
 }

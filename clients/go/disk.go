@@ -1,0 +1,159 @@
+package jnl
+
+import "sync"
+
+const (
+	maxRegions  = 8
+	maxCounters = 256
+	blockBits   = 32768
+)
+
+// Region is the blocks from one on, to the one before the next region. Their objects have so many
+// bits: 1 is a bit, 64 to 16384 a record, 32768 the whole block.
+type Region struct {
+	First uint64
+	Bits  uint32
+}
+
+// Disk is a disk that is served. Its opening is another number each time that its service is
+// started, and MostBlocks is how many distinct blocks a transaction may write. A port whose Version
+// of the protocol is 1 tells the blocks alone: all else is 0, and there are no regions.
+type Disk struct {
+	Version           uint32
+	Blocks, Opening   uint64
+	Slots, MostBlocks uint32
+	Regions           []Region
+}
+
+// bitsOf returns how many bits the objects of a block have, or 0 where it has none.
+func (d *Disk) bitsOf(block uint64) uint32 {
+	var bits uint32
+	if block >= d.Blocks {
+		return 0
+	}
+	for _, r := range d.Regions {
+		if r.First <= block {
+			bits = r.Bits
+		}
+	}
+	return bits
+}
+
+// checkAddress returns BadAddress where an address names no object.
+func (d *Disk) checkAddress(a Address) error {
+	if bits := d.bitsOf(a.Block); bits == 0 || a.Bit >= blockBits || a.Bit%bits != 0 {
+		return BadAddress
+	}
+	return nil
+}
+
+// check returns BadAddress where an address names no object, or BadSize where it never has the
+// value.
+func (d *Disk) check(o object) error {
+	if err := d.checkAddress(o.address); err != nil {
+		return err
+	}
+	bits, size := d.bitsOf(o.address.Block), len(o.value)
+	isBit := bits == 1 && size == 1 && o.value[0] <= 1
+	if isBit || (bits > 1 && size == int(bits/8)) {
+		return nil
+	}
+	return BadSize
+}
+
+func (a *answer) region() Region {
+	r := Region{a.hyper(), a.word()}
+	if r.Bits != 1 && (r.Bits < 64 || r.Bits > blockBits || r.Bits&(r.Bits-1) != 0) {
+		a.fail("a region has no such objects")
+	}
+	return r
+}
+
+// list returns the number of items that follow, of which there are so many at most.
+func (a *answer) list(most int) int {
+	n := a.word()
+	if n > uint32(most) {
+		a.fail("a list is too long")
+		return 0
+	}
+	return int(n)
+}
+
+// disk reads the answer to a hello in a version.
+func (a *answer) disk(version uint32) Disk {
+	d := Disk{Version: version}
+	if a.word() != version {
+		a.fail("the port speaks another version")
+	}
+	d.Blocks = a.hyper()
+	if version == firstVersion {
+		return d
+	}
+	d.Opening, d.Slots, d.MostBlocks = a.hyper(), a.word(), a.word()
+	for n := a.list(maxRegions); n > 0; n-- {
+		d.Regions = append(d.Regions, a.region())
+	}
+	return d
+}
+
+// promises is what a client was told of commits of one opening after another.
+type promises struct {
+	mu   sync.Mutex // of what follows
+	disk Disk       // version 0: no greeting was answered yet
+	// The commits up to the last one that was told, and did not wait or is not known to be stable;
+	// and how many are known to be stable.
+	told, stable uint64
+}
+
+func (p *promises) noteCommit(receipt Receipt, isStable bool) {
+	p.mu.Lock()
+	defer p.mu.Unlock()
+	if isStable {
+		p.stable = max(p.stable, receipt.Commits)
+	} else {
+		p.told = max(p.told, receipt.Commits)
+	}
+}
+
+func (p *promises) noteStable(stable uint64) {
+	p.mu.Lock()
+	defer p.mu.Unlock()
+	p.stable = max(p.stable, stable)
+}
+
+// noteStop notes that a service has ended after a flush.
+func (p *promises) noteStop() {
+	p.mu.Lock()
+	defer p.mu.Unlock()
+	p.stable = max(p.stable, p.told)
+}
+
+// meet notes the disk that a greeting has told. It returns true, once, if it is another opening, and
+// commits of the one before may be gone. Each start of a service of version 1 is taken for the same
+// one, since it does not tell which it is.
+func (p *promises) meet(d Disk) bool {
+	p.mu.Lock()
+	defer p.mu.Unlock()
+	before := p.disk
+	p.disk = d
+	if before.Version == 0 || (before.Version == d.Version && before.Opening == d.Opening) {
+		return false
+	}
+	mayBeGone := p.told > p.stable
+	p.told, p.stable = 0, 0
+	return mayBeGone
+}
+
+func (p *promises) known() Disk {
+	p.mu.Lock()
+	defer p.mu.Unlock()
+	return p.disk
+}
+
+// max is of two numbers, for Go before 1.21.
+func max(a, b uint64) uint64 {
+	if a > b {
+		return a
+	}
+	return b
+}
