@@ -31,8 +31,8 @@ use journal_memory::{
     Cause, CommitStep, Fetched, ReadResult, SessionNumber, Spares, Transaction, Volatile,
 };
 use journal_parts::{Durable, open_parts};
-use journal_tail::{CommitCount, Position};
-use journal_world::{Addr, Layout, MapRule, Refusal, Refused};
+use journal_tail::Position;
+use journal_world::{Addr, CommitCount, Layout, MapRule, Refusal, Refused};
 use std::alloc::Global;
 use std::hint::spin_loop;
 use std::rt::Clock;
