@@ -70,7 +70,7 @@ pub fn serve<
         return Err(Fault::HasFiles { path: service.path });
     }
     let layout = lay_out(&found.facts, service)?;
-    let disk = settle(service.path, found)?;
+    let disk = settle(alloc, service.path, found)?;
     let disk = LaidOut { layout, disk };
     let listeners = open_listeners(rt, alloc, service, output)?;
     let served = serve_disk(rt, alloc, disk, service, &listeners, output);

@@ -3,6 +3,7 @@ ghost use Rattle.std.specs.Prelude.{◌≡◌, ◌<◌, ◌≤◌, IsTrue, OnOk,
 ghost use Rattle.journal_disk.specs.Disks.{Keeps, HasFailed, MayHaveHappened, write, barrier, read_of, past_after};
 ghost use Rattle.journal_disk.specs.FileDisks.{file_state, with_told, with_failure};
 
+use crate::noted::NotedFile;
 use journal_block::Block;
 use journal_disk::{BlockDisk, DiskFault, FileDisk};
 use std::fs::File;
@@ -16,7 +17,7 @@ use std::marker::Model;
 /// which is stated of no file of the system.
 #[derive(Drop)]
 pub struct SizedDisk {
-    file: FileDisk,
+    file: FileDisk<NotedFile>,
     blocks: u64,
     ghost inside: { blocks ≤ file.size },
 }
@@ -37,11 +38,17 @@ impl SizedDisk {
     pub(crate) fn over(file: File, blocks: u64) -> io::Result<SizedDisk>
         ensures { IfOk result (λ disk. disk.size ≡ blocks) }
     {
-        let file = FileDisk::over(file)?;
+        let file = FileDisk::on(NotedFile::new(file))?;
         if file.size() < blocks {
             return Err(io::Error::from(ErrorKind::UnexpectedEof));
         }
         Ok(SizedDisk { file, blocks })
+    }
+
+    /// The system's reason for which the first call of the disk failed that did. The file is
+    /// closed.
+    pub fn into_failure(self) -> Option<io::Error> {
+        self.file.into_file().into_failure()
     }
 }
 
