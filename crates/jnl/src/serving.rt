@@ -97,7 +97,7 @@ fn open_alone<'w, R: Files<File = File>>(
         return Err(Fault::HasFiles { path: service.path });
     }
     let layout = lay_out(&found.facts, service)?;
-    let disk = settle(service.path, found)?;
+    let disk = settle(alloc, service.path, found)?;
     Ok(LaidOut { layout, disk })
 }
 
