@@ -3,8 +3,8 @@
 Each row is a run of a program over a disk of 600 blocks. Each of its syncs fails in turn, and last none: as many as the row says,
 so a program that leaves one out is found out. In the run in which none fails the writes and syncs of the disk are noted:
 
-- Who opens a disk to write it writes blocks 0 to 512 as they read and makes a sync, before anything else. A process that was killed,
-  or whose sync failed, may have left there what only the system's memory has.
+- Who opens a disk to write it writes blocks 0 to 512, and the home blocks that the log names, as they read, and makes a sync, before
+  anything else. A process that was killed, or whose sync failed, may have left there what only the system's memory has.
 - At the end, and where a service says that it listens, nothing is pending.
 - Who only reads a disk writes nothing.
 """
@@ -24,6 +24,8 @@ import nfs_client
 
 BLOCKS = 600
 LOG_BLOCKS = 513
+LOG_POSITIONS = 511
+SEALED = 1 << 63
 SUPERBLOCK = 513
 FIRST_DATA = 531
 INODE_BYTES = 128
@@ -329,13 +331,36 @@ def commit(connection, waits):
     return True
 
 
+def number_at(disk, at):
+    return struct.unpack_from("<Q", disk, at)[0]
+
+
+def named_homes(disk):
+    """The home blocks that the log of the disk names, by docs/FORMATS.md."""
+
+    def word(position):
+        return number_at(disk, 8 + 8 * (position % LOG_POSITIONS))
+
+    def is_there(position):
+        return disk[(2 + position % LOG_POSITIONS) * BLOCK] == word(position) >> 48 & 0xFF
+
+    end, start = number_at(disk, 0), number_at(disk, BLOCK)
+    if end < SEALED:
+        return {word(position) for position in range(start, end)}
+    group = range(end - SEALED, end - SEALED + (word(end - SEALED) >> 40 & 0xFF))
+    end = group.stop if all(map(is_there, group)) else group.start
+    return {word(position) & (1 << 40) - 1 for position in range(start, end)}
+
+
 def want_opening(records, disk, words):
-    """Wants that blocks 0 to 512, and no block otherwise than it was, were written and synced before anything else."""
+    """Wants that blocks 0 to 512 and the home blocks that the log names, and no block otherwise than it was, were written and synced
+    before anything else."""
+    wanted = {*range(LOG_BLOCKS), *named_homes(disk)}
     written, writes = set(), 0
     for kind, number, data, _ in records:
         if kind == SYNC:
-            if number != writes or not written.issuperset(range(LOG_BLOCKS)):
-                raise Wrong(f"{told(words)}: its first sync does not come after all blocks of the log")
+            if number != writes or not written >= wanted:
+                raise Wrong(f"{told(words)}: its first sync does not come after all blocks of the log and those that it names")
             return
         if kind == WRITE:
             if disk[number : number + len(data)] != data:

@@ -160,7 +160,7 @@ pub fn seal<'w, R: Files<File = File>, O: Write>(
     form: LogForm,
     output: &mut O,
 ) -> Result<(), Fault<'w>> {
-    let disk = settle(path, find(rt, alloc, path)?)?;
+    let disk = settle(alloc, path, find(rt, alloc, path)?)?;
     let was = give_form(alloc, path, disk, form)?;
     let already = if was == form { " already" } else { "" };
     print_line(output, form.name(), already)
@@ -180,10 +180,10 @@ pub fn find<'w, R: Files<File = File>>(
 }
 
 /// The disk that was found in the file at the path, once what it reads is stable.
-pub fn settle<'w>(path: &'w str, found: FoundDisk) -> Result<SizedDisk, Fault<'w>> {
-    match found.settle() {
+pub fn settle<'w>(alloc: Global, path: &'w str, found: FoundDisk) -> Result<SizedDisk, Fault<'w>> {
+    match found.settle(alloc) {
         Ok(settled) => Ok(settled.disk()),
-        Err(why) => Err(Fault::File { path, why }),
+        Err(why) => Err(Fault::unopened(path, why)),
     }
 }
 

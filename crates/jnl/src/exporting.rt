@@ -43,9 +43,9 @@ pub fn export<
         return Err(Fault::HasNoFiles { path });
     }
     refuse_other_regions(path, &found.facts)?;
-    let disk = match found.settle() {
+    let disk = match found.settle(alloc) {
         Ok(disk) => disk,
-        Err(why) => return Err(Fault::File { path, why }),
+        Err(why) => return Err(Fault::unopened(path, why)),
     };
     if !endpoint.address.is_loopback() {
         // The service does not depend on whether the warning can be printed.

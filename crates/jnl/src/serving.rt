@@ -104,7 +104,7 @@ fn open_alone<'w, R: Files<File = File> + RandomSource>(
         return Err(Fault::HasFiles { path: service.path });
     }
     let layout = lay_out(&found.facts, service)?;
-    let disk = settle(service.path, found)?;
+    let disk = settle(alloc, service.path, found)?;
     number_opening(rt, layout, disk)
 }
 

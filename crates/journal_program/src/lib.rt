@@ -3,10 +3,11 @@
 //! journal in threads of their own.
 //!
 //! All programs take one lock, so a disk has one program at a time. On a block device they take a
-//! second one, by the device's number, because the first is that of one node. A disk is opened as a journal
-//! only once nothing is pending on it: `Settled`. One that is to be written is looked at first, and
-//! then settled (`FoundDisk`): its log is written as it reads, and all writes are made stable. For
-//! where a sync failed before, reads give what the device lacks and no later sync keeps.
+//! second one, by the device's number, because the first is that of one node. A disk is opened as a
+//! journal only once nothing is pending on it, and nothing lost: `Settled`. One that is to be
+//! written is looked at first, and then mended (`FoundDisk`): its log, and the home blocks that the
+//! log names, are written as they read, and made stable. For where a sync failed before, reads give
+//! what the device lacks and no later sync keeps.
 //!
 //! No contract says anything of what a file holds, because no proof can say that a file keeps what
 //! was written to it.
@@ -26,7 +27,6 @@ mod making;
 mod noted;
 mod opening;
 mod relabeling;
-mod rewriting;
 mod room;
 mod settled;
 mod sharing;

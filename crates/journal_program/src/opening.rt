@@ -1,16 +1,16 @@
 // Disks that are opened to be written.
-ghost use Rattle.std.specs.Prelude.{◌≡◌, IfOk};
+ghost use Rattle.std.specs.Prelude.{◌≡◌, ◌≤◌, IfOk};
+ghost use Rattle.journal_world.specs.declared.layout.TheConstants.{MIN_BLOCKS};
 
 use crate::device::DeviceLock;
 use crate::disk::SizedDisk;
 use crate::fault::OpenFault;
 use crate::file::{LockedFile, open_to_write};
 use crate::inspecting::{DiskFacts, inspect_file};
-use crate::rewriting::rewrite_log;
 use crate::settled::Settled;
+use journal_world::Refused;
 use std::alloc::Global;
 use std::fs::{File, Files, OpenFile};
-use std::io;
 
 /// A disk in a file that no other program uses as long as it is open. Its log is well formed, and
 /// nothing was written to it.
@@ -24,19 +24,20 @@ pub struct FoundDisk {
 }
 
 impl FoundDisk {
-    /// Makes stable what the disk reads: writes each block of the log as it reads, and makes all
-    /// writes to the disk stable. These are also writes of a process that was killed, which only
-    /// the system has, and of one whose sync failed.
+    /// Makes stable what the disk reads, as `Circ::mend` does: each block of the log, and each home
+    /// block that the log names, is written as it reads, and all writes to the disk are made
+    /// stable. These are also writes of a process that was killed, which only the system has, and
+    /// of one whose sync failed.
     ///
-    /// Refused for the system's reason where a block cannot be read or written, or the sync fails.
-    /// What the disk reads has not changed then.
-    pub fn settle(self) -> io::Result<Settled>
-        ensures { IfOk result (λ settled. settled.size ≡ self.facts.blocks) }
+    /// # Errors
+    /// - The system's reason: a block cannot be read or written, or the sync fails. What the disk
+    ///   reads has not changed then.
+    /// - J1 `NoMemory`, with nothing written.
+    pub fn settle(self, alloc: Global) -> Result<Settled, OpenFault>
+        ensures { IfOk result (λ settled. settled.inner.size ≡ self.facts.blocks) }
     {
-        rewrite_log(&self.file)?;
-        self.file.sync_data()?;
         let disk = SizedDisk::over(self.file, self.facts.blocks)?;
-        Ok(Settled::synced(disk.locked(self.lock)))
+        settle(alloc, disk.locked(self.lock))
     }
 }
 
@@ -69,6 +70,20 @@ pub fn open_settled<R: Files<File = File>>(
     alloc: Global,
     path: &str,
 ) -> Result<Settled, OpenFault> {
-    let settled = find_disk(rt, alloc, path)?.settle()?;
-    Ok(settled)
+    find_disk(rt, alloc, path)?.settle(alloc)
+}
+
+/// The disk in a file, once what it reads is stable. Refused for the system's reason where there is
+/// one, and as `Settled::mended` is. The file is closed then.
+pub(crate) fn settle(alloc: Global, disk: SizedDisk) -> Result<Settled, OpenFault>
+    requires in_range { MIN_BLOCKS ≤ disk.size }
+    ensures { IfOk result (λ settled. settled.inner.size ≡ disk.size) }
+{
+    match Settled::mended(alloc, disk) {
+        Ok(settled) => Ok(settled),
+        Err(Refused { refusal, disk }) => match disk.into_failure() {
+            Some(why) => Err(OpenFault::File(why)),
+            None => Err(OpenFault::Refused(refusal)),
+        },
+    }
 }

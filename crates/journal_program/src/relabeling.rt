@@ -4,13 +4,14 @@ ghost use Rattle.std.specs.Option.{ForSome};
 ghost use Rattle.journal_program.specs.Labels.{IsLabel};
 
 use crate::device::DeviceLock;
+use crate::disk::SizedDisk;
 use crate::fault::{LabelFault, OpenFault};
 use crate::file::{LockedFile, open_to_write};
 use crate::inspecting::{DiskFacts, blocks_in, inspect_labeled};
 use crate::label::Label;
 use crate::labeling::{read_label, write_label};
 use crate::making::refuse_others;
-use crate::rewriting::rewrite_log;
+use crate::opening::settle;
 use crate::zeros::{Span, Zeros, zero_by_tenths};
 use journal_world::BLOCK_BYTES;
 use std::alloc::Global;
@@ -39,7 +40,7 @@ impl DiskToLabel {
     ///
     /// Refused for the system's reason, and by J1 `NoMemory`. The disk has the label or not then.
     pub fn put(self, alloc: Global, label: &Label) -> Result<(), OpenFault> {
-        self.settle()?;
+        self.settle(alloc)?;
         self.label(alloc, label)
     }
 
@@ -52,7 +53,7 @@ impl DiskToLabel {
         requires label { IsLabel label.now }
         requires longer { self.facts.blocks ≤ label.now.blocks }
     {
-        self.settle()?;
+        self.settle(alloc)?;
         // What lies behind the disk in the file is no object of it, and new objects are zeros.
         self.file.set_len(self.facts.blocks * BLOCK_BYTES as u64)?;
         self.file.set_len(label.blocks * BLOCK_BYTES as u64)?;
@@ -86,7 +87,7 @@ impl DiskToLabel {
         if zeros == Zeros::Found {
             refuse_others(&self.file, added)?;
         }
-        self.settle()?;
+        self.settle(alloc)?;
         if zeros == Zeros::Written {
             zero_by_tenths(path, &self.file, added, progress)?;
         }
@@ -94,9 +95,9 @@ impl DiskToLabel {
     }
 
     // Makes stable what the disk reads.
-    fn settle(&self) -> Result<(), OpenFault> {
-        rewrite_log(&self.file)?;
-        self.file.sync_data()?;
+    fn settle(&self, alloc: Global) -> Result<(), OpenFault> {
+        let disk = SizedDisk::over(self.file.try_clone()?, self.facts.blocks)?;
+        settle(alloc, disk)?;
         Ok(())
     }
 

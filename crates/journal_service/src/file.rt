@@ -45,17 +45,17 @@ pub(crate) fn open<R: Files<File = File>>(
     path: &str,
 ) -> Result<Settled, ServiceFault> {
     match find_disk(rt, alloc, path) {
-        Ok(found) if found.facts.has_files => settle(found),
+        Ok(found) if found.facts.has_files => settle(alloc, found),
         Ok(_) => Err(ServiceFault::Refused(Refusal::BadSuper)),
         Err(why) => Err(ServiceFault::unopened(why)),
     }
 }
 
 // The disk that was found, once what it reads is stable.
-fn settle(found: FoundDisk) -> Result<Settled, ServiceFault> {
-    match found.settle() {
+fn settle(alloc: Global, found: FoundDisk) -> Result<Settled, ServiceFault> {
+    match found.settle(alloc) {
         Ok(disk) => Ok(disk),
-        Err(_) => Err(ServiceFault::BadFile),
+        Err(why) => Err(ServiceFault::unopened(why)),
     }
 }
 

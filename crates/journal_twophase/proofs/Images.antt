@@ -15,7 +15,7 @@ again p blocks other was is = record {
     nothing b among = absurd (omega (arith, among.1))
 
     stays : (b : ℕ) → b < p.size → block_at other b ≡ block_at blocks b
-    stays b lt = ⊎_elim (λ same. same) (λ among. nothing b among) (is.each b lt)
+    stays b lt = ⊎_elim (λ same. same) (λ rest. ⊎_elim (λ among. nothing b among) (λ reads. reads) rest) (is.each b lt)
 
 -- what holds of each image of a disk holds of each image of one of these
 pub images_again : {E T : Type 0} (p : Past) (Q : List Bytes → Type 0) (blocks : List Bytes) (r : Result MemState E) → IfOk r (λ m. m ≡ disk_from p.size blocks)

@@ -2,13 +2,14 @@
 //
 // A hold of the disk's lock makes at most one device call that changes the disk. Once that is over
 // it may take the memory lock inside: to cut, to mark, to trim, or to note that the device failed.
-ghost use Rattle.std.specs.Prelude.{◌≡◌, ◌≢◌, ◌<◌, [], length, IsTrue, IsOkUnless, IfOk, IfErr, OnOk, OnErr, All};
+ghost use Rattle.std.specs.Prelude.{◌≡◌, ◌≢◌, ◌<◌, [], length, IsTrue, IsOkUnless, IfOk, IfErr, OnOk, OnErr, MatchResult, All};
 ghost use Rattle.journal_world.specs.Addresses.{is_valid};
 ghost use Rattle.journal_world.specs.Maps.{Map, Agrees, overwritten};
 ghost use Rattle.journal_world.specs.Histories.{is_trusted};
 ghost use Rattle.journal_object.specs.Objects.{size_at};
 ghost use Rattle.journal_disk.specs.Disks.{IsSettled};
 ghost use Rattle.journal_disk.specs.Images.{EveryImage};
+ghost use Rattle.journal_circ.specs.Mending.{IsMendable};
 ghost use Rattle.journal_history.specs.Tokens.{OnlyExtends};
 ghost use Rattle.journal_parts.specs.Cores.{Leaves, OpensAfter};
 ghost use Rattle.journal_parts.specs.Durables.{disk_of, is_faulted};
@@ -301,6 +302,9 @@ impl<'b, D: BlockDisk, R: MapRule, J: Naming> LockedParts<'b, D, R, J> {
         ensures size { IfOk result (λ disk. (D.state disk).past.size ≡ J.layout.blocks) }
         ensures trusted { IfOk result (λ disk. is_trusted session.new.seen ≡ (D.state disk).honest) }
         ensures images { IfOk result (λ disk. IsTrue (D.state disk).honest → EveryImage (D.state disk).past (Leaves session.new.seen)) }
+        ensures mendable { MatchResult result
+            (λ disk. IsTrue (D.state disk).honest → IsMendable (D.state disk).past)
+            (λ refused. IsTrue (D.state refused.left.disk).honest → IsMendable (D.state refused.left.disk).past) }
         ensures refusal { IfErr result (λ refused. IsCloseRefusal refused.refusal) }
         ensures left_size { IfErr result (λ refused. (D.state refused.left.disk).past.size ≡ J.layout.blocks) }
         ensures left_images { IfErr result (λ refused. IsTrue (D.state refused.left.disk).honest → EveryImage (D.state refused.left.disk).past (OpensAfter refused.left.front)) }
@@ -320,6 +324,7 @@ impl<'b, D: BlockDisk, R: MapRule, J: Naming> LockedParts<'b, D, R, J> {
     pub(crate) fn into_disk(self) -> DiskLeft<'b, D, R, J>
         ensures size { (D.state result.disk).past.size ≡ J.layout.blocks }
         ensures images { IsTrue (D.state result.disk).honest → EveryImage (D.state result.disk).past (OpensAfter result.front) }
+        ensures mendable { IsTrue (D.state result.disk).honest → IsMendable (D.state result.disk).past }
         ensures begun { result.front ≢ [] }
     {
         let (durable, _) = self.into_parts();
@@ -404,6 +409,7 @@ fn disk_left<'b, D: BlockDisk, R: MapRule, J: Naming>(
 ) -> DiskLeft<'b, D, R, J>
     ensures size { (D.state result.disk).past.size ≡ J.layout.blocks }
     ensures images { IsTrue (D.state result.disk).honest → EveryImage (D.state result.disk).past (OpensAfter result.front) }
+    ensures mendable { IsTrue (D.state result.disk).honest → IsMendable (D.state result.disk).past }
     ensures begun { result.front ≢ [] }
 {
     let front = durable.front();

@@ -1,11 +1,12 @@
 // The journal, and what is no transaction's.
-ghost use Rattle.std.specs.Prelude.{◌≡◌, ◌≢◌, ◌≤◌, ◌<◌, [], length, true, false, IsTrue, IfOk, IfErr, OnOk, IsOkUnless};
+ghost use Rattle.std.specs.Prelude.{◌≡◌, ◌≢◌, ◌≤◌, ◌<◌, [], length, true, false, IsTrue, IfOk, IfErr, OnOk, MatchResult, IsOkUnless};
 ghost use mathlib.Core.List.{IsPrefix};
 ghost use Rattle.journal_world.specs.Addresses.{slot_of};
 ghost use Rattle.journal_world.specs.Files.{shape, files};
 ghost use Rattle.journal_world.specs.Histories.{is_trusted, is_fenced, count};
 ghost use Rattle.journal_disk.specs.Disks.{IsSettled};
 ghost use Rattle.journal_disk.specs.Images.{EveryImage};
+ghost use Rattle.journal_circ.specs.Mending.{IsMendable};
 ghost use Rattle.journal_history.specs.Tokens.{made, IsExact, OnlyExtends};
 ghost use Rattle.journal_parts.specs.Cores.{Leaves, OpensAfter};
 ghost use Rattle.journal_parts.specs.Openings.{HasWellFormedLog, IsInRange, IsLayoutRefusal, IsOpenRefusal, OnlyReadsDisk};
@@ -403,6 +404,7 @@ impl<'b, D: BlockDisk, R: MapRule, J: Naming> Journal<'b, D, R, J> {
     pub fn into_disk(self) -> DiskLeft<'b, D, R, J>
         ensures size { (D.state result.disk).past.size ≡ J.layout.blocks }
         ensures images { IsTrue (D.state result.disk).honest → EveryImage (D.state result.disk).past (OpensAfter result.front) }
+        ensures mendable { IsTrue (D.state result.disk).honest → IsMendable (D.state result.disk).past }
         ensures start { IsPrefix self.entry.start result.front }
     {
         let Journal {
@@ -428,6 +430,9 @@ impl<'b, D: BlockDisk, R: MapRule, J: Naming> Journal<'b, D, R, J> {
         ensures size { IfOk result (λ disk. (D.state disk).past.size ≡ J.layout.blocks) }
         ensures trusted { IfOk result (λ disk. is_trusted session.new.seen ≡ (D.state disk).honest) }
         ensures images { IfOk result (λ disk. IsTrue (D.state disk).honest → EveryImage (D.state disk).past (Leaves session.new.seen)) }
+        ensures mendable { MatchResult result
+            (λ disk. IsTrue (D.state disk).honest → IsMendable (D.state disk).past)
+            (λ refused. IsTrue (D.state refused.disk).honest → IsMendable (D.state refused.disk).past) }
         ensures refusal { IfErr result (λ refused. IsCloseRefusal refused.refusal) }
         ensures left_size { IfErr result (λ refused. (D.state refused.disk).past.size ≡ J.layout.blocks) }
         ensures left { IfErr result (λ refused. LeavesFront self.entry.start (D.state refused.disk)) }
