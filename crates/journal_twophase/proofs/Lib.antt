@@ -6,4 +6,4 @@ pub mod Fencing
 pub mod Holding
 pub mod Failing
 pub mod Images
-pub mod Scanning
+pub mod Finding

@@ -83,9 +83,10 @@ module _ (layout : Shape) (o : Outset) (session : SessionState) (s : BitScan) wh
   checked_valid (Ok done) may = may.bits
   checked_valid (Err why) may = tt
 
-  pub checked_refused : (r : Result (Unit {0}) (Refusal CauseState)) → IfErr r (IsScanCheckRefusal layout o session s) → IfErr r (IsScanRefusal layout s)
-  checked_refused (Ok done) it = tt
-  checked_refused (Err why) it = check_refused layout o session s why it
+  pub checked_refused : (r : Result (Unit {0}) (Refusal CauseState)) → OnOk r (MayScan layout o session s) → IfErr r (IsScanCheckRefusal layout o session s)
+      → IfErr r (IsScanRefusal layout s)
+  checked_refused (Ok done) may it = tt
+  checked_refused (Err why) may it = check_refused layout o session s why it
 
 -- the block of bits is one of the disk
 pub block_below : (layout : Shape) (s : BitScan) → IsTrue (is_scan layout s) → s.block < layout.blocks

@@ -1,5 +1,5 @@
-use Rattle.journal_twophase.proofs.Scanning.{scan_bits, scan_valid, scan_below, scan_extends, scan_refused}
-use Rattle.journal_twophase.proofs.scanning.LockedParts.copy_in.Goals as goal
+use Rattle.journal_twophase.proofs.Finding.{scan_bits, scan_valid, scan_below, scan_extends, scan_refused}
+use Rattle.journal_twophase.proofs.locked_parts.LockedParts.copy_in.Goals as goal
 
 pub returns-clause-bits : goal.returns-clause-bits
 returns-clause-bits g c =

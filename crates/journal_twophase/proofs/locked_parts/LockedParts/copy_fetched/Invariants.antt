@@ -1,5 +1,5 @@
 use Rattle.journal_history.specs.Tokens.{OnlyExtends}
-use Rattle.journal_twophase.proofs.scanning.LockedParts.copy_fetched.Given as goal
+use Rattle.journal_twophase.proofs.locked_parts.LockedParts.copy_fetched.Given as goal
 
 abbrev pub invariant-loop : goal.invariant-loop
 invariant-loop g l =
