@@ -2,6 +2,7 @@
 ghost use Rattle.std.specs.Prelude.{ℕ, ◌≡◌, IsTrue, IfErr, OnOk};
 ghost use Rattle.journal_world.specs.Histories.{opened, is_trusted, count, floor};
 ghost use Rattle.journal_disk.specs.Images.{EveryImage};
+ghost use Rattle.journal_circ.specs.Mending.{IsMendable};
 ghost use Rattle.journal_history.specs.Soundness.{IsSound};
 ghost use Rattle.journal_memory.specs.SlotCounts.{AgreeWith};
 ghost use Rattle.journal_parts.specs.Cores.{Leaves, Crashes, IsRunning, disk_of, start_of, end_of};
@@ -101,12 +102,14 @@ impl<'b, D: BlockDisk, R: MapRule, J: Naming> Core<'b, D, R, J> {
 
     /// Gives the disk up, as it is. Where it was honest and settled when it was opened, each image
     /// that a crash may leave of it opens as the map after a front of the history that has every
-    /// marked commit.
+    /// marked commit. Once a failed barrier, a kill or a crash has left it, it can be mended, also
+    /// after a fault.
     pub fn into_disk(self) -> D
         ensures disk { D.state result ≡ disk_of self.entry }
         ensures size { (D.state result).past.size ≡ J.layout.blocks }
         ensures trusted { is_trusted self.entry.history ≡ (D.state result).honest }
         ensures images { IsTrue (D.state result).honest → EveryImage (D.state result).past (Leaves self.entry.history) }
+        ensures mendable { IsTrue (D.state result).honest → IsMendable (D.state result).past }
     {
         let Core { durable, .. } = self;
         durable.into_disk()

@@ -1,10 +1,11 @@
 // The store: its journal, and the numbers of its free blocks.
-ghost use Rattle.std.specs.Prelude.{◌≡◌, ◌≤◌, IsTrue, IfOk, OnOk, IfErr, OnErr};
+ghost use Rattle.std.specs.Prelude.{◌≡◌, ◌≤◌, IsTrue, IfOk, OnOk, IfErr, OnErr, MatchResult};
 ghost use Rattle.journal_world.specs.Files.{files};
 ghost use Rattle.journal_world.specs.Maps.{Map, Agrees, overwritten};
 ghost use Rattle.journal_world.specs.Histories.{is_trusted};
 ghost use Rattle.journal_disk.specs.Disks.{IsSettled};
 ghost use Rattle.journal_disk.specs.Images.{EveryImage};
+ghost use Rattle.journal_circ.specs.Mending.{IsMendable};
 ghost use Rattle.journal_history.specs.Tokens.{OnlyExtends, IsExact};
 ghost use Rattle.journal_parts.specs.Cores.{Leaves};
 ghost use Rattle.journal_parts.specs.Openings.{HasWellFormedLog, IsOpenRefusal, OnlyReadsDisk};
@@ -154,6 +155,9 @@ impl<'b, D: BlockDisk, J: Naming, V: Version> FileStore<'b, D, J, V> {
         ensures session { OnlyExtends session.old session.new }
         ensures trusted { IfOk result (λ disk. is_trusted session.new.seen ≡ (D.state disk).honest) }
         ensures images { IfOk result (λ disk. IsTrue (D.state disk).honest → EveryImage (D.state disk).past (Leaves session.new.seen)) }
+        ensures mendable { MatchResult result
+            (λ disk. IsTrue (D.state disk).honest → IsMendable (D.state disk).past)
+            (λ refused. IsTrue (D.state refused.disk).honest → IsMendable (D.state refused.disk).past) }
         ensures refusal { IfErr result (λ refused. IsCloseRefusal refused.refusal) }
     {
         let FileStore {

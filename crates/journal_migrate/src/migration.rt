@@ -6,6 +6,7 @@ ghost use Rattle.journal_world.specs.Files.{files};
 ghost use Rattle.journal_world.specs.Histories.{opened, is_trusted, latest};
 ghost use Rattle.journal_world.specs.Maps.{is_object};
 ghost use Rattle.journal_disk.specs.Disks.{DiskState, Keeps, IsSettled};
+ghost use Rattle.journal_circ.specs.Mending.{IsMendable};
 ghost use Rattle.journal_inode.specs.Places.{addr_of, object, HasFiles as IsCut};
 ghost use Rattle.journal_inode.specs.Places.Object.{superblock};
 ghost use Rattle.journal_inode.specs.declared.version.FormatVersion.TheVariants.{One, Two};
@@ -70,6 +71,8 @@ pub fn migrate<'b, D: BlockDisk, J: Naming, W: Wait>(
     ensures left { IsTrue (D.state disk).honest → IfErr result (λ refused. KeepsFiles (D.state disk) (D.state refused.disk)) }
     ensures left_unchanged { IsTrue (D.state disk).honest → IfErr result (λ refused. KeepsVersionTwo (D.state disk) (D.state refused.disk)) }
     ensures handed_back { IfErr result (λ refused. Keeps (D.state disk) (D.state refused.disk)) }
+    ensures mendable { IfOk result (λ migrated. IsTrue (D.state migrated).honest → IsMendable (D.state migrated).past) }
+    ensures left_mendable { IfErr result (λ refused. IsTrue (D.state refused.disk).honest → IsMendable (D.state refused.disk).past) }
 {
     let rule = EitherVersion::new(alloc);
     let Some(layout) = Layout::new(disk.size()) else {

@@ -1,5 +1,7 @@
-use Rattle.std.proofs.Common.{inl, sym, subst, rules}
+use Rattle.std.proofs.Common.{inl, sym, subst, rules, IsTrue}
 use Rattle.journal_world.specs.Addresses.{Shape}
+use Rattle.journal_circ.specs.Mending.{IsMendable}
+use Rattle.journal_circ.specs.MendingLaws.{settled_mendable}
 use Rattle.journal_tail.proofs.Exits.{if_err}
 use Rattle.journal_parts.specs.Openings.{IsInRange, IsLayoutRefusal, OnlyReadsDisk}
 use Rattle.journal_parts.specs.OpenLaws.{refuses_files}
@@ -47,3 +49,12 @@ pub returns-clause-left_unchanged : goal.returns-clause-left_unchanged
 returns-clause-left_unchanged g c honest =
     keeps_two g.J.Naming.layout (g.D.BlockDisk.state c.args.disk) c.in_ok-core.core c.upgrade-answer.new.core (g.D.BlockDisk.state c.into_disk-in-Err.result) (laid_files g.J.Naming.layout (g.D.BlockDisk.state c.args.disk).past.size c.requires.layout) c.in_ok-core.ensures.begun c.upgrade-answer.ensures.keeps
     c.into_disk-in-Err.ensures.disk honest c.upgrade-answer.ensures.unchanged
+
+pub returns-in_err-core-clause-left_mendable : goal.returns-in_err-core-clause-left_mendable
+returns-in_err-core-clause-left_mendable g c =
+    let old = g.D.BlockDisk.state c.args.disk in
+    if_err c.from_residual.result _ (λ refused. IsTrue (g.D.BlockDisk.state refused.disk).honest → IsMendable (g.D.BlockDisk.state refused.disk).past) c.from_residual.ensures.1
+    (λ e is honest.
+    let left = subst (λ refused. OnlyReadsDisk old (g.D.BlockDisk.state refused.disk)) (sym is) c.in_err-core.ensures.left in
+    let was = subst IsTrue left.keeps.honest honest in
+    subst IsMendable (sym (left.past was)) (settled_mendable old.past (c.requires.settled was)))
