@@ -1,7 +1,7 @@
 // Bytes of a disk's blocks.
 ghost use Rattle.std.specs.Prelude.{◌≡◌, ◌⊎◌, ◌<◌, ◌≤◌, ◌+◌, IfOk, IfErr, IsOkUnless, OnOk, OnErr, slice_range, length};
 ghost use Rattle.journal_block.specs.Block.{with_bytes};
-ghost use Rattle.journal_disk.specs.Disks.{read_of, IsSettled, past_after, MayHaveHappened, write as written, barrier};
+ghost use Rattle.journal_disk.specs.Disks.{read_of, past_after, MayHaveHappened, write as written, barrier};
 
 use journal_block::Block;
 use journal_disk::{BlockDisk, MemDisk};
@@ -61,7 +61,6 @@ fn sync(disk: &mut MemDisk) -> Result<(), Refusal<()>>
     ensures size { disk.new.past.size ≡ disk.old.past.size }
     ensures synced { OnOk result (disk.new.past ≡ past_after barrier disk.old.past) }
     ensures left { OnErr result (disk.new.past ≡ disk.old.past) }
-    ensures settled { OnOk result (IsSettled disk.new.past) }
     ensures refusal { IsOkUnless result (Refusal.DeviceFailed tt) }
 {
     match disk.barrier() {

@@ -1,4 +1,5 @@
 use Rattle.std.proofs.Common.{arith, ◌<◌}
+use Rattle.journal_disk.specs.Laws.{settled_lost_none}
 use Rattle.journal_script.proofs.Poking.{poked, reads_kept}
 use Rattle.journal_script.proofs.unmounted.poke.Goals as goal
 
@@ -6,7 +7,7 @@ pub returns-in-Ok-clause-poked : goal.returns-in-Ok-clause-poked
 returns-in-Ok-clause-poked c =
     let lt : c.args.block < c.args.disk.past.size = omega (arith, c.size.ensures, c.if-block-size.false) in (
       lt,
-      poked c.args.disk.past c.overwrite.new.disk.past c.crash.result c.args.block c.args.at c.args.value.now _ lt
+      poked c.args.disk.past c.overwrite.new.disk.past c.crash.result c.args.block c.args.at c.args.value.now _ lt (settled_lost_none c.args.disk.past c.requires.settled)
           c.in-Ok.ensures.poked c.crash.ensures.image c.crash.ensures.disk,
     )
 
