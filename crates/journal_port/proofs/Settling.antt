@@ -127,3 +127,8 @@ is_hello layout offer marks request version session told is hello = subst (λ (r
 pub is_counters : (layout : Shape) (offer : Offer) (marks : List Entry) (request : Request) (session : SessionState) (told : Answer) → request ≡ asked.Counters
     → IsCountersAnswer offer.tells session session told → IsAnswerTo layout offer marks request session session told
 is_counters layout offer marks request session told is counters = subst (λ (r : Request). IsAnswerTo layout offer marks r session session told) (sym is) counters
+
+-- a scan is answered as one
+pub is_scan : (layout : Shape) (offer : Offer) (marks : List Entry) (request : Request) (block first : ℕ) (value : Bool) (most : ℕ) (old new : SessionState) (told : Answer)
+    → request ≡ asked.Scan block first value most → IsScanAnswer layout (scan_of block first value most) old new told → IsAnswerTo layout offer marks request old new told
+is_scan layout offer marks request block first value most old new told is found = subst (λ (r : Request). IsAnswerTo layout offer marks r old new told) (sym is) found
