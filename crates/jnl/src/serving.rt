@@ -261,12 +261,18 @@ fn serve_book<'w, J: Naming + Send + Sync, R: Clock + Threads + Wait + Sync, O: 
     };
     let served = serve_beside_daemon(rt, &open, service, listeners, output);
     drop(open);
-    let disk = journal.into_disk().disk;
-    match disk.into_inner().into_failure() {
-        Some(why) => Err(Fault::DeviceFailed {
-            path: service.path,
-            why,
-        }),
+    let disk = journal.into_disk().disk.into_inner();
+    ended(service.path, disk, served)
+}
+
+// How a service has ended that gives its disk up: by a failure of the device, where one was.
+fn ended<'w>(
+    path: &'w str,
+    disk: SizedDisk,
+    served: Result<(), Fault<'w>>,
+) -> Result<(), Fault<'w>> {
+    match disk.into_failure() {
+        Some(why) => Err(Fault::DeviceFailed { path, why }),
         None => served,
     }
 }
