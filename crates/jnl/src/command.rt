@@ -15,6 +15,9 @@ use std::net::Ipv4Addr;
 
 const ABOUT: &str = "A transactional block journal on a disk in a file";
 
+// The program's version, and those of what it reads and speaks.
+const VERSIONS: &str = "1.0\nlog plain, sealed\nlabel 1\nfiles 1, 2\nprotocol 1, 2";
+
 const STATUSES: &str =
     "Exit status:\n  0  it was done\n  1  it was not done, or not to its end; standard error has the reason\n  2  the words are no command";
 
@@ -286,7 +289,7 @@ fn command<'w>(alloc: Global) -> Result<Command<'w>, AllocError> {
     Command::new(alloc, "jnl")
         .bin_name("jnl")?
         .about(ABOUT)
-        .version("1.0")
+        .version(VERSIONS)
         .after_help(STATUSES)
         .no_binary_name(true)
         .subcommand_required(true)
