@@ -313,7 +313,7 @@ func TestALimitEndsAllInFlight(t *testing.T) {
 	if path == "" {
 		t.Skip("JNL_FAULTY_SOCKET names no socket")
 	}
-	j, err := DialTimeout("unix", path, 300*time.Millisecond)
+	j, err := DialTimeout("unix", path, time.Second)
 	if err != nil {
 		t.Fatal(err)
 	}

@@ -7,7 +7,7 @@
 #include <stdlib.h>
 #include <string.h>
 
-enum { BLOCK = 4096, BLOCKS = 20 };
+enum { BLOCK = 4096, BLOCKS = 20, FLIGHTS = 100 };
 
 static unsigned refused;
 static int is_inside;
@@ -53,6 +53,34 @@ static void look(jnl *j, int byte)
     jnl_abort(t);
 }
 
+static int submit(jnl *j)
+{
+    jnl_txn *t;
+    int s = jnl_begin(j, &t);
+    if (s) return s;
+    s = jnl_write(t, (jnl_addr){514, 9}, "\1", 1);
+    if (!s) return jnl_submit(t, 0, 9);
+    jnl_abort(t);
+    return s;
+}
+
+/* A commit that is refused is not in flight. */
+static void fly(jnl *j)
+{
+    uint64_t tag;
+    int status;
+    for (size_t i = 0; i < FLIGHTS; i++) {
+        MAKE(submit(j));
+        if (jnl_in_flight(j) == i + 1) continue;
+        printf("in flight: %u\n", (unsigned)jnl_in_flight(j));
+        exit(1);
+    }
+    for (int i = 0; i < FLIGHTS; i++) {
+        MAKE(jnl_next(j, &tag, &status, NULL));
+        if (is_refused(status, "a commit in flight")) exit(1);
+    }
+}
+
 int main(int argc, char **argv)
 {
     jnl *j;
@@ -65,6 +93,8 @@ int main(int argc, char **argv)
         MAKE(jnl_run(j, write_all, &byte, byte == 3 ? JNL_WAIT : 0, NULL));
         look(j, byte);
     }
+    /* In this process the port's memory is refused too, and with it commits in flight. */
+    if (!is_inside) fly(j);
     MAKE(jnl_flush(j, &stable));
     MAKE(jnl_stat(j, &counts));
     jnl_close(j);

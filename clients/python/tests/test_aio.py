@@ -199,7 +199,7 @@ class Faults(unittest.IsolatedAsyncioTestCase):
 
     async def test_a_limit_of_time(self) -> None:
         before = await self.commits()
-        async with await jnl.aio.connect(FAULTY_PATH, timeout=0.3) as j:
+        async with await jnl.aio.connect(FAULTY_PATH, timeout=1) as j:
             calls = [j.commit(parts((514, bit), b"\1")) for bit in (FREE_BIT, 14, 14)]
             done, *lost = await asyncio.gather(*calls, return_exceptions=True)
             self.assertEqual(done.commits, before + 1)

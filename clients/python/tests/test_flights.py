@@ -215,7 +215,7 @@ class Faults(Flights):
         self.take(1)
 
     def test_a_limit_of_time(self) -> None:
-        self.open(FAULTY_PATH, 0.3)
+        self.open(FAULTY_PATH, 1)
         for i, bit in enumerate((FREE_BIT, 14, 14)):
             self.submit_bit(bit, i)
         self.take(0)

@@ -63,7 +63,7 @@ pub enum Fault<'w> {
     /// The device at the path holds this.
     Holds {
         path: &'w str,
-        content: &'static str,
+        content: &'w str,
     },
     /// The disk at the path is on a block device, which has its own number of blocks.
     OnDevice {
