@@ -110,6 +110,10 @@ func spellCommit(durability Durability, compared, written *objects) (*spelled, e
 		r = r.part(write, o)
 	}
 	made.request = r
+	if len(r) > maxRecord+lengthBytes {
+		made.drop()
+		return nil, TooLarge
+	}
 	return made, nil
 }
 

@@ -106,13 +106,19 @@ impl Record {
     }
 
     /// The bytes with their length in front, where they are no more than a record may have.
-    pub fn finish(mut self) -> Result<Vec<u8>, Error> {
-        let length = self.bytes.len() - LENGTH_BYTES;
-        if length > MAX_RECORD {
+    pub fn finish(self) -> Result<Vec<u8>, Error> {
+        let mut bytes = self.that_fits()?.bytes;
+        let length = bytes.len() - LENGTH_BYTES;
+        bytes[..LENGTH_BYTES].copy_from_slice(&(length as u32).to_be_bytes());
+        Ok(bytes)
+    }
+
+    /// The same, where it has no more bytes than a record may have.
+    pub fn that_fits(self) -> Result<Record, Error> {
+        if self.bytes.len() - LENGTH_BYTES > MAX_RECORD {
             return Err(Error::Refused(Refusal::TooLarge));
         }
-        self.bytes[..LENGTH_BYTES].copy_from_slice(&(length as u32).to_be_bytes());
-        Ok(self.bytes)
+        Ok(self)
     }
 
     fn word(&mut self, number: u32) {

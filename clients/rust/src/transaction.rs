@@ -149,7 +149,7 @@ impl<'j> Transaction<'j> {
     fn spelled(&self, durability: Durability) -> Result<Record, Error> {
         let written = self.writes.iter().map(|(a, value)| (Action::Write, a, value));
         let parts = self.compared().chain(written);
-        let record = spell(durability, parts.clone())?;
+        let record = spell(durability, parts.clone())?.that_fits()?;
         self.journal.refuse(|disk| {
             parts.clone().try_for_each(|(_, address, value)| disk.check(address, value))
         })?;

@@ -87,7 +87,7 @@ fn run_hands_it_on() {
 fn commits_in_flight() {
     let _turn = TURN.lock();
     let Some(mut journal) = connect("JNL_FAULTY_SOCKET") else { return };
-    let mut submit = |journal: &mut Journal, number, tag| {
+    let submit = |journal: &mut Journal, number, tag| {
         let mut t = journal.begin();
         t.write(bit(number), [1]);
         t.submit(Durability::Lazy, tag)

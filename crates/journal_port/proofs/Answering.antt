@@ -1,5 +1,5 @@
 -- Records that are answered one after another.
-use Rattle.std.proofs.Common.{ℕ, ◌≤◌, Bool, List, [], ◌∷◌, ◌++◌, map, refl, sym, ap, subst}
+use Rattle.std.proofs.Common.{ℕ, ◌≤◌, List, [], ◌∷◌, ◌++◌, map, refl, sym, ap, subst}
 use mathlib.Core.List.{IsPrefix}
 use Rattle.journal_world.specs.Addresses.{Shape}
 use Rattle.journal_world.specs.Histories.{Entry, floor}

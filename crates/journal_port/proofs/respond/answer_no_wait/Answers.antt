@@ -1,5 +1,4 @@
 use Rattle.std.proofs.Common.{subst}
-use Rattle.journal_world.specs.Files.{shape}
 use Rattle.journal_port.specs.Answers.{IsHelloAnswer, offer}
 use Rattle.journal_port.proofs.Settling.{is_hello, is_counters, is_scan}
 use Rattle.journal_port.proofs.respond.answer_no_wait.Goals as goal
