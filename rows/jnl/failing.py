@@ -21,6 +21,7 @@ COMMIT = "1 1 1 1 0 %d 0 4096 %d*1024"
 READ = "2 1 0 %d 0"
 REFUSED = 6
 FULL = b"jnl: disk has failed: File too large (os error 27)\n"
+NOT_SETTLED = b"jnl: cannot use disk: File too large (os error 27)\n"
 
 # Words of a request to end a service, after a hello, and what they are answered.
 HELLO = record_of("0 0 1 0 600", {})
@@ -58,8 +59,8 @@ def ends_for_want_of_room(service):
 
 
 def a_service_ends_where_a_block_has_no_room(room):
-    """Also when it is started again, as long as there is none. One that only reads goes on, though the
-    log has more than the installer waits for. With room nothing is lost."""
+    """As long as there is none, it does not begin again, since it cannot settle the disk. One that only
+    reads goes on, though the log has more than the installer waits for. With room nothing is lost."""
     wants_run(room.run(["jnl", "create", "disk", "--blocks", str(BLOCKS)]), Ended(b"", b"", 0))
     words = ["jnl", "serve", "disk", "--socket", "s"]
     limited = {"preexec_fn": limit_files, "restore_signals": False}
@@ -68,7 +69,7 @@ def a_service_ends_where_a_block_has_no_room(room):
     wants("the status of a read after it", ask(service, READ % LAST)[0], REFUSED)
     ends_for_want_of_room(service)
     room.do_absent("s")
-    wants_run(room.run(words, **limited), Ended(b"listening on s\n", FULL, 1))
+    wants_run(room.run(words, **limited), Ended(b"", NOT_SETTLED, 1))
     room.do_keep("disk")
     reads_what_was_stable(room, room.start([*words, "--read-only"], **limited), stable)
     room.do_unwritten("disk")
