@@ -23,6 +23,6 @@ returns-clause-in_order g c = λ o.
           latest.0 (ap (λ (h : ReplyBatch CommitPlace). h.latest) w.self-is ∙ latest.1) (ap (λ (h : ReplyBatch CommitPlace). h.free) w.self-is) (subst (IsCovered latest.0.count) (sym w.wait-is) tt) (λ l is. same_latest c.args.self.now.latest latest.0 l latest.1 is)
       | in-Some w ↦
           order_waits c.args.self.now _ e c.deref.result.now o (c.push_reserved.ensures.items ∙ ap (λ (h : ReplyBatch CommitPlace). h.replies.items ++ e ∷ []) w.self-is) (ap (λ (h : ReplyBatch CommitPlace). h.bytes.items) w.self-is ∙ c.in_ok-extend_from_slice.ensures.items) long
-          w.later.result (ap (λ (h : ReplyBatch CommitPlace). h.latest) w.self-is) (ap (λ (h : ReplyBatch CommitPlace). h.free) w.self-is) (subst (IsCovered w.later.result.count) (sym w.wait-is) (omega (arith, w.later.ensures.covers, w.count-commits.ensures.count)))
+          w.later.result (ap (λ (h : ReplyBatch CommitPlace). h.latest) w.self-is) (ap (λ (h : ReplyBatch CommitPlace). h.free) w.self-is) (subst (IsCovered w.later.result.count) (sym w.wait-is) (omega (arith, w.later.ensures.covers, w.get-commits.ensures, w.count.ensures.count)))
           (latest_below w.take.result c.args.self.now.latest w.later.result.count w.take.ensures.value w.later.ensures.others)
     ]
