@@ -17,7 +17,6 @@
 
 mod checking;
 mod clock;
-mod closing;
 mod fault;
 mod file;
 mod migrating;

@@ -3,7 +3,6 @@ ghost use Rattle.std.specs.Prelude.{◌≡◌};
 ghost use Rattle.journal_world.specs.Files.{files};
 
 use crate::clock::{WallClock, verifier_of};
-use crate::closing::{Closer, OpenPort};
 use crate::fault::ServiceFault;
 use crate::mounting::{Tried, mount, slot_cell};
 use crate::printing::{give_up, print_line};
@@ -15,7 +14,9 @@ use journal_history::{Book, Naming};
 use journal_inode::{SoundFiles, Version, VersionOne, VersionTwo};
 use journal_lockmap::SlotCell;
 use journal_program::{Daemon, Settled, SizedDisk};
-use journal_server::{Listening, NineProcedures, Programs, Protocol, serve_all_by};
+use journal_server::{
+    Listening, NineProcedures, Programs, Protocol, WaitingConnections, serve_all_by,
+};
 use journal_world::{Layout, Refusal, Refused};
 use std::alloc::Global;
 use std::fs::{File, Files};
@@ -48,19 +49,16 @@ pub struct Endpoint {
     pub port: u16,
 }
 
-// Where connections come from, how many are served, and whether the service ends before where its
-// device fails.
+// Where connections come from, and how many are served.
 #[derive(Clone, Copy)]
 struct Plan {
     address: Ipv4Addr,
     port: u16,
     connections: u64,
-    ends_by_device: bool,
 }
 
 /// Serves the files of the disk, of either version, by the programs `P`, until the program is
-/// ended. It prints the port before the first connection is taken. Where the device fails, the
-/// calls under way are answered, and it ends by `DeviceFailed`. Else it does as `serve`, and is
+/// ended. It prints the port before the first connection is taken. Else it does as `serve`, and is
 /// refused as that is.
 pub fn export<
     P: Programs + Protocol<VersionTwo> + Protocol<VersionOne> + Sync + Drop,
@@ -85,7 +83,6 @@ pub fn export<
         address,
         port,
         connections: u64::MAX,
-        ends_by_device: true,
     };
     carry_out::<P, R, O, E>(rt, alloc, disk, plan, output, faults)
 }
@@ -121,7 +118,6 @@ pub fn serve<
         address: Ipv4Addr::LOCALHOST,
         port,
         connections,
-        ends_by_device: false,
     };
     let disk = file::open(rt, alloc, path)?;
     carry_out::<NineProcedures, R, O, E>(rt, alloc, disk, plan, output, faults)
@@ -225,8 +221,7 @@ fn serve_mounted<
     }
 }
 
-// Serves while the daemon runs, and ends it. All commits are stable then. The daemon ends by itself
-// only where the device failed.
+// Serves while the daemon runs, and ends it. All commits are stable then.
 fn serve_beside_daemon<
     'b,
     P: Programs + Protocol<V> + Sync,
@@ -242,29 +237,15 @@ fn serve_beside_daemon<
     plan: Plan,
     output: &mut O,
 ) -> Result<(), ServiceFault> {
-    let Ok(listener) = TcpListener::bind(rt, (plan.address, plan.port)) else {
-        return Err(ServiceFault::CannotListen);
-    };
-    let closer = Closer::of(&listener)?;
-    let port = OpenPort {
-        listener,
-        waiting: &closer.connections,
-        connections: plan.connections,
-    };
     let daemon = Daemon::new();
     thread::scope(
         thread::scope_env(),
         rt,
         |scope| -> Result<(), ServiceFault> {
-            let run_daemon = || {
-                daemon.run(rt, files.journal());
-                if plan.ends_by_device {
-                    closer.close();
-                }
-            };
-            let runs = scope.spawn(run_daemon).is_ok() && daemon.is_running(rt);
+            let runs = scope.spawn(|| daemon.run(rt, files.journal())).is_ok()
+                && daemon.is_running(rt);
             let served = if runs {
-                listen(rt, alloc, files, programs, port, output)
+                listen(rt, alloc, files, programs, plan, output)
             } else {
                 Err(ServiceFault::Refused(Refusal::NoMemory))
             };
@@ -289,19 +270,18 @@ fn listen<
     alloc: Global,
     files: &FileStore<'b, SizedDisk, J, V>,
     programs: &P,
-    port: OpenPort<'_>,
+    plan: Plan,
     output: &mut O,
 ) -> Result<(), ServiceFault> {
-    let OpenPort {
-        listener,
-        waiting,
-        connections,
-    } = port;
+    let Ok(listener) = TcpListener::bind(rt, (plan.address, plan.port)) else {
+        return Err(ServiceFault::CannotListen);
+    };
     let Ok(there) = listener.local_addr() else {
         return Err(ServiceFault::CannotListen);
     };
     print_line(output, "listening", u64::from(there.port()))?;
-    let source = Listening::new(rt, listener, connections, waiting);
+    let waiting = WaitingConnections::new();
+    let source = Listening::new(rt, listener, plan.connections, &waiting);
     let clock = WallClock(rt);
     let pool = programs.pool();
     let (served, source) = serve_all_by(
