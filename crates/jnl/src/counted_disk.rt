@@ -33,7 +33,7 @@ impl<'c, D: BlockDisk, R> CountedDisk<'c, D, R> {
 
     /// The disk itself, whose syncs are not counted from then on.
     pub fn into_inner(self) -> D
-        ensures { result ≡ self.disk }
+        ensures { result ≡ self.entry.disk }
     {
         let CountedDisk {
             disk,

@@ -296,6 +296,7 @@ fn serve_beside_daemon<
     let Ok(workers) = Workers::new(disk, listeners) else {
         return Err(Fault::CannotListen);
     };
+    let workers = &workers;
     let journal = disk.journal;
     let daemon = if disk.may_write {
         Daemon::new()
@@ -309,7 +310,7 @@ fn serve_beside_daemon<
         };
         let runs = scope.spawn(run_daemon).is_ok() && daemon.is_running(rt);
         let served = if runs {
-            serve_clients(rt, &workers, service, listeners, output)
+            serve_clients(rt, workers, service, listeners, output)
         } else {
             Err(Fault::NoMemory)
         };
