@@ -303,6 +303,7 @@ fn serve_beside_daemon<
     } else {
         Daemon::without_installer()
     };
+    let daemon = &daemon;
     thread::scope(thread::scope_env(), rt, |scope| -> Result<(), Fault<'_>> {
         let run_daemon = || {
             daemon.run(rt, journal);

@@ -39,6 +39,7 @@ ends_by_fault left held new r fault status runs is told other = by_fault fault (
     by_fault faults.CannotWrite h e = absurd (other e)
     by_fault (faults.BadFile path) h e = absurd h
     by_fault (faults.Label path why) h e = absurd h
+    by_fault (faults.Device _ _) h e = elim h [ ]
     by_fault faults.CannotListen h e = absurd h
     by_fault faults.Usage h e = absurd h
     by_fault faults.BadSize h e = absurd h
