@@ -140,6 +140,10 @@ pub fn grow_on_device<'w, R: Files<File = File>, O: Write, E: Write>(
     let Some(label) = grown_label(&facts, blocks) else {
         return Err(Fault::TellsNoRegions { path });
     };
+    if label.blocks < found.facts.blocks {
+        // Its file has as many blocks as its label says, so no disk comes here.
+        return Err(Fault::TellsNoRegions { path });
+    }
     done(path, found.grow_device(alloc, path, &label, zeros, faults))?;
     print_label(&label, output)
 }
