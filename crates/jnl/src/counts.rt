@@ -82,7 +82,7 @@ impl SyncCounts {
 // The class of so many microseconds.
 fn class_of(micros: u64) -> usize {
     let bits = 64 - (micros | 1).leading_zeros();
-    (bits as usize - 1).min(CLASSES - 1)
+    (bits as usize).saturating_sub(1).min(CLASSES - 1)
 }
 
 /// What is counted of the connections of a service and of its answers.
