@@ -220,15 +220,15 @@ class JnlRuns(Runs):
                 run.kill()
 
     def fail_call(self, words):
-        """Wants that a call is not answered as done where its sync fails, and that the service ends."""
-        pipes = {"stdout": subprocess.PIPE, "stderr": subprocess.PIPE, "text": True}
-        with subprocess.Popen(words, **pipes, env=self.environment(2)) as run:
+        """Wants that a call is not answered as done where its sync fails. The service goes on."""
+        with subprocess.Popen(words, stdout=subprocess.PIPE, text=True, env=self.environment(2)) as run:
             try:
                 client = nfs_client.Service(int(run.stdout.readline().split()[1]))
                 nfs_client.put(client, "f002", "text")
                 raise Wrong(f"{told(words, 2)}: the call is answered as done")
-            except (nfs_client.Refused, OSError):
-                self.want_end(run, words)
+            except nfs_client.Refused:
+                if run.poll() is not None:
+                    raise Wrong(f"{told(words, 2)}: it ends")
             finally:
                 run.kill()
 
