@@ -12,7 +12,7 @@ use Rattle.journal_history.specs.Tokens.{SessionState, next_transaction as numbe
 use Rattle.journal_memory.specs.Causes.{CauseState}
 use Rattle.journal_memory.specs.Transactions.{TransactionState}
 use Rattle.journal_memory.specs.Outsets.{CanCommit as CanCommitFrom, IsCommitRefusal as IsRefusedFrom}
-use Rattle.journal_parts.specs.Cores.{CoreState, ObjectsState}
+use Rattle.journal_parts.specs.CoreStates.{CoreState, ObjectsState}
 use Rattle.journal_parts.specs.CoreParts.{outset}
 use Rattle.journal_core.specs.Steps.{IsStopped, IsDeviceRefusal}
 

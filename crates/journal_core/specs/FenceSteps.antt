@@ -5,7 +5,7 @@ use Rattle.journal_world.specs.Histories.{is_fenced}
 use Rattle.journal_world.specs.Histories.Entry.{fence}
 use Rattle.journal_memory.specs.Causes.{CauseState}
 use Rattle.journal_memory.specs.Fences.{IsFenceRefusal as IsRefusedFrom}
-use Rattle.journal_parts.specs.Cores.{CoreState, Crashes}
+use Rattle.journal_parts.specs.CoreStates.{CoreState, Crashes}
 use Rattle.journal_parts.specs.CoreParts.{outset}
 
 -- The fence was added to the history, and nothing else was done. No session gets the number from

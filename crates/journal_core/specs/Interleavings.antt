@@ -17,7 +17,7 @@ use Rattle.journal_wal.specs.declared.step.InstallStep.{InstallStep}
 use Rattle.journal_parts.specs.declared.step.LogStep.{LogStep}
 use Rattle.journal_parts.specs.declared.step.LogStep.TheVariants.{Marked}
 use Rattle.journal_memory.specs.Causes.{CauseState}
-use Rattle.journal_parts.specs.Cores.{CoreState, Crashes, IsRunning, OnlyReads, disk_of}
+use Rattle.journal_parts.specs.CoreStates.{CoreState, Crashes, IsRunning, OnlyReads, disk_of}
 use Rattle.journal_memory.specs.Transactions.{TransactionState, ReadResultState, begun, AreUnmoved, Remembers, Overwrites}
 use Rattle.journal_core.specs.Steps.{LogAnswers, IsLogRefusal, InstallAnswers, IsInstallRefusal, MayRead, IsReadRefusal, BeginsSession, IsSessionRefusal, Stops, IsFetchRefusal}
 use Rattle.journal_memory.specs.Ledgers.{IsBehind}
@@ -25,7 +25,7 @@ use Rattle.journal_memory.specs.Fetches.{FetchedState, IsFetched, IsBlockAfter}
 use Rattle.journal_memory.specs.Volatiles.{IsFrontRefusal}
 use Rattle.journal_core.specs.Commits.{IsCommitted, CanCommit, IsCommitRefusal}
 use Rattle.journal_core.specs.FenceSteps.{AddsFence, AnswersFence}
-use Rattle.journal_parts.specs.Openings.{Begins}
+use Rattle.journal_parts.specs.Beginnings.{Begins}
 use Rattle.journal_core.specs.Outcomes.{Answer, IsLeftBetween, HoldsImage, is_actor}
 use Rattle.journal_core.specs.Outcomes.Answer.{nothing, value, committed, marked, fenced, crashed, reopened}
 

@@ -19,7 +19,7 @@ use Rattle.journal_memory.specs.Causes.{CauseState, IsUnexplained}
 use Rattle.journal_memory.specs.Transactions.{TransactionState}
 use Rattle.journal_memory.specs.Ledgers.{IsBehind, IsNumberRefusal, IsStaleRefusal, IsMarkRefusal}
 use Rattle.journal_memory.specs.Outsets.{IsEndRefusal as IsEndOf, MayRead as MayReadFrom}
-use Rattle.journal_parts.specs.Cores.{CoreState, is_faulted, IsRunning, disk_of, Crashes, tail_length, start_of, end_of, with_wal}
+use Rattle.journal_parts.specs.CoreStates.{CoreState, is_faulted, IsRunning, disk_of, Crashes, tail_length, start_of, end_of, with_wal}
 use Rattle.journal_parts.specs.CoreParts.{outset}
 
 -- The logger

@@ -29,7 +29,7 @@ use Rattle.journal_memory.specs.Fetches.{FetchedState, IsBlockAfter}
 use Rattle.journal_memory.specs.declared.bit_scan.BitScan.{BitScan}
 use Rattle.journal_memory.specs.Bits.{bits_in}
 use Rattle.journal_memory.specs.Volatiles.{VolatileState, IsFrontRefusal}
-use Rattle.journal_parts.specs.Openings.{Begins}
+use Rattle.journal_parts.specs.Beginnings.{Begins}
 use Rattle.journal_parts.specs.Holds.{IsBetween, AnswersFetch, AnswersGroupCall, AnswersHomeCall, MarksOrCuts, AnswersMarkOrCut, Trims, NotesFault, ShowsDisk, RefusesDisk}
 use Rattle.journal_memory.specs.VolatileHolds.{FindsInMemory, AnswersRead, FindsBits, AnswersScan, CommitsInMemory, LacksBlocks, RefusesCommit, KeepsCopies, AnswersSession, FencesSession, AnswersFence, Stops, AnswersWait, AnswersFlush, AnswersShow}
 use Rattle.journal_core.specs.Outcomes.{Answer, TellsAll, IsLeftBetween, HoldsImage, is_actor}

@@ -2,7 +2,7 @@
 ghost use Rattle.std.specs.Prelude.{◌≡◌, true, IfErr, OnOk, OnErr};
 ghost use Rattle.journal_world.specs.Histories.{is_fenced};
 ghost use Rattle.journal_history.specs.Tokens.{OnlyExtends};
-ghost use Rattle.journal_parts.specs.Cores.{Crashes};
+ghost use Rattle.journal_parts.specs.CoreStates.{Crashes};
 ghost use Rattle.journal_core.specs.FenceSteps.{SetsFence, IsFenceRefusal, AnswersFence};
 
 use crate::state::Core;

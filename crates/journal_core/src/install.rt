@@ -1,6 +1,6 @@
 // A step of the installer.
 ghost use Rattle.std.specs.Prelude.{IfOk, IfErr, OnOk, OnErr};
-ghost use Rattle.journal_parts.specs.Cores.{Crashes, IsRunning};
+ghost use Rattle.journal_parts.specs.CoreStates.{Crashes, IsRunning};
 ghost use Rattle.journal_core.specs.Steps.{InstallAnswers, IsInstallRefusal, LeavesLog, TriesToInstall};
 ghost use Rattle.journal_core.specs.Interleavings.{AnswersInstall};
 

@@ -1,6 +1,6 @@
 // A step of the logger, or a mark.
 ghost use Rattle.std.specs.Prelude.{IfOk, IfErr, OnOk, OnErr};
-ghost use Rattle.journal_parts.specs.Cores.{Crashes, IsRunning};
+ghost use Rattle.journal_parts.specs.CoreStates.{Crashes, IsRunning};
 ghost use Rattle.journal_core.specs.Steps.{LogAnswers, IsLogRefusal, LeavesLog, TriesToLog};
 ghost use Rattle.journal_core.specs.Interleavings.{AnswersLog};
 

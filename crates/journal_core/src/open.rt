@@ -2,7 +2,8 @@
 ghost use Rattle.std.specs.Prelude.{◌≡◌, ◌<◌, false, length, replicate, IsTrue, OnOk, IfOk, IfErr, IfSome};
 ghost use Rattle.journal_world.specs.Files.{shape};
 ghost use Rattle.journal_disk.specs.Disks.{IsSettled};
-ghost use Rattle.journal_parts.specs.Openings.{HasWellFormedLog, HasBoundsOf, Begins, IsLayoutRefusal, OnlyReadsDisk};
+ghost use Rattle.journal_parts.specs.Openings.{HasWellFormedLog, IsLayoutRefusal, OnlyReadsDisk};
+ghost use Rattle.journal_parts.specs.Beginnings.{HasBoundsOf, Begins};
 
 use crate::state::Core;
 use journal_block::{Block, Update};

@@ -6,7 +6,7 @@ ghost use Rattle.journal_tail.specs.ObjectTails.{known_updates, missing_blocks};
 ghost use Rattle.journal_history.specs.Tokens.{next_transaction, OnlyExtends, IsReceiptFor};
 ghost use Rattle.journal_lockmap.specs.Numbers.{AreApart, HoldsSlots, slots_of};
 ghost use Rattle.journal_memory.specs.SlotCounts.{AgreeWith};
-ghost use Rattle.journal_parts.specs.Cores.{Crashes, IsRunning, OnlyReads};
+ghost use Rattle.journal_parts.specs.CoreStates.{Crashes, IsRunning, OnlyReads};
 ghost use Rattle.journal_parts.specs.CoreParts.{IsPair, core_of};
 ghost use Rattle.journal_parts.specs.Durables.{IsCallRefusal};
 ghost use Rattle.journal_memory.specs.Rules.{KeepsMapRule};

@@ -3,7 +3,7 @@
 // know of it.
 ghost use Rattle.std.specs.Prelude.{◌≡◌, ◌<◌, false, true, map, IsTrue, IfOk, IfErr, OnOk, OnErr, All};
 ghost use Rattle.journal_objlog.specs.ObjectLogs.{OnlyReads};
-ghost use Rattle.journal_parts.specs.Cores.{IsRunning, Crashes};
+ghost use Rattle.journal_parts.specs.CoreStates.{IsRunning, Crashes};
 ghost use Rattle.journal_parts.specs.CoreParts.{IsPair, core_of};
 ghost use Rattle.journal_parts.specs.Durables.{IsCallRefusal, Crashes as CrashesDurable};
 ghost use Rattle.journal_core.specs.Interleavings.{AnswersFetch};

@@ -6,7 +6,7 @@ ghost use Rattle.journal_world.specs.Histories.{is_trusted, latest};
 ghost use Rattle.journal_object.specs.Objects.{size_at};
 ghost use Rattle.journal_memory.specs.SlotCounts.{AgreeWith, AreUnder};
 ghost use Rattle.journal_memory.specs.Transactions.{AreUnmoved};
-ghost use Rattle.journal_parts.specs.Cores.{Crashes, IsRunning, OnlyReads};
+ghost use Rattle.journal_parts.specs.CoreStates.{Crashes, IsRunning, OnlyReads};
 ghost use Rattle.journal_core.specs.Steps.{MayRead, IsReadRefusal};
 ghost use Rattle.journal_core.specs.Interleavings.{AnswersRead};
 

@@ -3,7 +3,7 @@ ghost use Rattle.std.specs.Prelude.{◌≡◌, ◌≤◌, ◌^◌, ◌+◌, ◌�
 ghost use Rattle.journal_world.specs.Histories.{floor};
 ghost use Rattle.journal_history.specs.Tokens.{IsExact, OnlyExtends};
 ghost use Rattle.journal_memory.specs.Waits.{MayWait, IsWaitRefusal};
-ghost use Rattle.journal_parts.specs.Cores.{Crashes};
+ghost use Rattle.journal_parts.specs.CoreStates.{Crashes};
 ghost use Rattle.journal_parts.specs.CoreParts.{outset};
 ghost use Rattle.journal_core.specs.Steps.{BeginsSession, Stops, IsSessionRefusal, IsShowRefusal};
 ghost use Rattle.journal_core.specs.Interleavings.{AnswersSession};

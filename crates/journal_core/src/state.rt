@@ -5,7 +5,8 @@ ghost use Rattle.journal_disk.specs.Images.{EveryImage};
 ghost use Rattle.journal_circ.specs.Mending.{IsMendable};
 ghost use Rattle.journal_history.specs.Soundness.{IsSound};
 ghost use Rattle.journal_memory.specs.SlotCounts.{AgreeWith};
-ghost use Rattle.journal_parts.specs.Cores.{Leaves, Crashes, IsRunning, disk_of, start_of, end_of};
+ghost use Rattle.journal_parts.specs.Cores.{Leaves};
+ghost use Rattle.journal_parts.specs.CoreStates.{Crashes, IsRunning, disk_of, start_of, end_of};
 ghost use Rattle.journal_core.specs.Steps.{IsEndRefusal};
 
 use journal_block::Update;
@@ -30,7 +31,7 @@ pub struct Core<'b, D: BlockDisk, R: MapRule, J: Naming> {
 }
 
 impl<'b, D: BlockDisk, R: MapRule, J: Naming> Model for Core<'b, D, R, J> {
-    ghost use Rattle.journal_parts.specs.Cores.{CoreState};
+    ghost use Rattle.journal_parts.specs.CoreStates.{CoreState};
     ghost use Rattle.journal_parts.specs.CoreParts.{IsCore, core_of};
 
     ghost Value = { CoreState };

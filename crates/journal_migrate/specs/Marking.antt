@@ -9,7 +9,7 @@ use Rattle.journal_wal.specs.Wal.{WalState, Installing, install_none, install_ho
 use Rattle.journal_memory.specs.declared.refusal_number.RefusalNumber.TheVariants.{J6}
 use Rattle.journal_memory.specs.Causes.{CauseState, IsUnexplained}
 use Rattle.journal_memory.specs.Ledgers.{IsStale}
-use Rattle.journal_parts.specs.Cores.{CoreState, IsRunning, disk_of, tail_length}
+use Rattle.journal_parts.specs.CoreStates.{CoreState, IsRunning, disk_of, tail_length}
 
 -- up to where is installed, or this where nothing is
 abbrev pub upto_of : Installing → ℕ → ℕ

@@ -1,7 +1,7 @@
 // One commit becomes stable.
 ghost use Rattle.std.specs.Prelude.{◌≡◌, IsTrue, IfOk, IfErr, OnOk, OnErr, false};
 ghost use Rattle.journal_disk.specs.Disks.{Keeps};
-ghost use Rattle.journal_parts.specs.Cores.{disk_of};
+ghost use Rattle.journal_parts.specs.CoreStates.{disk_of};
 ghost use Rattle.journal_migrate.specs.Marking.{AwaitsMark, AddsMark, ComesNearer, IsRunningRefusal};
 
 use journal_core::Core;

@@ -9,7 +9,7 @@ use Rattle.journal_memory.specs.Outsets.{Outset}
 use Rattle.journal_memory.specs.Volatiles.{VolatileState, IsVolatile}
 use Rattle.journal_parts.specs.Durables.{DurableState, IsDurable}
 use Rattle.journal_parts.specs.Pairs.{Tied}
-use Rattle.journal_parts.specs.Cores.{CoreState, is_faulted, next_of}
+use Rattle.journal_parts.specs.CoreStates.{CoreState, is_faulted, next_of}
 
 -- the core of these two parts
 abbrev pub core_of : VolatileState → DurableState → CoreState

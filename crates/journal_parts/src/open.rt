@@ -10,7 +10,9 @@ ghost use Rattle.journal_disk.specs.Disks.{IsSettled};
 ghost use Rattle.journal_disk.specs.Images.{EveryImage};
 ghost use Rattle.journal_parts.specs.CoreParts.{IsPair, core_of};
 ghost use Rattle.journal_parts.specs.Holds.{IsBetween};
-ghost use Rattle.journal_parts.specs.Openings.{HasWellFormedLog, HasBoundsOf, Begins, IsBeginRefusal, IsLayoutRefusal, OnlyReadsDisk};
+ghost use Rattle.journal_parts.specs.Openings.{HasWellFormedLog, IsLayoutRefusal, OnlyReadsDisk};
+ghost use Rattle.journal_parts.specs.Beginnings.{HasBoundsOf, Begins};
+ghost use Rattle.journal_parts.specs.BeginRefusals.{IsBeginRefusal};
 
 use crate::durable::Durable;
 use journal_disk::BlockDisk;
