@@ -11,19 +11,20 @@ ghost use Rattle.journal_core.specs.TwoLocks.{Event, Machine, Mount, Parts, hist
 
 use journal_world::MapRule;
 
-/// Transactions of any number of actors, and the holds of two locks that threads make for them: a
-/// hold of memory alone, of the disk alone with at most one device call that changes the disk, or
-/// of both. A hold makes one event, or two, one right after the other: it reads, scans, or commits
-/// what was fetched, and then notes which copies were used. Crashes at any moment of any call, and
-/// openings, come between them in any order, on a disk that is honest and is opened by one layout.
+/// The law of the holds of threads. The events are transactions of any actors, and the holds of two
+/// locks that threads make for them: a hold of memory alone, of the disk alone with at most one
+/// device call that changes the disk, or of both. A hold makes one event, or two, one right after
+/// the other: it reads, scans, or commits what was fetched, and then notes which copies were used.
+/// Crashes at any moment of any call, and openings, come between them in any order. The disk is
+/// honest and is opened by one layout.
 ///
-/// The answers are those of one history, as `every_interleaving` says of the steps of one thread. A
-/// wait that ends well says that the history has so many commits marked, and an image of the disk
-/// opens as a crash would leave it. A device call may fail, and other holds of memory may come
-/// before the fault is noted there. Between any two holds each part is as its type keeps it, and
-/// both are tied.
+/// The answers are those of one history, as `every_interleaving` says of the steps of one thread.
+/// If a wait succeeds, the history has as many marked commits as were waited for. An image of the
+/// disk opens as a crash would leave it. A device call may fail, and other holds of memory may come
+/// before the fault is noted there. Between any two holds each part keeps the invariant of its
+/// type, and both are tied.
 ///
-/// The call does nothing: its contract is the law, over the definitions that the holds of `Durable`
+/// The call does nothing. Its contract is the law, over the definitions that the holds of `Durable`
 /// and `Volatile` cite.
 pub fn every_order_of_holds<R: MapRule>()
     ensures told { (layout : Shape) (disk : DiskState) (first : Parts) (events : List Event) (answers : List Answer) (last : Machine) →
