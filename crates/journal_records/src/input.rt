@@ -11,18 +11,18 @@ use journal_xdr::Reader;
 use std::alloc::{AllocError, Global};
 use std::marker::Model;
 
-/// What comes next on a stream.
+/// The next part of a stream.
 #[derive(Debug, Drop)]
 pub enum Next<X> {
-    /// A whole record, and what it reads as.
+    /// A whole record, as it is read.
     Record(Result<X, ReadFault>),
     /// Less than a record. It stays, and with more bytes it may be one.
     Partial,
-    /// A record that is longer than a record may be. Nothing behind its length is looked at.
+    /// A record that is longer than a record may be. Nothing after its length is looked at.
     TooLong,
 }
 
-// What stands at the front of some bytes.
+// The part at the front of some bytes.
 #[derive(Clone, Copy, Debug)]
 enum Front<'a> {
     Whole(&'a [u8]),
@@ -32,7 +32,7 @@ enum Front<'a> {
 
 /// A stream that comes in pieces. Contracts see the bytes that came and were not taken.
 ///
-/// It keeps no more than it was fed since the last record was taken, and what was left then.
+/// It keeps no more than the pieces since the last record was taken, and the rest from before.
 #[derive(Drop)]
 pub struct Input {
     bytes: Vec<u8>,
@@ -59,8 +59,10 @@ impl Input {
         }
     }
 
-    /// A piece comes. Where a growth is refused nothing has changed, and the piece may be fed
-    /// again.
+    /// A piece comes.
+    ///
+    /// # Errors
+    /// - Memory is refused. Nothing has changed, and the piece may be fed again.
     pub fn feed(&mut self, piece: &[u8]) -> Result<(), AllocError>
         ensures fed { OnOk result (self.new ≡ self.old ++ piece.now) }
         ensures kept { OnErr result (self.new ≡ self.old) }
@@ -110,7 +112,7 @@ impl Input {
         self.taken = self.taken + LENGTH_BYTES + size;
     }
 
-    // Frees the room of what was taken.
+    // Frees the room of the taken bytes.
     fn forget_taken(&mut self)
         ensures { self.new ≡ self.old }
     {
@@ -121,7 +123,7 @@ impl Input {
     }
 }
 
-// What stands at the front.
+// The part at the front.
 fn front_of(bytes: &[u8]) -> Front<'_>
     ensures { IsFront bytes.now result }
 {
