@@ -1,4 +1,4 @@
--- What a commit is, and why one is refused.
+-- A commit, and why one is refused.
 use Rattle.std.specs.Prelude.{ℕ, ◌≡◌, ◌+◌, max, List, length}
 use Rattle.journal_world.specs.declared.refusal.Refusal.{Refusal}
 use Rattle.journal_world.specs.declared.refusal.Refusal.TheVariants.{DeviceFailed, Closed}

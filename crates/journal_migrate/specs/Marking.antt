@@ -34,7 +34,7 @@ steps_to_mark c =
     if tail_length c.objects == 0 then log_steps c.objects.wal + 1
     else 6 + steps_to_place c.objects.wal (tail_length c.objects)
 
--- The one block that it wrote stands in the tail, and what is installed is all that is logged
+-- The one block that it wrote is in the tail, and all that is logged is installed
 pub record AwaitsCut (c : CoreState) : Type 0 where
   pub one : tail_length c.objects ≡ 1
   pub rest : log_steps c.objects.wal ≡ 0
