@@ -18,7 +18,7 @@ impl<'b, D: BlockDisk, R: MapRule, J: Naming> Core<'b, D, R, J> {
     /// positions are free. It is idle if all that is logged is at home. The history stays.
     ///
     /// # Errors
-    /// The first that applies is answered. The history is as it was.
+    /// The history is as it was. J13 comes before all others.
     /// - `J13 Closed`: the core was stopped.
     /// - `J6 DeviceFailed`: the device failed, in this call or before.
     /// - `J1 NoMemory`: memory for the list of addresses is refused, at the first of these steps.

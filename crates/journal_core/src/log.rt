@@ -19,7 +19,7 @@ impl<'b, D: BlockDisk, R: MapRule, J: Naming> Core<'b, D, R, J> {
     /// is due.
     ///
     /// # Errors
-    /// The first that applies is answered. Nothing is then marked.
+    /// Nothing is then marked. J13 comes before all others.
     /// - `J13 Closed`: the core was stopped.
     /// - `J6 DeviceFailed`: the device failed, in this call or before.
     /// - `J9 Stale`: the history is longer than the core's.

@@ -286,7 +286,7 @@ impl<'b, D: BlockDisk, R: MapRule, J: Naming> Journal<'b, D, R, J> {
     /// is nothing to log and nothing to mark.
     ///
     /// # Errors
-    /// The first that applies is answered. Nothing is then marked.
+    /// Nothing is then marked. J13 comes before all others.
     /// - `J13 Closed`: the journal was stopped.
     /// - `J6 DeviceFailed`: the device failed, in this call or before.
     /// - `J9 Stale`: the history is longer than the core's.
@@ -322,7 +322,7 @@ impl<'b, D: BlockDisk, R: MapRule, J: Naming> Journal<'b, D, R, J> {
     /// is idle if all that is logged is at home.
     ///
     /// # Errors
-    /// The first that applies is answered. The history stays.
+    /// The history stays. J13 comes before all others.
     /// - `J13 Closed`: the journal was stopped.
     /// - `J6 DeviceFailed`: the device failed, in this call or before.
     /// - `J1 NoMemory`: memory is refused. The step can be tried again.
