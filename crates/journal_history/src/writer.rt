@@ -118,8 +118,8 @@ impl<'b, J: Naming, R: MapRule> Writer<'b, J, R> {
     /// Shows the session the whole history.
     ///
     /// # Errors
-    /// - The session has seen more than the writer, and the front is its history. The writer is as it
-    ///   was.
+    /// - The session has seen more than the writer, and the front is its history. The writer is as
+    ///   it was.
     pub fn show(&self, session: &mut Session<'b, J, R>) -> Result<(), Front<'b, J, R>>
         ensures extends { OnlyExtends session.old session.new }
         ensures shown { OnOk result (session.new.seen ≡ self.now) }
