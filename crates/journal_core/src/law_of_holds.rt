@@ -24,7 +24,7 @@ use journal_world::MapRule;
 /// before the fault is noted there. Between any two holds each part keeps the invariant of its
 /// type, and both are tied.
 ///
-/// The call does nothing. Its contract is the law, over the definitions that the holds of `Durable`
+/// The call does nothing: its contract is the law, over the definitions that the holds of `Durable`
 /// and `Volatile` cite.
 pub fn every_order_of_holds<R: MapRule>()
     ensures told { (layout : Shape) (disk : DiskState) (first : Parts) (events : List Event) (answers : List Answer) (last : Machine) →

@@ -1,4 +1,4 @@
--- The core as contracts see it, and what a crash may leave of it.
+-- What contracts see of the core, and what a crash may leave of it.
 use Rattle.std.specs.Prelude.{ℕ, ◌≡◌, ◌≤◌, ◌+◌, Bool, false, IsTrue, List, length}
 use Rattle.journal_world.specs.Maps.{Map, SameMap}
 use Rattle.journal_world.specs.Histories.{Entry, count, floor, at}
@@ -18,8 +18,8 @@ pub record ObjectsState : Type 0 where
   pub wal : WalState
   pub tail : List Update
 
--- The state of a core that contracts see: the map of objects with its log, the history, the numbers
--- of commits at the last cut and at that of the last group whose cycle ended, the next session's
+-- What contracts see of a core: the map of objects with its log, the history, the numbers of
+-- commits at the last cut and at that of the last group whose cycle ended, the next session's
 -- number, and the stop
 pub record CoreState : Type 0 where
   -- the map of objects, and the log that it is kept in
@@ -71,7 +71,7 @@ IsRunning c = (c.closed ≡ false) × (is_faulted c ≡ false)
 abbrev pub disk_of : CoreState → DiskState
 disk_of c = log_disk c.objects.wal
 
--- The image opens as the map after some first commits, no fewer than the greatest mark
+-- The image opens as the map after so many commits, no fewer than the greatest mark
 pub record Leaves (history : List Entry) (image : List Bytes) : Type 0 where
   pub commits : ℕ
   pub marked : floor history ≤ commits
@@ -80,7 +80,7 @@ pub record Leaves (history : List Entry) (image : List Bytes) : Type 0 where
   pub opens : OpensAs map image
   pub same : SameMap map (at history commits)
 
--- The image opens as the map after this many first commits of the history
+-- The image opens as the map after so many first commits of the history
 pub record OpensAfter (history : List Entry) (image : List Bytes) : Type 0 where
   pub commits : ℕ
   pub made : commits ≤ count history
@@ -88,8 +88,8 @@ pub record OpensAfter (history : List Entry) (image : List Bytes) : Type 0 where
   pub opens : OpensAs map image
   pub same : SameMap map (at history commits)
 
--- The clause of each step on crashes: at every moment of it an image opens as the map after a front
--- of the history that there was, and at its end after one of the history that there is
+-- What each step says of crashes: at every moment of it an image opens as the map after a front of
+-- the history that there was, and at its end after one of the history that there is
 pub record Crashes (old new : CoreState) : Type 0 where
   pub keeps : Keeps (disk_of old) (disk_of new)
   pub moments : IsTrue (disk_of old).honest → LeavesOnly (disk_of old).past (disk_of new).past (Leaves old.history)

@@ -1,4 +1,4 @@
--- The beginning of a mount, and why a disk is not opened.
+-- What a mount begins with, and why a disk is not opened.
 use Rattle.std.specs.Prelude.{◌≡◌, ◌≢◌, ◌⊎◌, ◌≤◌, Bool, IsTrue, List, [], ◌∷◌, Result, Ok, Err}
 use Rattle.journal_world.specs.declared.refusal.Refusal.{Refusal}
 use Rattle.journal_world.specs.declared.refusal.Refusal.TheVariants.{NoMemory, DeviceFailed, BadLog, BadSuper, Stale}
@@ -34,7 +34,7 @@ HasSize layout disk = disk.past.size ≡ layout.blocks
 abbrev pub HasWellFormedLog : DiskState → Type 0
 HasWellFormedLog disk = IsWellFormed (reading disk.past)
 
--- The log begins and ends where the disk says
+-- The log begins and ends where the disk tells
 abbrev pub HasBoundsOf : DiskState → CoreState → Type 0
 HasBoundsOf disk c = HasBoundsIn (reading disk.past) c.objects.wal
 
