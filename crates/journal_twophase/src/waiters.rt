@@ -16,9 +16,9 @@ pub(crate) const FEW: u64 = 24;
 // logger's steps meanwhile is counted as if it slept. A spurious wake may be counted out in place
 // of a real one; the totals still balance.
 //
-// Threads that a mark woke are likely to commit again at once. So that many are awaited until a
-// group is cut: until as many sleep again, or as many commits have come. One thread may make
-// several commits before it sleeps. Then there is enough for a group too.
+// Threads that a mark woke are likely to commit again at once. So as many are awaited until a group
+// is cut: until as many sleep again, or as many commits have come. One thread may make several
+// commits before it sleeps. Then there is enough for a group too.
 #[derive(Default, Drop)]
 pub(crate) struct MarkWaiters {
     asleep: u64,

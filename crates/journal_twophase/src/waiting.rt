@@ -217,7 +217,7 @@ impl<'j, 'b, D: BlockDisk, R: MapRule, J: Naming> Txn<'j, 'b, D, R, J> {
     /// # Errors
     /// - `Refused`: `commit` refuses it, for the same reasons. The history then lacks it.
     /// - `Unsure`: it is in the history, by the receipt, but the wait is refused. The session is
-    ///   exact. The first of the next four that applies is its reason.
+    ///   exact. The reason is one of the next four.
     /// - `J9 Stale`: the history is longer than the core's.
     /// - `J10 Stranger`: the history has a commit under the session's number that the session did
     ///   not make.
