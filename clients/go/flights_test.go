@@ -4,6 +4,7 @@ import (
 	"bytes"
 	"errors"
 	"fmt"
+	"net"
 	"os"
 	"sync"
 	"testing"
@@ -342,7 +343,7 @@ func TestCloseEndsAllInFlight(t *testing.T) {
 			t.Fatal(err)
 		}
 		over.mu.Lock()
-		isWaiting = len(over.calls) > 0 && len(over.held) == 0
+		isWaiting = over.calls.len() > 0 && len(over.held) == 0
 		over.mu.Unlock()
 	}
 	j.Close()
@@ -350,4 +351,81 @@ func TestCloseEndsAllInFlight(t *testing.T) {
 		t.Errorf("%v", err)
 	}
 	commits(t, j)
+}
+
+// TestAnEndIsFoundBeforeASubmit wants a commit to go over a new connection where the port has ended
+// the one before, and nobody has read that yet, nor the answers before it.
+func TestAnEndIsFoundBeforeASubmit(t *testing.T) {
+	j := dialFaulty(t)
+	before := []*Flight{submit(j, Address{514, freeBit}, []byte{1}), submit(j, Address{514, 0}, []byte{1})}
+	over := j.connection.Load()
+	over.push()
+	time.Sleep(200 * time.Millisecond)
+	for i, each := range append(before, submit(j, Address{514, freeBit}, []byte{1})) {
+		if _, err := end(t, each); err != nil {
+			t.Errorf("%d: %v", i, err)
+		}
+	}
+	if j.connection.Load() == over {
+		t.Error("the connection is the same")
+	}
+}
+
+// TestAnEndIsFoundBeforeACall wants a call to go over a new connection, though a flight is held for
+// the one that has ended.
+func TestAnEndIsFoundBeforeACall(t *testing.T) {
+	j := dial(t)
+	flight := submit(j, Address{514, freeBit}, []byte{1})
+	if err := j.connection.Load().socket.(*net.UnixConn).CloseRead(); err != nil {
+		t.Fatal(err)
+	}
+	commits(t, j)
+	if _, err := end(t, flight); !errors.Is(err, ErrLost) {
+		t.Errorf("%v", err)
+	}
+}
+
+// TestATxIsUsedAgain wants a flight to be as its Tx was when it was submitted.
+func TestATxIsUsedAgain(t *testing.T) {
+	j, first, flights := dial(t), Address{526, 26624}, []*Flight{}
+	tx := j.Begin()
+	for i := uint64(0); i < inFlights; i++ {
+		tx.Reset()
+		if _, err := tx.Read(Address{526, 24576}); err != nil {
+			t.Fatal(err)
+		}
+		tx.Write(first, valueOf(i))
+		tx.Write(Address{527, 1024 * uint32(8+i%16)}, valueOf(i))
+		flights = append(flights, tx.Submit(Durability(i%16 == 0)))
+	}
+	for i, each := range flights {
+		if _, err := end(t, each); err != nil {
+			t.Errorf("%d: %v", i, err)
+		}
+	}
+	for i := uint64(inFlights - 16); i < inFlights; i++ {
+		if found := readOne(t, j, Address{527, 1024 * uint32(8+i%16)}); !bytes.Equal(found, valueOf(i)) {
+			t.Errorf("%d: %v", i, found)
+		}
+	}
+	if tx.Reset(); len(tx.reads.list)+len(tx.writes.list) > 0 {
+		t.Error("a Tx that began anew has objects")
+	}
+}
+
+// TestManyGoroutinesWaitForFlights has goroutines wait for flights of others, in no order.
+func TestManyGoroutinesWaitForFlights(t *testing.T) {
+	j, errs := dial(t), make(chan error, 4*inFlights)
+	for i := 0; i < 4*inFlights; i++ {
+		flight := submit(j, Address{526, 25600}, valueOf(uint64(i)))
+		go func() {
+			_, err := end(t, flight)
+			errs <- err
+		}()
+	}
+	for i := 0; i < 4*inFlights; i++ {
+		if err := <-errs; err != nil {
+			t.Error(err)
+		}
+	}
 }
