@@ -38,28 +38,32 @@ func (d *Disk) bitsOf(block uint64) uint32 {
 	return 0
 }
 
+// objectAt returns how many bits the object at an address has, and whether there is one.
+func (d *Disk) objectAt(a Address) (bits uint32, isOne bool) {
+	bits = d.bitsOf(a.Block)
+	// They are a power of two.
+	return bits, bits != 0 && a.Bit < blockBits && a.Bit&(bits-1) == 0
+}
+
 // checkAddress returns BadAddress where an address names no object. Where the port has told no
 // regions it does not: the port is to find that.
 func (d *Disk) checkAddress(a Address) error {
-	if len(d.Regions) == 0 {
-		return nil
-	}
-	// The bits of an object are a power of two.
-	if bits := d.bitsOf(a.Block); bits == 0 || a.Bit >= blockBits || a.Bit&(bits-1) != 0 {
+	if _, isOne := d.objectAt(a); !isOne && len(d.Regions) > 0 {
 		return BadAddress
 	}
 	return nil
 }
 
-// check returns BadAddress where an address names no object, or BadSize where it never has the
-// value.
+// check returns what checkAddress does, or BadSize where the object never has the value.
 func (d *Disk) check(a Address, value []byte) error {
-	if err := d.checkAddress(a); err != nil || len(d.Regions) == 0 {
-		return err
-	}
-	bits := d.bitsOf(a.Block)
+	bits, isOne := d.objectAt(a)
 	isBit := bits == 1 && len(value) == 1 && value[0] <= 1
-	if isBit || (bits > 1 && len(value) == int(bits/8)) {
+	switch {
+	case len(d.Regions) == 0:
+		return nil
+	case !isOne:
+		return BadAddress
+	case isBit || (bits > 1 && len(value) == int(bits/8)):
 		return nil
 	}
 	return BadSize
