@@ -46,8 +46,8 @@ func (c *connection) sleep(mine *call) {
 	wake(next)
 }
 
-// wake wakes the goroutine of a call, which wakes that of the next one. All at once would be taken by
-// other processors, and wait there for the lock of each other.
+// wake wakes the goroutine of a call, which wakes that of the next one. All at once would be taken
+// by other processors, and wait there for the lock of each other.
 func wake(first *call) {
 	if first != nil {
 		first.wake <- struct{}{}

@@ -96,8 +96,8 @@ func (j *Journal) dial(deadline time.Time) (*connection, Disk, error) {
 	return made, disk, err
 }
 
-// greet greets in a version. It returns OtherVersion where that is not spoken, and the connection is
-// as it was.
+// greet greets in a version. It returns OtherVersion where that is not spoken, and the connection
+// is as it was.
 func (c *connection) greet(version uint32, deadline time.Time) (disk Disk, err error) {
 	hello := newRequest(opHello, wordBytes).word(version)
 	greeting := newCall(opHello, func(a *answer) { disk = a.disk(version) })

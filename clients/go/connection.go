@@ -95,8 +95,8 @@ func newConnection(socket net.Conn, untold *int64, told *promises) (*connection,
 }
 
 // ask sends a request, by a record in pieces, and waits for its answer. It returns false where the
-// connection is of no more use, and nothing was sent. After the limit of time, unless that is 0, the
-// connection ends.
+// connection is of no more use, and nothing was sent. After the limit of time, unless that is 0,
+// the connection ends.
 func (c *connection) ask(mine *call, limit time.Duration, pieces ...[]byte) bool {
 	if limit > 0 {
 		defer c.endAfter(limit).Stop()

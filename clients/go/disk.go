@@ -138,9 +138,9 @@ func (p *promises) noteStop() {
 	p.stable = max(p.stable, p.told)
 }
 
-// meet notes the disk that a greeting has told. It returns true, once, if it is another opening, and
-// commits of the one before may be gone. Each start of a service of version 1 is taken for the same
-// one, since it does not tell which it is.
+// meet notes the disk that a greeting has told. It returns true, once, if it is another opening,
+// and commits of the one before may be gone. Each start of a service of version 1 is taken for the
+// same one, since it does not tell which it is.
 func (p *promises) meet(d Disk) bool {
 	p.mu.Lock()
 	defer p.mu.Unlock()

@@ -356,12 +356,14 @@ func TestCloseEndsAllInFlight(t *testing.T) {
 // TestAnEndIsFoundBeforeASubmit wants a commit to go over a new connection where the port has ended
 // the one before, and nobody has read that yet, nor the answers before it.
 func TestAnEndIsFoundBeforeASubmit(t *testing.T) {
-	j := dialFaulty(t)
-	before := []*Flight{submit(j, Address{514, freeBit}, []byte{1}), submit(j, Address{514, 0}, []byte{1})}
+	j, flights := dialFaulty(t), []*Flight{}
 	over := j.connection.Load()
+	for _, bit := range []uint32{freeBit, 0} {
+		flights = append(flights, submit(j, Address{514, bit}, []byte{1}))
+	}
 	over.push()
 	time.Sleep(200 * time.Millisecond)
-	for i, each := range append(before, submit(j, Address{514, freeBit}, []byte{1})) {
+	for i, each := range append(flights, submit(j, Address{514, freeBit}, []byte{1})) {
 		if _, err := end(t, each); err != nil {
 			t.Errorf("%d: %v", i, err)
 		}

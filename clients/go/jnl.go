@@ -16,9 +16,9 @@
 // answers of others, so as many requests are in flight as there are calls. One that the port has
 // ended, for its silence or with the service, is made again by the next call. Where the service was
 // started again in between, and commits of the Journal may be gone, that call returns ErrRestarted.
-// Where the connection is lost, each call without an answer returns ErrLost, in the order in which they were sent. Those
-// commits that were done, if any, are the first ones of these. A Tx is for one goroutine at a time,
-// which has many commits in flight by Tx.Submit.
+// Where the connection is lost, each call without an answer returns ErrLost. Those commits that
+// were done, if any, are the first ones of these, in the order in which they were sent. A Tx is for
+// one goroutine at a time, which has many commits in flight by Tx.Submit.
 //
 // No host serves this module: its go.mod says how a program uses it.
 package jnl
@@ -43,9 +43,9 @@ const (
 // Address is an object: its block, and its first bit there.
 //
 // Blocks 0 to 512 are the journal's own. What the others have follows from the regions of the disk
-// (Journal.Disk). On a disk that was created without any block 514 has bits, at each bit below 32768, each a byte 0 or 1.
-// Blocks 515 to 530 have objects of 128 bytes, at multiples of 1024. Blocks 513, and 531 to the
-// last, are objects of 4096 bytes, at bit 0.
+// (Journal.Disk). Where none were named when the disk was created, block 514 has bits, at each bit
+// below 32768, each a byte 0 or 1. Blocks 515 to 530 have objects of 128 bytes, at multiples of
+// 1024. Blocks 513, and 531 to the last, are objects of 4096 bytes, at bit 0.
 type Address struct {
 	Block uint64
 	Bit   uint32
@@ -273,8 +273,8 @@ func (j *Journal) Counters() (map[uint32]uint64, error) {
 	return found, nil
 }
 
-// Scan returns the bits of a block that have a value, from a bit on, ascending, at most so many. All
-// bits are as they are at one moment. It returns BadAddress where the block has no bits, or the
+// Scan returns the bits of a block that have a value, from a bit on, ascending, at most so many.
+// All bits are as they are at one moment. It returns BadAddress where the block has no bits, or the
 // first one is above 32767, and OtherVersion, with nothing sent, where the port's version is 1.
 func (j *Journal) Scan(block uint64, first uint32, value bool, most int) ([]uint32, error) {
 	if most > blockBits {

@@ -110,8 +110,9 @@ func TestTheLastWriteCounts(t *testing.T) {
 	if _, err := tx.Commit(Lazy); err != nil {
 		t.Fatal(err)
 	}
+	first, last := bytes.Repeat([]byte{128}, 128), bytes.Repeat([]byte{130}, 128)
 	found, err := j.Read(places...)
-	for i, want := range [][]byte{bytes.Repeat([]byte{128}, 128), valueOf(9), bytes.Repeat([]byte{130}, 128)} {
+	for i, want := range [][]byte{first, valueOf(9), last} {
 		if err != nil || !bytes.Equal(found[i], want) {
 			t.Errorf("object %d: %v %v", i, found, err)
 		}

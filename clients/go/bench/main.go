@@ -1,8 +1,8 @@
 // Command bench commits small transactions over one Journal: bench SOCKET GOROUTINES FLIGHTS
 // durable|lazy SECONDS. Each of the goroutines has so many commits in flight by Tx.Submit; with 1
-// it waits for each by Tx.Commit. It is the loop of clients/c/bench, over the client in Go. There are 512 objects of 128
-// bytes; each transaction overwrites two, at random, in blocks that differ. lazy: none waits, and
-// one flush at the end is inside the time. It prints commits a second.
+// it waits for each by Tx.Commit. It is the loop of clients/c/bench, over the client in Go. There
+// are 512 objects of 128 bytes; each transaction overwrites two, at random, in blocks that differ.
+// lazy: none waits, and one flush at the end is inside the time. It prints commits a second.
 package main
 
 import (
