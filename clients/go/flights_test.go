@@ -308,6 +308,24 @@ func TestALossWhileMoreIsSent(t *testing.T) {
 	}
 }
 
+// TestALossWhileASubmitWaits wants a commit to be lost whose Submit waits for the socket meanwhile.
+func TestALossWhileASubmitWaits(t *testing.T) {
+	j := dialFaulty(t)
+	// The port reads nothing while it answers this one.
+	flights := []*Flight{submit(j, Address{514, 15}, []byte{1})}
+	j.connection.Load().push()
+	time.AfterFunc(500*time.Millisecond, func() { j.Close() })
+	for i := 0; i < many/10; i++ {
+		flights = append(flights, submit(j, Address{540, 0}, make([]byte, maxValue)))
+	}
+	for i, each := range flights {
+		if _, err := end(t, each); !errors.Is(err, ErrLost) {
+			t.Errorf("%d: %v", i, err)
+		}
+	}
+	commits(t, j)
+}
+
 // TestALimitEndsAllInFlight wants each call to end after the limit of time.
 func TestALimitEndsAllInFlight(t *testing.T) {
 	path := os.Getenv("JNL_FAULTY_SOCKET")
