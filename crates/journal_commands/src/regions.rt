@@ -4,7 +4,7 @@ ghost use Rattle.std.specs.Option.{ForSome};
 ghost use Rattle.journal_world.specs.Addresses.{are_regions};
 ghost use Rattle.journal_world.specs.Files.{shape};
 ghost use Rattle.journal_world.specs.declared.layout.TheConstants.{MIN_BLOCKS, MAX_LAYOUT_BLOCKS, MAX_SLOTS};
-ghost use Rattle.jnl.specs.Layouts.{most_blocks, asked_shape, kind_name, told_or, AreSame};
+ghost use Rattle.journal_commands.specs.Layouts.{most_blocks, asked_shape, kind_name, told_or, AreSame};
 
 use crate::fault::Fault;
 use journal_world::{

@@ -1,5 +1,5 @@
 use Rattle.journal_world.specs.Files.{files}
-use Rattle.journal_service.proofs.migrating.migrate.Given as goal
+use Rattle.journal_service.proofs.migrating.migrate_disk.Given as goal
 
 -- the book and the cell that were just opened, and the disk's blocks
 abbrev pub ghosts-migrated : goal.ghosts-migrated

@@ -1,10 +1,9 @@
-// Why the program fails.
+// Why a program fails.
 ghost use Rattle.std.specs.Prelude.{◌≤◌};
 
 use crate::regions::OtherRegions;
 use journal_program::{DeviceFault, LabelFault, OpenFault, SizedDisk};
 use journal_records::Refused as Answered;
-use journal_service::ServiceFault;
 use journal_world::{
     MAX_BLOCKS, MAX_LAYOUT_BLOCKS, MAX_SLOTS, MIN_BLOCKS, REGIONS, Refusal, SUPERBLOCK,
 };
@@ -12,13 +11,15 @@ use std::alloc::AllocError;
 use std::io;
 use std::io::{ErrorKind, Write};
 
-/// Why the program ends before it has done what it was asked for.
+/// Why a program ends before it has done what it was asked for.
 #[derive(Drop)]
 pub enum Fault<'w> {
     /// The words ask for help or the version, or are no command, as this text says.
     Words(clap::Error),
     /// The words are no command.
     NoCommand,
+    /// The words ask for a service of files, which another program has.
+    ServesNoFiles,
     /// This text is no address of version 4 of IP.
     NoAddress {
         text: &'w str,
@@ -183,47 +184,32 @@ impl<'w> Fault<'w> {
         }
     }
 
-    /// The disk in the file at the path was not served to the end.
-    pub fn unserved(path: &'w str, why: ServiceFault) -> Fault<'w> {
-        match why {
-            ServiceFault::BadFile => Fault::File {
-                path,
-                why: io::Error::from(ErrorKind::Other),
-            },
-            ServiceFault::CannotListen => Fault::CannotListen,
-            ServiceFault::Label(why) => Fault::Label { path, why },
-            ServiceFault::Device(why) => Fault::Device { path, why },
-            ServiceFault::Refused(why) => Fault::Refused { path, why },
-            ServiceFault::DeviceFailed(why) => Fault::DeviceFailed { path, why },
-            ServiceFault::CannotWrite => Fault::CannotWrite,
-        }
-    }
-
-    /// Prints the fault, and answers the program's status: 0 where the words asked for help or the
-    /// version and it was printed, 2 where they are no command, else 1.
-    pub fn report<O: Write, E: Write>(&self, output: &mut O, faults: &mut E) -> u8
+    /// Prints the fault of the program of this name, and answers the program's status: 0 where the
+    /// words asked for help or the version and it was printed, 2 where they are no command, else 1.
+    pub fn report<O: Write, E: Write>(&self, program: &str, output: &mut O, faults: &mut E) -> u8
         ensures { result ≤ 2 }
     {
         match self {
             Fault::Words(text) if !text.use_stderr() => {
                 match write!(output, "{text}").and_then(|()| output.flush()) {
                     Ok(()) => 0,
-                    Err(_) => Fault::CannotWrite.report_fault(faults),
+                    Err(_) => Fault::CannotWrite.report_fault(program, faults),
                 }
             }
-            _ => self.report_fault(faults),
+            _ => self.report_fault(program, faults),
         }
     }
 
     // Prints the fault on standard error, and answers the program's status.
-    fn report_fault<E: Write>(&self, faults: &mut E) -> u8
+    fn report_fault<E: Write>(&self, program: &str, faults: &mut E) -> u8
         ensures { result ≤ 2 }
     {
         // Where even this cannot be printed, the status is all that is left to say.
-        let _ = self.print(faults);
+        let _ = self.print(program, faults);
         match self {
             Fault::Words(_)
             | Fault::NoCommand
+            | Fault::ServesNoFiles
             | Fault::NoAddress { .. }
             | Fault::NoRegion { .. }
             | Fault::TooManyRegions
@@ -259,113 +245,126 @@ impl<'w> Fault<'w> {
         }
     }
 
-    fn print<E: Write>(&self, faults: &mut E) -> io::Result<()> {
+    fn print<E: Write>(&self, program: &str, faults: &mut E) -> io::Result<()> {
         match self {
             Fault::Words(text) => write!(faults, "{text}"),
             Fault::NoCommand => writeln!(
                 faults,
-                "jnl: this is no command; jnl --help prints all of them"
+                "{program}: this is no command; {program} --help prints all of them"
+            ),
+            Fault::ServesNoFiles => writeln!(
+                faults,
+                "{program}: files are served by another program: jnlfs serve FILE --port P"
             ),
             Fault::NoAddress { text } => {
-                writeln!(faults, "jnl: {text} is no address like 127.0.0.1")
+                writeln!(faults, "{program}: {text} is no address like 127.0.0.1")
             }
             Fault::NoRegion { text } => writeln!(
                 faults,
-                "jnl: {text} is no region like 513:block, 514:bit or 515:record64"
+                "{program}: {text} is no region like 513:block, 514:bit or 515:record64"
             ),
             Fault::TooManyRegions => {
-                writeln!(faults, "jnl: a layout has at most {REGIONS} regions")
+                writeln!(faults, "{program}: a layout has at most {REGIONS} regions")
             }
             Fault::BadRegions => writeln!(
                 faults,
-                "jnl: the first region begins at block {SUPERBLOCK}, and each other one above the one before it"
+                "{program}: the first region begins at block {SUPERBLOCK}, and each other one above the one before it"
             ),
             Fault::BadSlots { slots } => writeln!(
                 faults,
-                "jnl: the number of slots is odd and at most {MAX_SLOTS}, and not {slots}"
+                "{program}: the number of slots is odd and at most {MAX_SLOTS}, and not {slots}"
             ),
             Fault::File { path, why } if why.kind() == ErrorKind::WouldBlock => {
-                writeln!(faults, "jnl: {path} is used by another program")
+                writeln!(faults, "{program}: {path} is used by another program")
             }
-            Fault::File { path, why } => writeln!(faults, "jnl: cannot use {path}: {why}"),
+            Fault::File { path, why } => writeln!(faults, "{program}: cannot use {path}: {why}"),
             Fault::NoDisk { path, blocks } => writeln!(
                 faults,
-                "jnl: {path} has {blocks} blocks, and a disk has {MIN_BLOCKS} to {MAX_LAYOUT_BLOCKS}"
+                "{program}: {path} has {blocks} blocks, and a disk has {MIN_BLOCKS} to {MAX_LAYOUT_BLOCKS}"
             ),
             Fault::NeedsRegions { path, blocks } => writeln!(
                 faults,
-                "jnl: {path} has {blocks} blocks, and more than {MAX_BLOCKS} are served by --region alone"
+                "{program}: {path} has {blocks} blocks, and more than {MAX_BLOCKS} are served by --region alone"
             ),
-            Fault::Label { path, why } => writeln!(faults, "jnl: {path} {why}"),
-            Fault::Device { path, why } => writeln!(faults, "jnl: {path} {why}"),
+            Fault::Label { path, why } => writeln!(faults, "{program}: {path} {why}"),
+            Fault::Device { path, why } => writeln!(faults, "{program}: {path} {why}"),
             Fault::Holds { path, content } => writeln!(
                 faults,
-                "jnl: {path} holds {content}, which create --device destroys with --force alone"
+                "{program}: {path} holds {content}, which create --device destroys with --force alone"
             ),
             Fault::OnDevice { path } => writeln!(
                 faults,
-                "jnl: {path} is a block device; grow --device takes all its blocks"
+                "{program}: {path} is a block device; grow --device takes all its blocks"
             ),
             Fault::HasNoLabel { path } => writeln!(
                 faults,
-                "jnl: {path} has no label, without which nobody knows which of its blocks are new"
+                "{program}: {path} has no label, without which nobody knows which of its blocks are new"
             ),
             Fault::HasLabel { path } => writeln!(
                 faults,
-                "jnl: {path} has a label already; with --again it gets another one"
+                "{program}: {path} has a label already; with --again it gets another one"
             ),
             Fault::OtherRegions { path, regions } => {
-                writeln!(faults, "jnl: {path} has the regions {regions}")
+                writeln!(faults, "{program}: {path} has the regions {regions}")
             }
             Fault::TellsNoRegions { path } => writeln!(
                 faults,
-                "jnl: {path} has no regions in its label, without which a disk has at most {MAX_BLOCKS} blocks"
+                "{program}: {path} has no regions in its label, without which a disk has at most {MAX_BLOCKS} blocks"
             ),
             Fault::Smaller { path, blocks } => writeln!(
                 faults,
-                "jnl: {path} has {blocks} blocks, and a disk never gets fewer"
+                "{program}: {path} has {blocks} blocks, and a disk never gets fewer"
             ),
             Fault::CannotGrow { path } => writeln!(
                 faults,
-                "jnl: {path} is a disk of the file service, which cannot grow"
+                "{program}: {path} is a disk of the file service, which cannot grow"
             ),
             Fault::Refused { path, why } => {
-                writeln!(faults, "jnl: {path} is refused: {}", why.name())
+                writeln!(faults, "{program}: {path} is refused: {}", why.name())
             }
-            Fault::DeviceFailed { path, why } => writeln!(faults, "jnl: {path} has failed: {why}"),
+            Fault::DeviceFailed { path, why } => writeln!(
+                faults,
+                "{program}: {path} has failed: {why}"
+            ),
             Fault::HasFiles { path } => writeln!(
                 faults,
-                "jnl: {path} is a disk of the file service, whose files would not stay sound"
+                "{program}: {path} is a disk of the file service, whose files would not stay sound"
             ),
             Fault::HasNoFiles { path } => writeln!(
                 faults,
-                "jnl: {path} is no disk of the file service, which jtool format makes"
+                "{program}: {path} is no disk of the file service, which jnlfs make makes"
             ),
             Fault::HasPart { copy } => writeln!(
                 faults,
-                "jnl: {copy}.part is there: another backup makes it, or one was stopped, and it can be removed"
+                "{program}: {copy}.part is there: another backup makes it, or one was stopped, and it can be removed"
             ),
-            Fault::CannotListen => writeln!(faults, "jnl: cannot listen"),
+            Fault::CannotListen => writeln!(faults, "{program}: cannot listen"),
             Fault::NoAnswer { socket } => {
-                writeln!(faults, "jnl: the service at {socket} gave no answer")
+                writeln!(faults, "{program}: the service at {socket} gave no answer")
             }
             Fault::NotEnded { socket } => {
-                writeln!(faults, "jnl: the service at {socket} has not ended yet")
+                writeln!(
+                    faults,
+                    "{program}: the service at {socket} has not ended yet"
+                )
             }
             Fault::NotStopped { socket, why } => {
-                writeln!(faults, "jnl: the service at {socket} goes on: {why:?}")
+                writeln!(
+                    faults,
+                    "{program}: the service at {socket} goes on: {why:?}"
+                )
             }
             Fault::NotStable { socket } => writeln!(
                 faults,
-                "jnl: the service at {socket} has ended, and not all is stable: its device has failed"
+                "{program}: the service at {socket} has ended, and not all is stable: its device has failed"
             ),
             Fault::CountsNothing { socket } => writeln!(
                 faults,
-                "jnl: the service at {socket} counts nothing; it speaks version 1 of the protocol alone"
+                "{program}: the service at {socket} counts nothing; it speaks version 1 of the protocol alone"
             ),
-            Fault::NoRandom => writeln!(faults, "jnl: the system gives no random number"),
-            Fault::NoMemory => writeln!(faults, "jnl: no memory"),
-            Fault::CannotWrite => writeln!(faults, "jnl: cannot write standard output"),
+            Fault::NoRandom => writeln!(faults, "{program}: the system gives no random number"),
+            Fault::NoMemory => writeln!(faults, "{program}: no memory"),
+            Fault::CannotWrite => writeln!(faults, "{program}: cannot write standard output"),
         }
     }
 }
