@@ -1,5 +1,5 @@
 // Records out of a stream that comes in pieces.
-ghost use Rattle.std.specs.Prelude.{◌≡◌, ◌++◌, ◌≤◌, ◌+◌, [], List, ℕ, drop, length, OnOk, OnErr};
+ghost use Rattle.std.specs.Prelude.{◌≡◌, ◌↔◌, IsTrue, ◌++◌, ◌≤◌, ◌+◌, [], List, ℕ, drop, length, OnOk, OnErr};
 ghost use Rattle.journal_records.specs.Readings.{Takes, ReadsRequest, ReadsAnswer, IsFront};
 
 use crate::answer::Answer;
@@ -57,6 +57,20 @@ impl Input {
             bytes: Vec::new(alloc),
             taken: 0,
         }
+    }
+
+    /// How many bytes came and were not taken.
+    pub fn len(&self) -> usize
+        ensures { result ≡ length self.now }
+    {
+        self.left().len()
+    }
+
+    /// True if all that came was taken.
+    pub fn is_empty(&self) -> bool
+        ensures { IsTrue result ↔ (self.now ≡ []) }
+    {
+        self.left().is_empty()
     }
 
     /// A piece comes. Where a growth is refused nothing has changed, and the piece may be fed

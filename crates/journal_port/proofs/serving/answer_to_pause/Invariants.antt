@@ -1,7 +1,7 @@
 use Rattle.std.proofs.Common.{◌≡◌, length}
 use Rattle.journal_port.specs.Answers.{offer}
 use Rattle.journal_port.specs.Served.{SoFar}
-use Rattle.journal_port.proofs.serving.answer_all.Given as goal
+use Rattle.journal_port.proofs.serving.answer_to_pause.Given as goal
 
 abbrev pub invariant-loop : goal.invariant-loop
 invariant-loop g l =
