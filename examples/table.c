@@ -160,7 +160,10 @@ int main(int argc, char **argv)
 {
     static struct table all;
     static char line[MOST_LINE];
-    if (argc != 2) return fprintf(stderr, "usage: table SOCKET\n"), 2;
+    if (argc != 2) {
+        fprintf(stderr, "usage: table SOCKET, with lines of input as put KEY VALUE\n");
+        return 2;
+    }
     must(jnl_open(argv[1], &all.j), "open");
     uint64_t records = (jnl_blocks(all.j) - FIRST) * RECORDS_OF_BLOCK;
     all.count = records < BLOCK_BITS ? (uint32_t)records : BLOCK_BITS;

@@ -113,7 +113,7 @@ def do(table, word, *words):
 
 def main():
     if len(sys.argv) != 2:
-        print("usage: table.py SOCKET", file=sys.stderr)
+        print("usage: table.py SOCKET, with lines of input as put KEY VALUE", file=sys.stderr)
         return 2
     with jnl.connect(sys.argv[1]) as journal:
         table = Table(journal)

@@ -22,7 +22,7 @@ import time
 from pathlib import Path
 from typing import NamedTuple
 
-PROGRAMS = ("jtool", "jnl")
+PROGRAMS = ("jtool", "jnl", "jnlfs")
 SECONDS = 120  # The most that a program or an answer may take. A loaded machine is far below it.
 NOBODY = 65534
 LOCK_BYTES = 4096  # The bytes of a disk's file that its user locks.

@@ -34,10 +34,10 @@ DEVICE_FAILED = 6
 
 NOTHING = ""
 LISTENING = r"listening (on 127\.0\.0\.1:)?[0-9]+\n"
-# On standard error, of jtool or of jnl.
-CANNOT_USE = r"(jnl: )?cannot use {disk}(: .+)?\n"
-REFUSED = r"(refused|jnl: {disk} is refused:) J6 DeviceFailed\n"
-FAILED = r"jnl: {disk} has failed: Input/output error \(os error 5\)\n"
+# On standard error, of jtool or of the others.
+CANNOT_USE = r"(jnl(fs)?: )?cannot use {disk}(: .+)?\n"
+REFUSED = r"(refused|jnl(fs)?: {disk} is refused:) J6 DeviceFailed\n"
+FAILED = r"jnl(fs)?: {disk} has failed: Input/output error \(os error 5\)\n"
 
 
 class How(Enum):
@@ -95,6 +95,20 @@ def jnl_rows(sealed, plain):
     ]
 
 
+def jnlfs_rows(new, old):
+    """The runs of jnlfs, over a new disk of version 2 and over one of version 1."""
+    # The room of the log, the folder, the files, and the form of the log.
+    makes = [(NOTHING, CANNOT_USE), (NOTHING, CANNOT_USE), (NOTHING, FAILED), (NOTHING, FAILED)]
+    # The opening, the log block, block 0, and the end.
+    migrates = [(NOTHING, CANNOT_USE), (NOTHING, REFUSED), (NOTHING, REFUSED), (NOTHING, CANNOT_USE)]
+    return [
+        Row(How.MAKES, "make {disk} --blocks 600", None, NOTHING, makes),
+        Row(How.READS, "check {disk}", new, r"sound version 2 files 0\n", [(NOTHING, CANNOT_USE)]),
+        Row(How.OPENS, "migrate {disk}", new, r"version 2\n", [(NOTHING, CANNOT_USE)] * 2),
+        Row(How.OPENS, "migrate {disk}", old, r"version 2\n", migrates),
+    ]
+
+
 class Runs:
     """Runs of a program over disks in a folder."""
 
@@ -147,6 +161,12 @@ class Runs:
             want_opening(records, disk, words)
         want_nothing_pending(records, words)
 
+    def want_end(self, run, words):
+        """Wants that a service whose second sync has failed ends by itself with status 1, and says why."""
+        status, faults = run.wait(SECONDS), run.stderr.read()
+        if status != 1 or not re.fullmatch(FAILED.format(disk=re.escape(str(self.disk))), faults):
+            raise Wrong(f"{told(words, 2)}: {faults!r}, status {status}")
+
 
 class JtoolRuns(Runs):
     """Runs of jtool."""
@@ -175,6 +195,43 @@ class JtoolRuns(Runs):
         want_nothing_pending(read_trace(self.trace), words)
 
 
+class JnlfsRuns(Runs):
+    """Runs of jnlfs."""
+
+    def try_all(self):
+        for row in jnlfs_rows(disk_of_files(2), disk_of_files(1)):
+            self.try_row(row)
+        self.mount_files()
+
+    def mount_files(self):
+        """`serve`: the sync of the opening fails, then that of a call; then none, up to the line that says that it listens."""
+        words = [self.program, "serve", self.disk, "--port", "0"]
+        self.lay(disk_of_files(2))
+        self.want(words, 1, NOTHING, CANNOT_USE)
+        self.lay(disk_of_files(2))
+        self.fail_call(words)
+        self.lay(disk_of_files(2))
+        with subprocess.Popen(words, stdout=subprocess.PIPE, text=True, env=self.environment(0)) as run:
+            try:
+                run.stdout.readline()
+                self.want_order(How.OPENS, disk_of_files(2), words)
+            finally:
+                run.kill()
+
+    def fail_call(self, words):
+        """Wants that a call is not answered as done where its sync fails, and that the service ends."""
+        pipes = {"stdout": subprocess.PIPE, "stderr": subprocess.PIPE, "text": True}
+        with subprocess.Popen(words, **pipes, env=self.environment(2)) as run:
+            try:
+                client = nfs_client.Service(int(run.stdout.readline().split()[1]))
+                nfs_client.put(client, "f002", "text")
+                raise Wrong(f"{told(words, 2)}: the call is answered as done")
+            except (nfs_client.Refused, OSError):
+                self.want_end(run, words)
+            finally:
+                run.kill()
+
+
 class JnlRuns(Runs):
     """Runs of jnl."""
 
@@ -184,7 +241,6 @@ class JnlRuns(Runs):
         plain = self.made(["seal", self.disk, "--undo"])
         for row in jnl_rows(self.with_updates(sealed), self.with_updates(plain)):
             self.try_row(row)
-        self.mount_files()
         for disk in sealed, plain:
             self.serve_objects(disk)
 
@@ -203,40 +259,6 @@ class JnlRuns(Runs):
         finally:
             service.kill()
         return self.disk.read_bytes()
-
-    def mount_files(self):
-        """`nfs`: the sync of the opening fails, then that of a call; then none, up to the line that says that it listens."""
-        words = [self.program, "nfs", self.disk, "--port", "0"]
-        self.lay(disk_of_files(2))
-        self.want(words, 1, NOTHING, CANNOT_USE)
-        self.lay(disk_of_files(2))
-        self.fail_call(words)
-        self.lay(disk_of_files(2))
-        with subprocess.Popen(words, stdout=subprocess.PIPE, text=True, env=self.environment(0)) as run:
-            try:
-                run.stdout.readline()
-                self.want_order(How.OPENS, disk_of_files(2), words)
-            finally:
-                run.kill()
-
-    def fail_call(self, words):
-        """Wants that a call is not answered as done where its sync fails. The service goes on."""
-        with subprocess.Popen(words, stdout=subprocess.PIPE, text=True, env=self.environment(2)) as run:
-            try:
-                client = nfs_client.Service(int(run.stdout.readline().split()[1]))
-                nfs_client.put(client, "f002", "text")
-                raise Wrong(f"{told(words, 2)}: the call is answered as done")
-            except nfs_client.Refused:
-                if run.poll() is not None:
-                    raise Wrong(f"{told(words, 2)}: it ends")
-            finally:
-                run.kill()
-
-    def want_end(self, run, words):
-        """Wants that a service whose second sync has failed ends by itself with status 1, and says why."""
-        status, faults = run.wait(SECONDS), run.stderr.read()
-        if status != 1 or not re.fullmatch(FAILED.format(disk=re.escape(str(self.disk))), faults):
-            raise Wrong(f"{told(words, 2)}: {faults!r}, status {status}")
 
     def serve_objects(self, disk):
         """`serve`: the sync of the opening fails, then that of a commit, then none."""

@@ -1,6 +1,7 @@
-"""The wrong bodies of the crates and the records of what refused them: for check-tried and try-wrong-bodies.
+"""The wrong bodies of the crates and the records of what refused them: for check-tried, try-wrong-bodies and try-tested-bodies.
 
-A wrong body is an edit in crates/CRATE/must-fail or in wrong-bodies/CRATE. The file wrong-bodies/CRATE/TRIED says for which
+A wrong body is an edit in crates/CRATE/must-fail or in wrong-bodies/CRATE. One with a line `# test:`, `# row:` or `# tool:` is
+refused by no clause: it has no place in a record. The file wrong-bodies/CRATE/TRIED says for which
 text of the crate its wrong bodies were tried, and what the prover said of each:
 
     text SUM                    of src, specs, proofs and the crate's line of crates.txt, without comments and blank lines
@@ -150,13 +151,15 @@ def lemmas_below(crate):
 
 
 class Edit:
-    """A wrong body: the texts that it replaces, and the clause that has to refuse it."""
+    """A wrong body: the texts that it replaces, and the clause that has to refuse it, or what shows that it is wrong."""
 
     def __init__(self, path, crate):
         self.path, self.crate, self.name = path, crate, path.stem
         text = path.read_text()
         said = OWN_CLAUSE.search(text)
         self.function, self.clause = said.groups() if said else ("", "")
+        shown = claims.SHOWN_BY.search(text)
+        self.kind, self.shown = shown.groups() if shown else ("clause", "")
         self.pairs = list(self.read(text))
 
     @staticmethod
@@ -188,14 +191,24 @@ def clause_of(goal):
 
 
 def edits_of(crate):
+    """The wrong bodies of a crate that the prover must refuse."""
+    return [it for it in all_edits_of(crate) if it.kind == "clause"]
+
+
+def tested_edits_of(crate):
+    """Those that only a trial, a row or a tool shows to be wrong."""
+    return [it for it in all_edits_of(crate) if it.kind != "clause"]
+
+
+def all_edits_of(crate):
     return [Edit(path, crate) for path in claims.edit_files(crate)]
 
 
 def crates_with_edits():
-    """The crates that have wrong bodies or a record of some, lowest first. Folders of no crate stand at the end."""
-    there = {it.parts[-3] for it in (TOP / "crates").glob("*/must-fail/*.edit")}
-    there |= {it.parent.name for it in (TOP / "wrong-bodies").glob("*/*")}
-    return [it for it in ROWS if it in there] + sorted(there - set(ROWS))
+    """The crates that have wrong bodies of a clause or a record of some, lowest first. Folders of no crate stand at the end."""
+    folders = {it.parent.name for it in (TOP / "wrong-bodies").glob("*/*")}
+    there = {it for it in ROWS if edits_of(it) or (TOP / "wrong-bodies" / it / "TRIED").is_file()}
+    return [it for it in ROWS if it in there] + sorted(folders - set(ROWS))
 
 
 class Record:

@@ -18,8 +18,15 @@ type dialing struct {
 
 // connected returns the connection, which is made first where there is none.
 func (j *Journal) connected(deadline time.Time) (*connection, error) {
-	j.mu.Lock()
-	for j.connection == nil {
+	for {
+		if c := j.connection.Load(); c != nil {
+			return c, nil
+		}
+		j.mu.Lock()
+		if j.connection.Load() != nil {
+			j.mu.Unlock()
+			continue
+		}
 		attempt, isMine := j.dialing, j.dialing == nil
 		if isMine {
 			attempt = &dialing{done: make(chan struct{})}
@@ -29,10 +36,7 @@ func (j *Journal) connected(deadline time.Time) (*connection, error) {
 		if err := j.await(attempt, isMine, deadline); err != nil {
 			return nil, err
 		}
-		j.mu.Lock()
 	}
-	defer j.mu.Unlock()
-	return j.connection, nil
 }
 
 // await waits for a connection to be made, or makes it.
@@ -42,7 +46,8 @@ func (j *Journal) await(attempt *dialing, isMine bool, deadline time.Time) error
 		hasLost := false
 		j.mu.Lock()
 		if err == nil {
-			j.connection, hasLost = made, j.promises.meet(disk)
+			hasLost = j.promises.meet(disk)
+			j.connection.Store(made)
 		}
 		j.dialing, attempt.err = nil, err
 		j.mu.Unlock()
@@ -72,7 +77,11 @@ func (j *Journal) dial(deadline time.Time) (*connection, Disk, error) {
 	if err != nil {
 		return nil, Disk{}, &failure{ErrNoPort, err}
 	}
-	made := newConnection(socket, &j.untold, &j.promises)
+	made, err := newConnection(socket, &j.untold, &j.promises)
+	if err != nil {
+		socket.Close()
+		return nil, Disk{}, &failure{ErrNoPort, err}
+	}
 	disk, err := made.greet(version, deadline)
 	if err == OtherVersion {
 		disk, err = made.greet(firstVersion, deadline)
@@ -87,12 +96,12 @@ func (j *Journal) dial(deadline time.Time) (*connection, Disk, error) {
 	return made, disk, err
 }
 
-// greet greets in a version. It returns OtherVersion where that is not spoken, and the connection is
-// as it was.
+// greet greets in a version. It returns OtherVersion where that is not spoken, and the connection
+// is as it was.
 func (c *connection) greet(version uint32, deadline time.Time) (disk Disk, err error) {
 	hello := newRequest(opHello, wordBytes).word(version)
 	greeting := newCall(opHello, func(a *answer) { disk = a.disk(version) })
-	if !c.ask(hello, greeting, left(deadline)) {
+	if !c.ask(greeting, left(deadline), hello) {
 		return disk, &failure{ErrNoPort, net.ErrClosed}
 	}
 	return disk, greeting.err
@@ -142,11 +151,7 @@ func isOver(deadline time.Time) bool {
 // forget drops a connection that is of no more use.
 func (j *Journal) forget(over *connection) {
 	over.end(&failure{ErrLost, net.ErrClosed})
-	j.mu.Lock()
-	defer j.mu.Unlock()
-	if j.connection == over {
-		j.connection = nil
-	}
+	j.connection.CompareAndSwap(over, nil)
 }
 
 // ask asks the port, and reads what stands behind the operation of its answer by decode.
@@ -158,7 +163,7 @@ func (j *Journal) ask(r request, decode func(*answer)) error {
 func (j *Journal) askNoting(r request, decode func(*answer), note func()) error {
 	mine := newCall(r.operation(), decode)
 	mine.note = note
-	err := j.askFor(r, mine)
+	err := j.askFor(mine, r)
 	mine.decode, mine.note = nil, nil
 	calls.Put(mine)
 	return err
@@ -175,19 +180,16 @@ func (j *Journal) askSecond(r request, decode func(*answer)) error {
 	return j.ask(r, decode)
 }
 
-// askFor asks the port for a call. A connection that the port ended since the last call is made
-// again first: nothing was sent yet, so nothing is sent twice.
-func (j *Journal) askFor(r request, mine *call) error {
-	if len(r) > maxRecord+lengthBytes {
-		return TooLarge
-	}
+// askFor asks the port. A connection that the port ended since the last call is made again first:
+// nothing was sent yet, so nothing is sent twice.
+func (j *Journal) askFor(mine *call, pieces ...[]byte) error {
 	deadline := j.deadline()
 	for {
 		over, err := j.connected(deadline)
 		if err != nil {
 			return err
 		}
-		if over.ask(r, mine, left(deadline)) {
+		if over.ask(mine, left(deadline), pieces...) {
 			return mine.err
 		}
 		j.forget(over)

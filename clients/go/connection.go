@@ -3,8 +3,6 @@ package jnl
 import (
 	"encoding/binary"
 	"errors"
-	"fmt"
-	"io"
 	"net"
 	"runtime"
 	"sync"
@@ -16,51 +14,66 @@ import (
 const (
 	lengthBytes = 4
 	// So many bytes of records wait for the socket. A call that finds more there waits too.
-	mostHeld   = 1 << 18
-	pieceBytes = 1 << 16
+	mostHeld = 1 << 18
+	// A record is written with those before it once there are so many bytes. The port works on a
+	// piece while the next one is made. But commits that wait are one group of the log only where
+	// they come at once.
+	pieceBytes       = 1 << 13
+	stablePieceBytes = 1 << 15
+	// So many bytes are received at once.
+	receivedBytes = 1 << 16
 )
 
 // call is a request that has no answer yet, or that was answered and nobody has seen so.
 type call struct {
 	operation uint32
+	isStable  bool // a commit that waits until it is stable
+	isFlight  bool
+	isWaiting bool          // its goroutine is to be woken. With the lock of the connection
+	number    uint64        // its place among the calls of the connection, from 0
 	decode    func(*answer) // nil for a commit, whose receipt is kept
+	note      func()        // called once the answer was read; may be nil
 	receipt   Receipt
 	err       error
-	isStable  bool   // a commit that waits
-	note      func() // called once the answer was read; may be nil
-	// Who answers a call of one goroutine wakes it: there is room for one, so it never waits. That
-	// of a flight is nil: it is done once isDone is 1, which is told to all flights at once.
-	done   chan struct{}
-	isDone uint32
+	wake      chan struct{} // has room for one, so nobody waits to wake it. Nil until one waits
+	next      *call         // the goroutine of which is woken after that of this one
 }
 
-func (c *call) isFlight() bool {
-	return c.done == nil
-}
-
-var calls = sync.Pool{New: func() any { return &call{done: make(chan struct{}, 1)} }}
+var calls = sync.Pool{New: func() any { return &call{wake: make(chan struct{}, 1)} }}
 
 func newCall(operation uint32, decode func(*answer)) *call {
 	made := calls.Get().(*call)
-	made.operation, made.decode, made.receipt, made.err = operation, decode, Receipt{}, nil
-	made.isStable, made.note = false, nil
+	*made = call{operation: operation, decode: decode, wake: made.wake}
 	return made
 }
 
-// connection is a connection, and the calls that have no answer yet, in the order of their records.
+// connection is a connection, and the calls that have no answer yet.
 //
-// A goroutine that calls writes what is held of all, unless another one writes. One goroutine of
-// its own reads, so that the port is rid of its answers while it is written to.
+// Goroutines that call write and read themselves: to hand a piece to another goroutine takes longer
+// than to write or read it. One at a time writes what is held of all. Of those that wait for an
+// answer one reads for all, until its own is there. It then leaves that to another one that waits.
+// While nobody waits, nobody reads, unless the socket takes no more records.
 type connection struct {
 	socket net.Conn
+	raw    syscall.RawConn
+
+	// So many calls were answered, or have met the end. It is stored with the lock.
+	answered atomic.Uint64
 
 	mu        sync.Mutex // of what follows
-	calls     []*call
-	held      []byte // records that are not written yet
-	spare     []byte // the room of those that were written
-	isWriting bool
+	calls     queue
+	held      []byte    // records that are not written yet
+	spare     []byte    // the room of those that were written
+	isDue     bool      // a goroutine is about to write
+	isWriting bool      // a goroutine writes
+	isBlocked bool      // the socket takes no more, or never will
+	isReading bool      // a goroutine reads, or is woken to. It alone uses received and used then
+	received  []byte    // what came, of which no answer is there whole
+	used      int       // so many bytes of it
+	waiting   int       // so many goroutines wait
+	woken     *call     // the first of those to be woken once the lock is free; each wakes the next
+	lastWoken *call     // of these
 	hasRoom   sync.Cond // told where less is held, and where the connection ends
-	hasDone   sync.Cond // told where flights are done
 	// The session has ended: the next call makes another connection.
 	isOver bool
 	err    error // why the connection has ended
@@ -68,39 +81,58 @@ type connection struct {
 	untold *int64
 	// What the Journal was told of commits.
 	promises *promises
-
-	answered []*call // of the goroutine that reads: whom it wakes
 }
 
-func newConnection(socket net.Conn, untold *int64, told *promises) *connection {
-	c := &connection{socket: socket, untold: untold, promises: told}
-	c.hasRoom.L, c.hasDone.L = &c.mu, &c.mu
-	go c.read()
-	return c
-}
-
-// isUsable says whether a call may go over the connection, with its lock held. One that owes no
-// answer must be quiet.
-func (c *connection) isUsable() bool {
-	if c.err != nil || len(c.calls) > 0 {
-		return c.err == nil
+func newConnection(socket net.Conn, untold *int64, told *promises) (*connection, error) {
+	raw, err := socket.(syscall.Conn).SyscallConn()
+	if err != nil {
+		return nil, err
 	}
-	return !c.isOver && isQuiet(c.socket)
+	c := &connection{socket: socket, raw: raw, untold: untold, promises: told}
+	c.received = make([]byte, receivedBytes)
+	c.hasRoom.L = &c.mu
+	return c, nil
 }
 
-// ask sends a request and waits for its answer. It returns false where the connection is of no more
-// use, and nothing was sent. After the limit of time, unless that is 0, the connection ends.
-func (c *connection) ask(r request, mine *call, limit time.Duration) bool {
+// ask sends a request, by a record in pieces, and waits for its answer. It returns false where the
+// connection is of no more use, and nothing was sent. After the limit of time, unless that is 0,
+// the connection ends.
+func (c *connection) ask(mine *call, limit time.Duration, pieces ...[]byte) bool {
 	if limit > 0 {
 		defer c.endAfter(limit).Stop()
 	}
-	if isHeld, _ := c.hold(r, mine); !isHeld {
+	if !c.hold(mine, pieces) {
 		return false
 	}
-	// Others that are about to call do so first, so that many records are written at once.
-	runtime.Gosched()
-	c.push()
-	<-mine.done
+	switch {
+	case c.isEnough(mine):
+		c.isWriting = true
+		c.mu.Unlock()
+		c.writeHeld()
+	case c.isDue || c.isWriting:
+		c.mu.Unlock() // that goroutine writes this record too
+	default:
+		c.isDue = true
+		c.mu.Unlock()
+		// Others that are about to call do so first, so that many records are written at once.
+		runtime.Gosched()
+		c.push()
+	}
+	c.await(mine)
+	return true
+}
+
+// submit sends a request as ask does, and does not wait. The record may only be held.
+func (c *connection) submit(mine *call, pieces ...[]byte) bool {
+	if !c.hold(mine, pieces) {
+		return false
+	}
+	writes := c.isEnough(mine)
+	c.isWriting = c.isWriting || writes
+	c.mu.Unlock()
+	if writes {
+		c.writeHeld()
+	}
 	return true
 }
 
@@ -108,49 +140,92 @@ func (c *connection) endAfter(limit time.Duration) *time.Timer {
 	return time.AfterFunc(limit, func() { c.end(&failure{ErrLost, errTimedOut}) })
 }
 
-// hold adds a record to those that are held. It returns whether it did, which it does not where the
-// connection is of no more use, and whether so much is held that it is to be written.
-func (c *connection) hold(r request, mine *call) (isHeld, isMuch bool) {
-	binary.BigEndian.PutUint32(r, uint32(len(r)-lengthBytes))
+// hold adds the record of a call, in pieces, to those that are held. It returns false where the
+// connection is of no more use; or else with the lock.
+func (c *connection) hold(mine *call, pieces [][]byte) bool {
+	size := 0
+	for _, each := range pieces {
+		size += len(each)
+	}
 	c.mu.Lock()
-	defer c.mu.Unlock()
 	for len(c.held) > mostHeld && c.err == nil {
 		c.hasRoom.Wait()
 	}
-	if !c.isUsable() {
-		return false, false
+	// Flights that are written at once are held without a call of the system for each.
+	if !c.isUsable(!mine.isFlight || len(c.held) == 0) {
+		c.unlockAndWake()
+		return false
 	}
-	mine.isStable = mine.operation == opCommit && r.waits()
-	c.calls = append(c.calls, mine)
-	c.held = append(c.held, r...)
-	return true, len(c.held) >= pieceBytes/2
+	c.calls.add(mine)
+	c.held = binary.BigEndian.AppendUint32(c.held, uint32(size))
+	for _, each := range pieces {
+		c.held = append(c.held, each...)
+	}
+	return true
 }
 
-// push writes what is held, unless another goroutine writes: that one sees to it. What is held
-// meanwhile is for another goroutine, so that no call waits for the records of others.
+// isUsable says whether a call may go over the connection, with its lock held. One that owes no
+// answer must be quiet. The end of another one is found by who reads; where nobody does, looks says
+// whether that is done here, after the answers that came before it.
+func (c *connection) isUsable(looks bool) bool {
+	for looks && !c.isReading && c.calls.len() > 0 && !c.isQuiet() {
+		n, err := c.socket.Read(c.received[c.used:])
+		c.takeIn(n, err)
+	}
+	if c.err != nil || c.calls.len() > 0 {
+		return c.err == nil
+	}
+	return !c.isOver && c.isQuiet()
+}
+
+// isQuiet says whether the port has neither ended the connection nor sent what was not read yet.
+func (c *connection) isQuiet() bool {
+	var found error
+	err := c.raw.Control(func(fd uintptr) {
+		var byte1 [1]byte
+		_, _, found = syscall.Recvfrom(int(fd), byte1[:], syscall.MSG_PEEK|syscall.MSG_DONTWAIT)
+	})
+	return err == nil && errors.Is(found, syscall.EAGAIN)
+}
+
+// isEnough says whether the goroutine of a call is to write what is held at once.
+func (c *connection) isEnough(mine *call) bool {
+	least := pieceBytes
+	if mine.isStable {
+		least = stablePieceBytes
+	}
+	return !c.isWriting && len(c.held) >= least
+}
+
+// push writes what is held, unless another goroutine writes: that one sees to it.
 func (c *connection) push() {
 	c.mu.Lock()
-	isMine := !c.isWriting && len(c.held) > 0
-	c.isWriting = c.isWriting || isMine
+	writes := !c.isWriting && len(c.held) > 0
+	c.isDue, c.isWriting = false, c.isWriting || writes
 	c.mu.Unlock()
-	if isMine {
+	if writes {
 		c.writeHeld()
 	}
 }
 
+// writeHeld writes what is held, where nobody else does. What is held meanwhile is for another
+// goroutine, so that no call waits for the records of others.
 func (c *connection) writeHeld() {
 	c.mu.Lock()
 	records := c.held
 	c.held, c.spare = c.spare[:0], nil
 	c.hasRoom.Broadcast()
 	c.mu.Unlock()
-	if _, err := c.socket.Write(records); err != nil {
-		// The answers that came before the end are read first: who reads finds the end too.
-		c.closeWriting()
-		return
-	}
+	err := c.write(records)
 	c.mu.Lock()
 	defer c.mu.Unlock()
+	if err != nil {
+		// The answers that came before the end are read first: who reads finds the end too.
+		c.closeWriting()
+		c.isBlocked = true
+		c.readAside()
+		return
+	}
 	if cap(records) <= 2*mostHeld {
 		c.spare = records
 	}
@@ -158,6 +233,39 @@ func (c *connection) writeHeld() {
 	if c.isWriting {
 		go c.writeHeld()
 	}
+}
+
+// write writes records. While the socket takes none, answers are read: a port that cannot be rid of
+// them takes no further request.
+func (c *connection) write(records []byte) error {
+	n, err := c.writeNow(records)
+	if n == len(records) || err != nil {
+		return err
+	}
+	c.mu.Lock()
+	c.isBlocked = true
+	c.readAside()
+	c.mu.Unlock()
+	_, err = c.socket.Write(records[n:])
+	c.mu.Lock()
+	c.isBlocked = false
+	c.mu.Unlock()
+	return err
+}
+
+// writeNow writes what the socket takes at once, and returns how many bytes it took.
+func (c *connection) writeNow(records []byte) (n int, err error) {
+	closed := c.raw.Write(func(fd uintptr) bool {
+		n, err = syscall.Write(int(fd), records)
+		return true
+	})
+	switch {
+	case closed != nil:
+		return 0, closed
+	case err == syscall.EAGAIN || err == syscall.EINTR:
+		return 0, nil
+	}
+	return n, err
 }
 
 // closeWriting ends a connection that takes no more bytes, once all that came before was read.
@@ -168,167 +276,31 @@ func (c *connection) closeWriting() {
 	c.socket.SetReadDeadline(time.Now())
 }
 
-// read gives answers to the calls until the connection ends.
-func (c *connection) read() {
-	buffer, used := make([]byte, pieceBytes), 0
-	for {
-		n, err := c.socket.Read(buffer[used:])
-		used += n
-		rest, wrong := c.settle(buffer[:used])
-		if wrong == nil && err != nil {
-			wrong = &failure{ErrLost, endOf(err)}
-		}
-		if wrong != nil {
-			c.end(wrong)
-			return
-		}
-		buffer, used = moveTo(buffer, rest)
-	}
-}
-
-// endOf is why a connection has ended that was read to its end.
-func endOf(err error) error {
-	if errors.Is(err, io.EOF) {
-		return io.ErrUnexpectedEOF
-	}
-	return err
-}
-
-// moveTo moves the bytes of an answer that is not there whole to the front of the buffer, which has
-// room for all of it.
-func moveTo(buffer, rest []byte) ([]byte, int) {
-	if len(rest) >= lengthBytes {
-		if size := lengthBytes + int(binary.BigEndian.Uint32(rest)); size > len(buffer) {
-			buffer = make([]byte, size)
-		}
-	}
-	return buffer, copy(buffer, rest)
-}
-
-// settle answers the calls whose answers are there whole, and returns the bytes behind them. It
-// wakes them at last, when all are known to be as they should.
-func (c *connection) settle(came []byte) ([]byte, error) {
-	c.mu.Lock()
-	var err error
-	answered := 0
-	for err == nil {
-		record, rest, wrong := nextRecord(came)
-		if record == nil && wrong == nil {
-			break
-		}
-		if wrong == nil && answered == len(c.calls) {
-			wrong = fmt.Errorf("%w: an answer that nobody asked for", ErrProtocol)
-		}
-		if wrong == nil {
-			wrong = c.settleOne(c.calls[answered], record)
-		}
-		if err = wrong; err == nil {
-			came = rest
-			answered++
-		}
-	}
-	if err != nil {
-		c.err = err
-	}
-	c.answered = c.answered[:0]
-	for _, each := range c.calls[:answered] {
-		if !each.finish() {
-			c.answered = append(c.answered, each)
-		}
-	}
-	c.calls = c.calls[:copy(c.calls, c.calls[answered:])]
-	c.hasDone.Broadcast()
-	c.mu.Unlock()
-	for _, each := range c.answered {
-		each.done <- struct{}{}
-	}
-	return came, err
-}
-
-// finish notes that a flight is done. It returns false for any other call.
-func (c *call) finish() bool {
-	if c.isFlight() {
-		atomic.StoreUint32(&c.isDone, 1)
-	}
-	return c.isFlight()
-}
-
-// await waits until a flight is done.
-func (c *connection) await(flight *call) {
-	c.mu.Lock()
-	defer c.mu.Unlock()
-	for atomic.LoadUint32(&flight.isDone) == 0 {
-		c.hasDone.Wait()
-	}
-}
-
-// settleOne answers a call. It returns an error where the answer is none of the protocol.
-func (c *connection) settleOne(of *call, record []byte) error {
-	of.err = (&answer{rest: record}).judge(of)
-	c.noteAnswer(of)
-	if of.err == nil {
-		return nil
-	}
-	var refusal Refusal
-	if errors.As(of.err, &refusal) && refusal.endsSession() {
-		c.isOver = true
-	}
-	if errors.Is(of.err, ErrProtocol) {
-		return of.err
-	}
-	return nil
-}
-
-// noteAnswer notes what an answer says of commits. No other connection is made before that.
-func (c *connection) noteAnswer(of *call) {
-	var unsure *Unsure
-	switch {
-	case errors.As(of.err, &unsure):
-		c.promises.noteCommit(unsure.Receipt, false)
-	case of.err == nil && of.operation == opCommit:
-		c.promises.noteCommit(of.receipt, of.isStable)
-	case of.err == nil && of.note != nil:
-		of.note()
-	}
-}
-
-// nextRecord returns the first record of some bytes, and those behind it; or no record, where it is
-// not there whole.
-func nextRecord(came []byte) (record, rest []byte, err error) {
-	if len(came) < lengthBytes {
-		return nil, came, nil
-	}
-	size := int(binary.BigEndian.Uint32(came))
-	if size > maxRecord {
-		return nil, nil, fmt.Errorf("%w: an answer is too long", ErrProtocol)
-	}
-	if len(came) < lengthBytes+size {
-		return nil, came, nil
-	}
-	return came[lengthBytes : lengthBytes+size], came[lengthBytes+size:], nil
-}
-
-// end closes the connection. The first call without an answer has met the reason, and the later
-// ones are lost.
+// end closes the connection.
 func (c *connection) end(reason error) {
 	c.mu.Lock()
-	defer c.mu.Unlock()
+	c.endLocked(reason)
+	c.unlockAndWake()
+}
+
+// endLocked closes the connection, with the lock held. The first call without an answer has met the
+// reason, and the later ones are lost.
+func (c *connection) endLocked(reason error) {
 	if c.err == nil {
 		c.err = reason
 	}
 	c.socket.Close()
-	for _, each := range c.calls {
+	for c.calls.len() > 0 {
+		each := c.calls.take()
 		each.err = reason
 		reason = lossAfter(reason)
-		if each.finish() {
+		if each.isFlight {
 			atomic.AddInt64(c.untold, 1)
-		} else {
-			each.done <- struct{}{}
 		}
+		c.wakeLater(each)
 	}
-	c.calls = nil
+	c.answered.Store(c.calls.added)
 	c.hasRoom.Broadcast()
-	c.hasDone.Broadcast()
 }
 
 // lossAfter is what a call has met whose connection another one has ended.
@@ -338,22 +310,4 @@ func lossAfter(reason error) error {
 		return known
 	}
 	return &failure{ErrLost, errors.New("the answer before it was wrong")}
-}
-
-// isQuiet says whether the port has neither ended the connection nor sent what nobody asked for.
-func isQuiet(socket net.Conn) bool {
-	of, ok := socket.(syscall.Conn)
-	if !ok {
-		return true
-	}
-	raw, err := of.SyscallConn()
-	if err != nil {
-		return false
-	}
-	var found error
-	err = raw.Control(func(fd uintptr) {
-		var byte1 [1]byte
-		_, _, found = syscall.Recvfrom(int(fd), byte1[:], syscall.MSG_PEEK|syscall.MSG_DONTWAIT)
-	})
-	return err == nil && errors.Is(found, syscall.EAGAIN)
 }

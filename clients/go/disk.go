@@ -1,6 +1,9 @@
 package jnl
 
-import "sync"
+import (
+	"sync"
+	"sync/atomic"
+)
 
 const (
 	maxRegions  = 8
@@ -27,38 +30,53 @@ type Disk struct {
 
 // bitsOf returns how many bits the objects of a block have, or 0 where it has none.
 func (d *Disk) bitsOf(block uint64) uint32 {
-	var bits uint32
-	if block >= d.Blocks {
-		return 0
-	}
-	for _, r := range d.Regions {
-		if r.First <= block {
-			bits = r.Bits
+	for i := len(d.Regions) - 1; i >= 0 && block < d.Blocks; i-- {
+		if d.Regions[i].First <= block {
+			return d.Regions[i].Bits
 		}
 	}
-	return bits
+	return 0
 }
 
-// checkAddress returns BadAddress where an address names no object.
+// objectAt returns how many bits the object at an address has, and whether there is one.
+func (d *Disk) objectAt(a Address) (bits uint32, isOne bool) {
+	bits = d.bitsOf(a.Block)
+	// They are a power of two.
+	return bits, bits != 0 && a.Bit < blockBits && a.Bit&(bits-1) == 0
+}
+
+// checkAddress returns BadAddress where an address names no object. Where the port has told no
+// regions it does not: the port is to find that.
 func (d *Disk) checkAddress(a Address) error {
-	if bits := d.bitsOf(a.Block); bits == 0 || a.Bit >= blockBits || a.Bit%bits != 0 {
+	if _, isOne := d.objectAt(a); !isOne && len(d.Regions) > 0 {
 		return BadAddress
 	}
 	return nil
 }
 
-// check returns BadAddress where an address names no object, or BadSize where it never has the
-// value.
-func (d *Disk) check(o object) error {
-	if err := d.checkAddress(o.address); err != nil {
-		return err
-	}
-	bits, size := d.bitsOf(o.address.Block), len(o.value)
-	isBit := bits == 1 && size == 1 && o.value[0] <= 1
-	if isBit || (bits > 1 && size == int(bits/8)) {
+// check returns what checkAddress does, or BadSize where the object never has the value.
+func (d *Disk) check(a Address, value []byte) error {
+	bits, isOne := d.objectAt(a)
+	isBit := bits == 1 && len(value) == 1 && value[0] <= 1
+	switch {
+	case len(d.Regions) == 0:
+		return nil
+	case !isOne:
+		return BadAddress
+	case isBit || (bits > 1 && len(value) == int(bits/8)):
 		return nil
 	}
 	return BadSize
+}
+
+// checkAll checks each of some objects.
+func (d *Disk) checkAll(of *objects) error {
+	for i := range of.list {
+		if err := d.check(of.list[i].address, of.value(i)); err != nil {
+			return err
+		}
+	}
+	return nil
 }
 
 func (a *answer) region() Region {
@@ -98,27 +116,19 @@ func (a *answer) disk(version uint32) Disk {
 
 // promises is what a client was told of commits of one opening after another.
 type promises struct {
-	mu   sync.Mutex // of what follows
-	disk Disk       // version 0: no greeting was answered yet
+	disk atomic.Pointer[Disk] // nil: no greeting was answered yet. What it points to never changes
+
+	mu sync.Mutex // of what follows
 	// The commits up to the last one that was told, and did not wait or is not known to be stable;
 	// and how many are known to be stable.
 	told, stable uint64
 }
 
-func (p *promises) noteCommit(receipt Receipt, isStable bool) {
+// note notes that so many commits were told, and that so many are known to be stable.
+func (p *promises) note(told, stable uint64) {
 	p.mu.Lock()
 	defer p.mu.Unlock()
-	if isStable {
-		p.stable = max(p.stable, receipt.Commits)
-	} else {
-		p.told = max(p.told, receipt.Commits)
-	}
-}
-
-func (p *promises) noteStable(stable uint64) {
-	p.mu.Lock()
-	defer p.mu.Unlock()
-	p.stable = max(p.stable, stable)
+	p.told, p.stable = max(p.told, told), max(p.stable, stable)
 }
 
 // noteStop notes that a service has ended after a flush.
@@ -128,26 +138,19 @@ func (p *promises) noteStop() {
 	p.stable = max(p.stable, p.told)
 }
 
-// meet notes the disk that a greeting has told. It returns true, once, if it is another opening, and
-// commits of the one before may be gone. Each start of a service of version 1 is taken for the same
-// one, since it does not tell which it is.
+// meet notes the disk that a greeting has told. It returns true, once, if it is another opening,
+// and commits of the one before may be gone. Each start of a service of version 1 is taken for the
+// same one, since it does not tell which it is.
 func (p *promises) meet(d Disk) bool {
 	p.mu.Lock()
 	defer p.mu.Unlock()
-	before := p.disk
-	p.disk = d
-	if before.Version == 0 || (before.Version == d.Version && before.Opening == d.Opening) {
+	before := p.disk.Swap(&d)
+	if before == nil || (before.Version == d.Version && before.Opening == d.Opening) {
 		return false
 	}
 	mayBeGone := p.told > p.stable
 	p.told, p.stable = 0, 0
 	return mayBeGone
-}
-
-func (p *promises) known() Disk {
-	p.mu.Lock()
-	defer p.mu.Unlock()
-	return p.disk
 }
 
 // max is of two numbers, for Go before 1.21.

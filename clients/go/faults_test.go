@@ -69,6 +69,18 @@ func TestEachFaultIsTold(t *testing.T) {
 	}
 }
 
+func TestAnAnswerThatNobodyAskedForEndsTheConnection(t *testing.T) {
+	j := dialFaulty(t)
+	over := j.connection.Load()
+	if err := setBit(j, 12); err != nil {
+		t.Fatal(err)
+	}
+	commits(t, j)
+	if j.connection.Load() == over {
+		t.Error("the connection is the same")
+	}
+}
+
 func TestRunTriesAgainOnlyAtConflicts(t *testing.T) {
 	j := dialFaulty(t)
 	for _, row := range []struct {

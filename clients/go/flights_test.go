@@ -4,6 +4,7 @@ import (
 	"bytes"
 	"errors"
 	"fmt"
+	"net"
 	"os"
 	"sync"
 	"testing"
@@ -307,6 +308,24 @@ func TestALossWhileMoreIsSent(t *testing.T) {
 	}
 }
 
+// TestALossWhileASubmitWaits wants a commit to be lost whose Submit waits for the socket meanwhile.
+func TestALossWhileASubmitWaits(t *testing.T) {
+	j := dialFaulty(t)
+	// The port reads nothing while it answers this one.
+	flights := []*Flight{submit(j, Address{514, 15}, []byte{1})}
+	j.connection.Load().push()
+	time.AfterFunc(500*time.Millisecond, func() { j.Close() })
+	for i := 0; i < many/10; i++ {
+		flights = append(flights, submit(j, Address{540, 0}, make([]byte, maxValue)))
+	}
+	for i, each := range flights {
+		if _, err := end(t, each); !errors.Is(err, ErrLost) {
+			t.Errorf("%d: %v", i, err)
+		}
+	}
+	commits(t, j)
+}
+
 // TestALimitEndsAllInFlight wants each call to end after the limit of time.
 func TestALimitEndsAllInFlight(t *testing.T) {
 	path := os.Getenv("JNL_FAULTY_SOCKET")
@@ -342,7 +361,7 @@ func TestCloseEndsAllInFlight(t *testing.T) {
 			t.Fatal(err)
 		}
 		over.mu.Lock()
-		isWaiting = len(over.calls) > 0 && len(over.held) == 0
+		isWaiting = over.calls.len() > 0 && len(over.held) == 0
 		over.mu.Unlock()
 	}
 	j.Close()
@@ -350,4 +369,83 @@ func TestCloseEndsAllInFlight(t *testing.T) {
 		t.Errorf("%v", err)
 	}
 	commits(t, j)
+}
+
+// TestAnEndIsFoundBeforeASubmit wants a commit to go over a new connection where the port has ended
+// the one before, and nobody has read that yet, nor the answers before it.
+func TestAnEndIsFoundBeforeASubmit(t *testing.T) {
+	j, flights := dialFaulty(t), []*Flight{}
+	over := j.connection.Load()
+	for _, bit := range []uint32{freeBit, 0} {
+		flights = append(flights, submit(j, Address{514, bit}, []byte{1}))
+	}
+	over.push()
+	time.Sleep(200 * time.Millisecond)
+	for i, each := range append(flights, submit(j, Address{514, freeBit}, []byte{1})) {
+		if _, err := end(t, each); err != nil {
+			t.Errorf("%d: %v", i, err)
+		}
+	}
+	if j.connection.Load() == over {
+		t.Error("the connection is the same")
+	}
+}
+
+// TestAnEndIsFoundBeforeACall wants a call to go over a new connection, though a flight is held for
+// the one that has ended.
+func TestAnEndIsFoundBeforeACall(t *testing.T) {
+	j := dial(t)
+	flight := submit(j, Address{514, freeBit}, []byte{1})
+	if err := j.connection.Load().socket.(*net.UnixConn).CloseRead(); err != nil {
+		t.Fatal(err)
+	}
+	commits(t, j)
+	if _, err := end(t, flight); !errors.Is(err, ErrLost) {
+		t.Errorf("%v", err)
+	}
+}
+
+// TestATxIsUsedAgain wants a flight to be as its Tx was when it was submitted.
+func TestATxIsUsedAgain(t *testing.T) {
+	j, first, flights := dial(t), Address{526, 26624}, []*Flight{}
+	tx := j.Begin()
+	for i := uint64(0); i < inFlights; i++ {
+		tx.Reset()
+		if _, err := tx.Read(Address{526, 24576}); err != nil {
+			t.Fatal(err)
+		}
+		tx.Write(first, valueOf(i))
+		tx.Write(Address{527, 1024 * uint32(8+i%16)}, valueOf(i))
+		flights = append(flights, tx.Submit(Durability(i%16 == 0)))
+	}
+	for i, each := range flights {
+		if _, err := end(t, each); err != nil {
+			t.Errorf("%d: %v", i, err)
+		}
+	}
+	for i := uint64(inFlights - 16); i < inFlights; i++ {
+		if found := readOne(t, j, Address{527, 1024 * uint32(8+i%16)}); !bytes.Equal(found, valueOf(i)) {
+			t.Errorf("%d: %v", i, found)
+		}
+	}
+	if tx.Reset(); len(tx.reads.list)+len(tx.writes.list) > 0 {
+		t.Error("a Tx that began anew has objects")
+	}
+}
+
+// TestManyGoroutinesWaitForFlights has goroutines wait for flights of others, in no order.
+func TestManyGoroutinesWaitForFlights(t *testing.T) {
+	j, errs := dial(t), make(chan error, 4*inFlights)
+	for i := 0; i < 4*inFlights; i++ {
+		flight := submit(j, Address{526, 25600}, valueOf(uint64(i)))
+		go func() {
+			_, err := end(t, flight)
+			errs <- err
+		}()
+	}
+	for i := 0; i < 4*inFlights; i++ {
+		if err := <-errs; err != nil {
+			t.Error(err)
+		}
+	}
 }

@@ -16,9 +16,9 @@
 // answers of others, so as many requests are in flight as there are calls. One that the port has
 // ended, for its silence or with the service, is made again by the next call. Where the service was
 // started again in between, and commits of the Journal may be gone, that call returns ErrRestarted.
-// Where the connection is lost, each call without an answer returns ErrLost, in the order in which they were sent. Those
-// commits that were done, if any, are the first ones of these. A Tx is for one goroutine at a time,
-// which has many commits in flight by Tx.Submit.
+// Where the connection is lost, each call without an answer returns ErrLost. Those commits that
+// were done, if any, are the first ones of these, in the order in which they were sent. A Tx is for
+// one goroutine at a time, which has many commits in flight by Tx.Submit.
 //
 // No host serves this module: its go.mod says how a program uses it.
 package jnl
@@ -27,6 +27,7 @@ import (
 	"math/rand"
 	"net"
 	"sync"
+	"sync/atomic"
 	"time"
 )
 
@@ -42,9 +43,9 @@ const (
 // Address is an object: its block, and its first bit there.
 //
 // Blocks 0 to 512 are the journal's own. What the others have follows from the regions of the disk
-// (Journal.Disk). On a disk that was created without any block 514 has bits, at each bit below 32768, each a byte 0 or 1.
-// Blocks 515 to 530 have objects of 128 bytes, at multiples of 1024. Blocks 513, and 531 to the
-// last, are objects of 4096 bytes, at bit 0.
+// (Journal.Disk). Where none were named when the disk was created, block 514 has bits, at each bit
+// below 32768, each a byte 0 or 1. Blocks 515 to 530 have objects of 128 bytes, at multiples of
+// 1024. Blocks 513, and 531 to the last, are objects of 4096 bytes, at bit 0.
 type Address struct {
 	Block uint64
 	Bit   uint32
@@ -83,9 +84,10 @@ type Journal struct {
 
 	network, address string
 
-	mu         sync.Mutex  // of what follows
-	connection *connection // nil: not connected
-	dialing    *dialing    // nil: no connection is being made
+	connection atomic.Pointer[connection] // nil: not connected
+
+	mu      sync.Mutex // of what follows
+	dialing *dialing   // nil: no connection is being made
 
 	promises promises
 }
@@ -109,11 +111,8 @@ func DialTimeout(network, address string, timeout time.Duration) (*Journal, erro
 // Close closes the connection. Calls without an answer return ErrLost. A later call makes another
 // connection.
 func (j *Journal) Close() error {
-	j.mu.Lock()
-	defer j.mu.Unlock()
-	if j.connection != nil {
-		j.connection.end(&failure{ErrLost, net.ErrClosed})
-		j.connection = nil
+	if c := j.connection.Swap(nil); c != nil {
+		c.end(&failure{ErrLost, net.ErrClosed})
 	}
 	return nil
 }
@@ -125,53 +124,52 @@ func (j *Journal) Blocks() uint64 {
 
 // Disk returns the disk, as the port told it when the connection was made last.
 func (j *Journal) Disk() Disk {
-	return j.promises.known()
+	return *j.promises.disk.Load()
 }
 
 // isCurrent says whether the disk is known as the port has it now: the port has not ended the
 // connection.
 func (j *Journal) isCurrent() bool {
-	j.mu.Lock()
-	c := j.connection
-	j.mu.Unlock()
+	c := j.connection.Load()
 	if c == nil {
 		return false
 	}
 	c.mu.Lock()
-	defer c.mu.Unlock()
-	return c.isUsable()
+	defer c.unlockAndWake()
+	return c.isUsable(true)
 }
 
-// refuse returns what a look at the disk has found, unless the port has told no regions. One that
-// may be another by now is to say so itself.
-func (j *Journal) refuse(look func(*Disk) error) error {
-	d := j.Disk()
-	if len(d.Regions) == 0 {
-		return nil
-	}
-	if err := look(&d); err != nil && j.isCurrent() {
-		return err
+// refuse returns what a look at the disk has found. A disk that may be another by now is to say so
+// itself.
+func (j *Journal) refuse(found error) error {
+	if found != nil && j.isCurrent() {
+		return found
 	}
 	return nil
 }
 
-// checkParts refuses a commit of objects that the disk does not have.
-func (j *Journal) checkParts(lists ...*objects) error {
-	return j.refuse(func(d *Disk) error {
-		for _, list := range lists {
-			for _, o := range list.list {
-				if err := d.check(o); err != nil {
-					return err
-				}
-			}
-		}
-		return nil
-	})
+// checkCommit refuses a commit of what no record can hold, or of objects that the disk does not
+// have.
+func (j *Journal) checkCommit(compared, written *objects) error {
+	switch {
+	case len(compared.list)+len(written.list) > maxParts:
+		return TooLarge
+	case compared.longest() > maxValue || written.longest() > maxValue:
+		return BadSize
+	case commitBytes+len(compared.parts)+len(written.parts) > maxRecord:
+		return TooLarge
+	}
+	disk := j.promises.disk.Load()
+	err := disk.checkAll(compared)
+	if err == nil {
+		err = disk.checkAll(written)
+	}
+	return j.refuse(err)
 }
 
 // Begin returns a transaction that has done nothing.
 func (j *Journal) Begin() *Tx {
-	return &Tx{journal: j}
+	return &Tx{journal: j, reads: objects{action: compare}, writes: objects{action: write}}
 }
 
 // Run runs the work in a transaction and commits it, again after a pause where it meets a conflict,
@@ -213,21 +211,18 @@ func (j *Journal) Read(addresses ...Address) ([][]byte, error) {
 	if len(addresses) > maxAddresses {
 		return nil, TooLarge
 	}
-	err := j.refuse(func(d *Disk) (err error) {
-		for i := 0; i < len(addresses) && err == nil; i++ {
-			err = d.checkAddress(addresses[i])
+	disk := j.promises.disk.Load()
+	for _, a := range addresses {
+		if err := j.refuse(disk.checkAddress(a)); err != nil {
+			return nil, err
 		}
-		return err
-	})
-	if err != nil {
-		return nil, err
 	}
 	r := newRequest(opRead, wordBytes+len(addresses)*addressBytes).word(uint32(len(addresses)))
 	for _, a := range addresses {
 		r = r.address(a)
 	}
 	var values [][]byte
-	err = j.ask(r, func(a *answer) {
+	err := j.ask(r, func(a *answer) {
 		if a.word() != uint32(len(addresses)) {
 			a.fail("there are not as many values as addresses")
 		}
@@ -246,14 +241,14 @@ func (j *Journal) Read(addresses ...Address) ([][]byte, error) {
 // returns ErrRestarted, as each call does.
 func (j *Journal) Flush() (stable uint64, err error) {
 	err = j.askNoting(newRequest(opFlush, 0), func(a *answer) { stable = a.hyper() },
-		func() { j.promises.noteStable(stable) })
+		func() { j.promises.note(0, stable) })
 	return stable, err
 }
 
 // Stat returns how many commits there are, and how many of them are stable at least.
 func (j *Journal) Stat() (stat Stat, err error) {
 	err = j.askNoting(newRequest(opStat, 0), func(a *answer) { stat = Stat{a.hyper(), a.hyper()} },
-		func() { j.promises.noteStable(stat.Stable) })
+		func() { j.promises.note(0, stat.Stable) })
 	return stat, err
 }
 
@@ -278,8 +273,8 @@ func (j *Journal) Counters() (map[uint32]uint64, error) {
 	return found, nil
 }
 
-// Scan returns the bits of a block that have a value, from a bit on, ascending, at most so many. All
-// bits are as they are at one moment. It returns BadAddress where the block has no bits, or the
+// Scan returns the bits of a block that have a value, from a bit on, ascending, at most so many.
+// All bits are as they are at one moment. It returns BadAddress where the block has no bits, or the
 // first one is above 32767, and OtherVersion, with nothing sent, where the port's version is 1.
 func (j *Journal) Scan(block uint64, first uint32, value bool, most int) ([]uint32, error) {
 	if most > blockBits {
@@ -304,18 +299,16 @@ func (j *Journal) Scan(block uint64, first uint32, value bool, most int) ([]uint
 }
 
 func (j *Journal) commit(durability Durability, compared, written *objects) (Receipt, error) {
-	r, err := spellCommit(durability, compared, written)
-	if err == nil {
-		err = j.checkParts(compared, written)
-	}
-	if err != nil {
+	if err := j.checkCommit(compared, written); err != nil {
 		return Receipt{}, err
 	}
 	mine := newCall(opCommit, nil)
-	err = j.askFor(r.request, mine)
+	mine.isStable = bool(durability)
+	var room [commitBytes]byte
+	head := headOf(room[:0], durability, compared, written)
+	err := j.askFor(mine, head, compared.parts, written.parts)
 	receipt := mine.receipt
 	calls.Put(mine)
-	r.drop()
 	if err != nil {
 		return Receipt{}, err
 	}

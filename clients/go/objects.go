@@ -1,23 +1,35 @@
 package jnl
 
 const (
-	// fewObjects are looked up one by one, and more by an index.
+	// More objects are looked up by an index, and fewer one by one.
 	fewObjects = 16
-	// Values are kept in rooms of so many bytes at least.
-	leastRoom = 256
+	// Parts have room for so many bytes at least: two objects of 128 bytes.
+	leastRoom = 320
 )
 
+// object is where the value of an object stands in the parts of a record.
 type object struct {
-	address Address
-	value   []byte
+	address    Address
+	from, size int
 }
 
-// objects are values by their addresses, in the order in which these were first set.
+// objects are values by their addresses, in the order in which these were first set. They are kept
+// as the parts of a record, so that a commit copies them once.
 type objects struct {
-	list  []object
-	first [2]object       // the room of the first ones in the list
-	index map[Address]int // nil: there are few
-	room  []byte          // for values
+	action uint32 // of the parts
+	parts  request
+	list   []object
+	first  [2]object       // the room of the first ones in the list
+	index  map[Address]int // nil: there are few
+}
+
+// reset removes all objects. Their room stays, unless it is large.
+func (o *objects) reset() {
+	o.list, o.index = o.list[:0], nil
+	o.parts = o.parts[:0]
+	if cap(o.parts) > mostHeld {
+		o.parts = nil
+	}
 }
 
 // find returns the place of an object in the list, or -1.
@@ -36,37 +48,36 @@ func (o *objects) find(a Address) int {
 	return -1
 }
 
+// value returns the value at a place of the list, until an object is set.
+func (o *objects) value(at int) []byte {
+	found := &o.list[at]
+	return o.parts[found.from : found.from+found.size]
+}
+
+// get returns the value of an object, until one is set.
 func (o *objects) get(a Address) ([]byte, bool) {
 	at := o.find(a)
 	if at < 0 {
 		return nil, false
 	}
-	return o.list[at].value, true
+	return o.value(at), true
 }
 
-// setCopy sets an object to a copy of a value.
-func (o *objects) setCopy(a Address, value []byte) {
-	if len(value) > cap(o.room)-len(o.room) {
-		size := leastRoom
-		if len(value) > size {
-			size = len(value)
-		}
-		o.room = make([]byte, 0, size)
-	}
-	from := len(o.room)
-	o.room = append(o.room, value...)
-	o.set(a, o.room[from:len(o.room):len(o.room)])
-}
-
+// set sets an object to a copy of a value.
 func (o *objects) set(a Address, value []byte) {
 	if at := o.find(a); at >= 0 {
-		o.list[at].value = value
+		o.replace(at, value)
 		return
 	}
 	if o.list == nil {
 		o.list = o.first[:0]
 	}
-	o.list = append(o.list, object{a, value})
+	if o.parts == nil {
+		o.parts = make(request, 0, leastRoom)
+	}
+	o.parts = o.parts.word(o.action).address(a)
+	o.list = append(o.list, object{a, len(o.parts) + wordBytes, len(value)})
+	o.parts = o.parts.value(value)
 	if o.index != nil {
 		o.index[a] = len(o.list) - 1
 	} else if len(o.list) > fewObjects {
@@ -75,4 +86,34 @@ func (o *objects) set(a Address, value []byte) {
 			o.index[each.address] = i
 		}
 	}
+}
+
+// replace sets the object at a place of the list.
+func (o *objects) replace(at int, value []byte) {
+	before := &o.list[at]
+	if len(value) == before.size {
+		copy(o.parts[before.from:], value)
+		return
+	}
+	// One of the two sizes is wrong. The last one counts, and those behind it move.
+	end := before.from + before.size + padding(before.size)
+	behind := clone(o.parts[end:])
+	o.parts = o.parts[:before.from-wordBytes].value(value)
+	moved := len(o.parts) - end
+	o.parts = append(o.parts, behind...)
+	before.size = len(value)
+	for i := at + 1; i < len(o.list); i++ {
+		o.list[i].from += moved
+	}
+}
+
+// longest returns the size of the longest value.
+func (o *objects) longest() int {
+	most := 0
+	for i := range o.list {
+		if size := o.list[i].size; size > most {
+			most = size
+		}
+	}
+	return most
 }

@@ -3,8 +3,8 @@ package jnl
 import "math/rand"
 
 // Pool has free records by the bits of a block: that of a record is 1 where it is in use. It looks
-// once which records are free, and again when it has handed all of them out. It is for one goroutine
-// at a time.
+// once which records are free, and again when it has handed all of them out. It is for one
+// goroutine at a time.
 type Pool struct {
 	journal    *Journal
 	block      uint64
@@ -12,13 +12,14 @@ type Pool struct {
 	free       []uint32
 }
 
-// NewPool returns the pool of the records whose bits are those of a block, from first to before end.
+// NewPool returns the pool of the records whose bits are those of a block, from first to before
+// end.
 func (j *Journal) NewPool(block uint64, first, end uint32) *Pool {
 	return &Pool{journal: j, block: block, first: first, end: end}
 }
 
-// Take takes a record that is free in a transaction: its commit compares the bit with 0 and sets it.
-// Where another one has it by then the commit returns Conflict, and the next try takes another
+// Take takes a record that is free in a transaction: its commit compares the bit with 0 and sets
+// it. Where another one has it by then the commit returns Conflict, and the next try takes another
 // record. It returns ErrNoneFree where none is free.
 func (p *Pool) Take(t *Tx) (uint32, error) {
 	if len(p.free) == 0 {

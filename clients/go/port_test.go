@@ -92,6 +92,33 @@ func TestAValueIsReadAsItWasWritten(t *testing.T) {
 	}
 }
 
+func TestTheLastWriteCounts(t *testing.T) {
+	j, places := dial(t), []Address{{526, 21504}, {526, 22528}, {526, 23552}}
+	tx := j.Begin()
+	for _, size := range []int{128, 5, 7, 128} {
+		for i, place := range places {
+			tx.Write(place, bytes.Repeat([]byte{byte(size + i)}, size))
+		}
+		for i, place := range places {
+			own, err := tx.Read(place)
+			if want := bytes.Repeat([]byte{byte(size + i)}, size); err != nil || !bytes.Equal(own, want) {
+				t.Errorf("object %d of %d bytes: %v %v", i, size, own, err)
+			}
+		}
+	}
+	tx.Write(places[1], valueOf(9))
+	if _, err := tx.Commit(Lazy); err != nil {
+		t.Fatal(err)
+	}
+	first, last := bytes.Repeat([]byte{128}, 128), bytes.Repeat([]byte{130}, 128)
+	found, err := j.Read(places...)
+	for i, want := range [][]byte{first, valueOf(9), last} {
+		if err != nil || !bytes.Equal(found[i], want) {
+			t.Errorf("object %d: %v %v", i, found, err)
+		}
+	}
+}
+
 func TestManyAreReadAtOnce(t *testing.T) {
 	j, one, other, written := dial(t), Address{526, 4096}, Address{526, 5120}, Address{526, 6144}
 	if err := writeOne(j, one, valueOf(1)); err != nil {

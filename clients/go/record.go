@@ -3,7 +3,6 @@ package jnl
 import (
 	"encoding/binary"
 	"fmt"
-	"sync"
 )
 
 // Records as they are spelled. All numbers have their highest byte first.
@@ -16,8 +15,9 @@ const (
 
 	wordBytes    = 4
 	addressBytes = 12
-	// A part without its value: its action, its address and the length.
-	partBytes = 2*wordBytes + addressBytes
+	receiptBytes = 16
+	// A commit without its parts: its operation, whether it waits, and how many parts it has.
+	commitBytes = 3 * wordBytes
 )
 
 const (
@@ -38,12 +38,12 @@ const (
 
 var zeros [wordBytes]byte
 
-// request is a record, with room for its length in front.
+// request is a record without its length, or a piece of one.
 type request []byte
 
 // newRequest returns a record with room for so many bytes behind its operation.
 func newRequest(operation uint32, bytes int) request {
-	return request(make([]byte, lengthBytes, lengthBytes+wordBytes+bytes)).word(operation)
+	return request(make([]byte, 0, wordBytes+bytes)).word(operation)
 }
 
 func (r request) word(n uint32) request {
@@ -61,60 +61,19 @@ func (r request) address(a Address) request {
 	return request(binary.BigEndian.AppendUint64(r, a.Block)).word(a.Bit)
 }
 
-func (r request) part(action uint32, o object) request {
-	r = append(r.word(action).address(o.address).word(uint32(len(o.value))), o.value...)
-	return append(r, zeros[:padding(len(o.value))]...)
+func (r request) value(v []byte) request {
+	r = append(r.word(uint32(len(v))), v...)
+	return append(r, zeros[:padding(len(v))]...)
 }
 
 func (r request) operation() uint32 {
-	return binary.BigEndian.Uint32(r[4:])
+	return binary.BigEndian.Uint32(r)
 }
 
-// waits says whether a commit waits until it is stable.
-func (r request) waits() bool {
-	return binary.BigEndian.Uint32(r[8:]) == 1
-}
-
-// rooms are those of records of commits, which are copied before they are sent.
-var rooms = sync.Pool{New: func() any { return new(spelled) }}
-
-// spelled is a record of a commit in a room that is to be dropped.
-type spelled struct {
-	request request
-}
-
-func (s *spelled) drop() {
-	if cap(s.request) <= mostHeld {
-		rooms.Put(s)
-	}
-}
-
-// spellCommit spells a commit. It returns TooLarge or BadSize for what no record can hold.
-func spellCommit(durability Durability, compared, written *objects) (*spelled, error) {
+// headOf adds what stands before the parts of a commit.
+func headOf(r request, durability Durability, compared, written *objects) request {
 	parts := len(compared.list) + len(written.list)
-	if parts > maxParts {
-		return nil, TooLarge
-	}
-	for _, o := range written.list {
-		if len(o.value) > maxValue {
-			return nil, BadSize
-		}
-	}
-	made := rooms.Get().(*spelled)
-	r := append(made.request[:0], zeros[:lengthBytes]...)
-	r = r.word(opCommit).boolean(bool(durability)).word(uint32(parts))
-	for _, o := range compared.list {
-		r = r.part(compare, o)
-	}
-	for _, o := range written.list {
-		r = r.part(write, o)
-	}
-	made.request = r
-	if len(r) > maxRecord+lengthBytes {
-		made.drop()
-		return nil, TooLarge
-	}
-	return made, nil
+	return r.word(opCommit).boolean(bool(durability)).word(uint32(parts))
 }
 
 // answer is what was not read yet of a record, and what was found wrong in it.
@@ -166,6 +125,15 @@ func (a *answer) value() []byte {
 		}
 	}
 	return found
+}
+
+// receiptOf returns the receipt of a commit that was done. It returns false for any other answer.
+func receiptOf(record []byte) (Receipt, bool) {
+	if len(record) != 2*wordBytes+receiptBytes || binary.BigEndian.Uint32(record) != 0 ||
+		binary.BigEndian.Uint32(record[4:]) != opCommit {
+		return Receipt{}, false
+	}
+	return Receipt{binary.BigEndian.Uint64(record[8:]), binary.BigEndian.Uint64(record[16:])}, true
 }
 
 // judge returns what the answer says to a call. Where that is done, the call's decode reads it, or

@@ -15,6 +15,15 @@ type Tx struct {
 	requests      int // how many have read
 }
 
+// Reset has the transaction begin anew, as if it had done nothing. It may then be used for another
+// one, also before a Flight of the one before has ended. It keeps its room, so that takes less time
+// than Begin.
+func (t *Tx) Reset() {
+	t.reads.reset()
+	t.writes.reset()
+	t.requests = 0
+}
+
 // Read returns the object's value: what the transaction wrote there, or else what it read before,
 // or else what the journal has now. The caller may change the bytes.
 func (t *Tx) Read(a Address) ([]byte, error) {
@@ -81,7 +90,7 @@ func (t *Tx) fetch(missing []Address) error {
 
 // Write has the object overwritten by the commit, which finds a wrong address or size.
 func (t *Tx) Write(a Address, value []byte) {
-	t.writes.setCopy(a, value)
+	t.writes.set(a, value)
 }
 
 // Expect has the commit compare an object with a value that the caller knows, as if it had been
@@ -90,7 +99,7 @@ func (t *Tx) Expect(a Address, value []byte) error {
 	if known, ok := t.reads.get(a); ok && !bytes.Equal(known, value) {
 		return Conflict
 	}
-	t.reads.set(a, clone(value))
+	t.reads.set(a, value)
 	return nil
 }
 

@@ -1,13 +1,12 @@
 // Command bench commits small transactions over one Journal: bench SOCKET GOROUTINES FLIGHTS
-// durable|lazy SECONDS. Each of the goroutines has so many commits in flight; with 1 it waits for
-// each. It is the loop of clients/c/bench, over the client in Go. There are 512 objects of 128
-// bytes; each transaction overwrites two, at random, in blocks that differ. lazy: none waits, and
-// one flush at the end is inside the time. It prints commits a second.
+// durable|lazy SECONDS. Each of the goroutines has so many commits in flight by Tx.Submit; with 1
+// it waits for each by Tx.Commit. It is the loop of clients/c/bench, over the client in Go. There
+// are 512 objects of 128 bytes; each transaction overwrites two, at random, in blocks that differ.
+// lazy: none waits, and one flush at the end is inside the time. It prints commits a second.
 package main
 
 import (
 	"fmt"
-	"math/rand"
 	"os"
 	"strconv"
 	"sync"
@@ -19,9 +18,21 @@ import (
 
 const (
 	objects       = 512
+	objectBytes   = 128
 	objectsABlock = 32
 	firstBlock    = 515
 )
+
+// values are what is written, in turn.
+var values [256][objectBytes]byte
+
+func init() {
+	for i := range values {
+		for at := range values[i] {
+			values[i][at] = byte(i)
+		}
+	}
+}
 
 func main() {
 	if err := bench(os.Args); err != nil {
@@ -80,14 +91,18 @@ func (of load) run(j *jnl.Journal) (uint64, error) {
 	var isOver int32
 	errs := make(chan error, of.goroutines)
 	time.AfterFunc(of.span, func() { atomic.StoreInt32(&isOver, 1) })
+	commit := of.commitUntil
+	if of.flights == 1 {
+		commit = of.commitOneByOne
+	}
 	for i := 0; i < of.goroutines; i++ {
 		all.Add(1)
-		go func(random *rand.Rand) {
+		go func(c *committer) {
 			defer all.Done()
-			mine, err := of.commitUntil(j, &isOver, random)
+			mine, err := commit(c, &isOver)
 			atomic.AddUint64(&commits, mine)
 			errs <- err
-		}(rand.New(rand.NewSource(int64(i))))
+		}(&committer{tx: j.Begin(), seed: 88172645463325252 + 7919*uint64(i)})
 	}
 	all.Wait()
 	for i := 0; i < of.goroutines; i++ {
@@ -98,8 +113,15 @@ func (of load) run(j *jnl.Journal) (uint64, error) {
 	return commits, nil
 }
 
+// committer makes the transactions of one goroutine, all in one Tx.
+type committer struct {
+	tx   *jnl.Tx
+	seed uint64
+	made int
+}
+
 // commitUntil commits from one goroutine until the time is over.
-func (of load) commitUntil(j *jnl.Journal, isOver *int32, random *rand.Rand) (uint64, error) {
+func (of load) commitUntil(c *committer, isOver *int32) (uint64, error) {
 	done := uint64(0)
 	flights := make([]*jnl.Flight, 0, of.flights)
 	for i := 0; atomic.LoadInt32(isOver) == 0; i++ {
@@ -110,7 +132,7 @@ func (of load) commitUntil(j *jnl.Journal, isOver *int32, random *rand.Rand) (ui
 		} else {
 			done++
 		}
-		flights[i%of.flights] = transaction(j, random, byte(i)).Submit(of.durability)
+		flights[i%of.flights] = c.next().Submit(of.durability)
 	}
 	for _, each := range flights {
 		if _, err := each.Wait(); err != nil {
@@ -121,22 +143,35 @@ func (of load) commitUntil(j *jnl.Journal, isOver *int32, random *rand.Rand) (ui
 	return done, nil
 }
 
-func transaction(j *jnl.Journal, random *rand.Rand, fill byte) *jnl.Tx {
-	first, second := random.Intn(objects), random.Intn(objects)
-	for second/objectsABlock == first/objectsABlock {
-		second = random.Intn(objects)
+// commitOneByOne commits from one goroutine that waits for each.
+func (of load) commitOneByOne(c *committer, isOver *int32) (done uint64, err error) {
+	for ; err == nil && atomic.LoadInt32(isOver) == 0; done++ {
+		_, err = c.next().Commit(of.durability)
 	}
-	var value [128]byte
-	for i := range value {
-		value[i] = fill
-	}
-	tx := j.Begin()
-	tx.Write(address(first), value[:])
-	tx.Write(address(second), value[:])
-	return tx
+	return done, err
 }
 
-func address(i int) jnl.Address {
-	block := firstBlock + uint64(i/objectsABlock)
-	return jnl.Address{Block: block, Bit: uint32(i%objectsABlock) * 1024}
+// next makes the next transaction.
+func (c *committer) next() *jnl.Tx {
+	first, second := c.pick(), c.pick()
+	for second/objectsABlock == first/objectsABlock {
+		second = c.pick()
+	}
+	value := values[c.made%len(values)][:]
+	c.made++
+	c.tx.Reset()
+	c.tx.Write(address(first), value)
+	c.tx.Write(address(second), value)
+	return c.tx
+}
+
+func (c *committer) pick() uint64 {
+	c.seed ^= c.seed << 13
+	c.seed ^= c.seed >> 7
+	c.seed ^= c.seed << 17
+	return c.seed % objects
+}
+
+func address(i uint64) jnl.Address {
+	return jnl.Address{Block: firstBlock + i/objectsABlock, Bit: uint32(i%objectsABlock) * 1024}
 }

@@ -119,9 +119,10 @@ class Transaction(Objects):
 
 
 class Journal:
-    """A connection to the port. `disk` is the disk, as the port told it when the connection was made
-    last, and `blocks` is how many blocks it has. `last_receipt` is the receipt of the last commit that was done over it, as by `run`, or None; commits that were
-    submitted have theirs in their answers."""
+    """A connection to the port. `disk` is the disk, as the port told it when the connection was
+    made last, and `blocks` is how many blocks it has. `last_receipt` is the receipt of the last
+    commit that was done over it, as by `run`, or None; commits that were submitted have theirs in
+    their answers."""
 
     def __init__(self, path: Optional[str], port: Optional[int], timeout: Optional[float]):
         self._path = path

@@ -83,9 +83,9 @@ const LONGEST_PAUSE: Duration = Duration::from_millis(100);
 /// An object: its block, and its first bit there.
 ///
 /// Blocks 0 to 512 are the journal's own. What the others have follows from the regions of the disk
-/// ([`Journal::disk`]). On a disk that was created without any block 514 has bits, at each bit below 32768, each a byte 0 or 1.
-/// Blocks 515 to 530 have objects of 128 bytes, at multiples of 1024. Blocks 513, and 531 to the
-/// last, are objects of 4096 bytes, at bit 0.
+/// ([`Journal::disk`]). Where none were named when the disk was created, block 514 has bits, at each
+/// bit below 32768, each a byte 0 or 1. Blocks 515 to 530 have objects of 128 bytes, at multiples of
+/// 1024. Blocks 513, and 531 to the last, are objects of 4096 bytes, at bit 0.
 #[derive(Clone, Copy, Debug, PartialEq, Eq, PartialOrd, Ord, Hash)]
 pub struct Address {
     /// The block.

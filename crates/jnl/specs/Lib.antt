@@ -1,2 +1,1 @@
-pub mod Layouts
 pub mod Listeners

@@ -1,35 +1,29 @@
 // The command line.
 
 use crate::disks::AskedDevice;
-use crate::fault::Fault;
-use crate::regions::{AskedLayout, Regions, named_regions};
 use crate::serving::Service;
 use crate::stat::StatForm;
 use clap::{Arg, ArgAction, ArgMatches, Command, value_parser};
+use journal_commands::{
+    AskedLayout, FILE, Fault, JNL_VERSIONS, Regions, file_arg, named_regions, program_command, word,
+};
 use journal_form::LogForm;
 use journal_program::{Room, Zeros};
-use journal_service::Endpoint;
 use journal_world::SLOTS;
 use std::alloc::{AllocError, Global};
-use std::net::Ipv4Addr;
+
+/// The name of the program.
+pub const PROGRAM: &str = "jnl";
 
 const ABOUT: &str = "A transactional block journal on a disk in a file";
 
-// The program's version, and those of what it reads and speaks.
-const VERSIONS: &str = "1.0\nlog plain, sealed\nlabel 1\nfiles 1, 2\nprotocol 1, 2";
-
-const STATUSES: &str =
-    "Exit status:\n  0  it was done\n  1  it was not done, or not to its end; standard error has the reason\n  2  the words are no command";
-
 const SERVE_NOTES: &str =
-    "Only the owner of the socket can open it. A socket whose program is gone is replaced, and anything else at PATH is refused. The port of --tcp has no access check: each program on this machine can read and write the disk there, but not end the service.\n\nThe first lines of the output say where it listens. jnl stop ends it once all commits are stable. A signal ends it as a crash does: each commit that was answered as stable stands. Where the device fails, standard error has the reason, and the status is 1.\n\nWith --read-only nothing is written to FILE, and others may serve it so too.\n\nA disk of the file service is refused without --read-only.\n\nKIND is bit, block, or a record of so many bytes: record8, record16, record32, record64, record128, record256, record512, record1024, record2048. A region goes to the block before the next one, and the last to the end of the disk. FIRST rises from one region to the next. A disk that jnl create made, or jnl label, has its regions in its label: name none, or the same. Without a label the disk does not tell its regions: name the same each time, or none for 513:block 514:bit 515:record128 531:block on a disk of at most 33299 blocks. Another number of slots may be named each time.";
+    "Only the owner of the socket can open it. A socket whose program is gone is replaced, and anything else at PATH is refused. The port of --tcp has no access check: each program on this machine can read and write the disk there, but not end the service.\n\nThe first lines of the output say where it listens. jnl stop ends it once all commits are stable. A signal ends it as a crash does: each commit that was answered as stable stands. Where the device fails, standard error has the reason, and the status is 1.\n\nWith --read-only nothing is written to FILE, and others may serve it so too.\n\nA disk of files is refused without --read-only: jnlfs serves it.\n\nKIND is bit, block, or a record of so many bytes: record8, record16, record32, record64, record128, record256, record512, record1024, record2048. A region goes to the block before the next one, and the last to the end of the disk. FIRST rises from one region to the next. A disk that jnl create made, or jnl label, has its regions in its label: name none, or the same. Without a label the disk does not tell its regions: name the same each time, or none for 513:block 514:bit 515:record128 531:block on a disk of at most 33299 blocks. Another number of slots may be named each time.";
 
-const NFS_NOTES: &str =
-    "A client mounts /files, or /, by version 3 of NFS and of MOUNT, which are both on this port:\n  mount -t nfs -o vers=3,nolock,proto=tcp,port=P,mountproto=tcp,mountport=P HOST:/files DIRECTORY\n\nThe service looks at no credential. Whoever reaches the address reads and writes all files: each program on this machine, and with another address than 127.0.0.1 each machine of the network too.\n\nThe first line of the output says at which port it listens. It serves until it is ended. A signal ends it as a crash does: all that was answered as stable stands, and a client sends its other writes again once the disk is served anew.\n\njtool format makes a disk of the file service. Any other is refused.";
+// The subcommand that another program has now.
+const FILES_WORD: &str = "nfs";
 
 // The names of the arguments.
-const FILE: &str = "FILE";
-
 const BLOCKS: &str = "blocks";
 
 const DEVICE: &str = "device";
@@ -53,10 +47,6 @@ const REGION: &str = "region";
 const SLOTS_WORD: &str = "slots";
 
 const PROMETHEUS: &str = "prometheus";
-
-const PORT: &str = "port";
-
-const ADDRESS: &str = "address";
 
 const ALLOCATE: &str = "allocate";
 
@@ -127,19 +117,22 @@ pub enum Subcommand<'w> {
     Stop {
         socket: &'w str,
     },
-    /// Serve the files of the disk in a file so that clients mount them.
-    Nfs {
-        path: &'w str,
-        endpoint: Endpoint,
-    },
 }
 
 impl<'w> Subcommand<'w> {
     /// Reads the words of the command line, without the program's name.
     ///
-    /// Answers `Words` where they ask for help or the version, or are no command, `NoCommand` where
-    /// no subcommand can be made of them, and `NoMemory` where memory is refused.
+    /// # Errors
+    /// - `ServesNoFiles`: they begin with the subcommand that served files.
+    /// - `Words`: they ask for help or the version, or are no command.
+    /// - `NoCommand`: no subcommand can be made of them.
+    /// - `NoMemory`: memory is refused.
     pub fn parse(alloc: Global, words: &'w [String]) -> Result<Subcommand<'w>, Fault<'w>> {
+        if let Some(first) = words.first()
+            && first.as_str() == FILES_WORD
+        {
+            return Err(Fault::ServesNoFiles);
+        }
         let matches = command(alloc)?.try_get_matches_from(words)?;
         let Some((name, given)) = matches.subcommand() else {
             return Err(Fault::NoCommand);
@@ -169,17 +162,8 @@ impl<'w> Subcommand<'w> {
             "stop" => Ok(Subcommand::Stop {
                 socket: word(given, SOCKET)?,
             }),
-            "nfs" => parse_nfs(given),
             _ => Err(Fault::NoCommand),
         }
-    }
-}
-
-// The word that was given for an argument that a subcommand requires.
-fn word<'w>(given: &ArgMatches<'w>, name: &str) -> Result<&'w str, Fault<'w>> {
-    match given.get_str(name) {
-        Some(text) => Ok(text),
-        None => Err(Fault::NoCommand),
     }
 }
 
@@ -270,30 +254,9 @@ fn parse_stat<'w>(given: &ArgMatches<'w>) -> Result<Subcommand<'w>, Fault<'w>> {
     })
 }
 
-fn parse_nfs<'w>(given: &ArgMatches<'w>) -> Result<Subcommand<'w>, Fault<'w>> {
-    let text = word(given, ADDRESS)?;
-    let Ok(address) = text.parse::<Ipv4Addr>() else {
-        return Err(Fault::NoAddress { text });
-    };
-    let Some(port) = given.get_one::<u16>(PORT) else {
-        return Err(Fault::NoCommand);
-    };
-    Ok(Subcommand::Nfs {
-        path: word(given, FILE)?,
-        endpoint: Endpoint { address, port },
-    })
-}
-
 // The grammar of the command line, from which its help is printed.
 fn command<'w>(alloc: Global) -> Result<Command<'w>, AllocError> {
-    Command::new(alloc, "jnl")
-        .bin_name("jnl")?
-        .about(ABOUT)
-        .version(VERSIONS)
-        .after_help(STATUSES)
-        .no_binary_name(true)
-        .subcommand_required(true)
-        .arg_required_else_help(true)
+    program_command(alloc, PROGRAM, ABOUT, JNL_VERSIONS)?
         .subcommand(create_command(alloc)?)?
         .subcommand(info_command(alloc)?)?
         .subcommand(check_command(alloc)?)?
@@ -303,8 +266,7 @@ fn command<'w>(alloc: Global) -> Result<Command<'w>, AllocError> {
         .subcommand(grow_command(alloc)?)?
         .subcommand(serve_command(alloc)?)?
         .subcommand(stat_command(alloc)?)?
-        .subcommand(stop_command(alloc)?)?
-        .subcommand(nfs_command(alloc)?)
+        .subcommand(stop_command(alloc)?)
 }
 
 fn create_command<'w>(alloc: Global) -> Result<Command<'w>, AllocError> {
@@ -384,7 +346,7 @@ fn info_command<'w>(alloc: Global) -> Result<Command<'w>, AllocError> {
 fn check_command<'w>(alloc: Global) -> Result<Command<'w>, AllocError> {
     Command::new(alloc, "check")
         .about(
-            "Checks that the log of a disk is well formed, and that the files of the file service are sound if it has them",
+            "Checks that the log of a disk is well formed, and says whether it has files, which jnlfs check checks",
         )
         .after_help(
             "Nothing is written to FILE. A plain copy of a disk that was served meanwhile may pass, though it is torn.",
@@ -482,28 +444,6 @@ fn stop_command<'w>(alloc: Global) -> Result<Command<'w>, AllocError> {
         .arg(socket_arg(alloc, "The socket of the service"))
 }
 
-fn nfs_command<'w>(alloc: Global) -> Result<Command<'w>, AllocError> {
-    let port = Arg::new(alloc, PORT)
-        .long(PORT)
-        .value_name("P")
-        .required(true)
-        .value_parser(value_parser!(u16))
-        .help("The port to listen on, or 0 for one that is free");
-    let address = Arg::new(alloc, ADDRESS)
-        .long(ADDRESS)
-        .value_name("A")
-        .default_value("127.0.0.1")
-        .help(
-            "The address of this machine to listen on; whoever reaches it reads and writes all files",
-        );
-    Command::new(alloc, "nfs")
-        .about("Serves the files of a disk so that a Linux machine mounts them")
-        .after_help(NFS_NOTES)
-        .arg(file_arg(alloc, "The file of the disk"))?
-        .arg(port)?
-        .arg(address)
-}
-
 // The number of blocks of a disk.
 fn blocks_arg<'w>(alloc: Global, help: &'w str) -> Arg<'w> {
     Arg::new(alloc, BLOCKS)
@@ -555,9 +495,4 @@ fn socket_arg<'w>(alloc: Global, help: &'w str) -> Arg<'w> {
         .value_name("PATH")
         .required(true)
         .help(help)
-}
-
-// The file that a subcommand is for.
-fn file_arg<'w>(alloc: Global, help: &'w str) -> Arg<'w> {
-    Arg::new(alloc, FILE).required(true).help(help)
 }

@@ -1,6 +1,6 @@
 // A disk is copied.
 
-use crate::fault::Fault;
+use journal_commands::Fault;
 use journal_program::{CopyFault, CopyPaths, copy_disk};
 use std::alloc::Global;
 use std::fs::{File, Files};

@@ -1,15 +1,13 @@
 // What the subcommands do with disks in files.
 
-use crate::checking::sound_version;
-use crate::fault::Fault;
-use crate::labels::{label_of, print_label};
-use crate::regions::{RegionWords, Regions};
+use crate::labels::print_label;
+use journal_commands::{
+    Fault, RegionWords, Regions, find, label_of, open_to_read, print_line, settle,
+};
 use journal_disk::BlockDisk;
 use journal_form::{LogForm, change_form};
-use journal_inode::FormatVersion;
 use journal_program::{
-    DiskFacts, FoundDisk, Label, Room, SizedDisk, ToCheck, Zeros, create_labeled_disk, find_device,
-    find_disk, is_disk_size, open_to_check,
+    DiskFacts, Room, SizedDisk, Zeros, create_labeled_disk, find_device, is_disk_size,
 };
 use journal_world::Refused;
 use std::alloc::Global;
@@ -20,6 +18,11 @@ use std::{fs, io};
 // What is printed of a disk that was checked. A copy of a disk that was written meanwhile may have
 // such a log too.
 const WELL_FORMED: &str = "log well formed";
+
+// What is printed of a disk with files besides, which another program reads.
+const UNCHECKED: &str = "; its files are checked by jnlfs check FILE";
+
+const OF_FILES: &str = "yes, of jnlfs";
 
 /// A disk on a block device that is asked for.
 #[derive(Clone, Copy)]
@@ -123,7 +126,7 @@ pub fn info<'w, R: Files<File = File>, O: Write, E: Write>(
 
 fn print_facts<O: Write>(facts: &DiskFacts, output: &mut O) -> io::Result<()> {
     let form = facts.form.name();
-    let files = if facts.has_files { "yes" } else { "no" };
+    let files = if facts.has_files { OF_FILES } else { "no" };
     writeln!(output, "blocks {}\nlog {form}\nfiles {files}", facts.blocks)?;
     match facts.label {
         Some(label) => writeln!(output, "label yes\nregions {}", RegionWords(label.told())),
@@ -131,8 +134,8 @@ fn print_facts<O: Write>(facts: &DiskFacts, output: &mut O) -> io::Result<()> {
     }
 }
 
-/// Prints that the log of the disk is well formed, and of a disk of the file service that its files
-/// are sound, and the version of the format in which they are. Nothing is written to it.
+/// Prints that the log of the disk is well formed, and of a disk of the file service which program
+/// checks its files. Nothing is written to it.
 pub fn check<'w, R: Files<File = File>, O: Write, E: Write>(
     rt: &R,
     alloc: Global,
@@ -140,15 +143,9 @@ pub fn check<'w, R: Files<File = File>, O: Write, E: Write>(
     output: &mut O,
     faults: &mut E,
 ) -> Result<(), Fault<'w>> {
-    let opened = open_to_read(rt, alloc, path, faults)?;
-    if !opened.facts.has_files {
-        return print_line(output, WELL_FORMED, "");
-    }
-    match sound_version(alloc, opened.disk.disk()) {
-        Ok(FormatVersion::One) => print_line(output, WELL_FORMED, ", files sound, version 1"),
-        Ok(FormatVersion::Two) => print_line(output, WELL_FORMED, ", files sound, version 2"),
-        Err(why) => Err(Fault::Refused { path, why }),
-    }
+    let facts = open_to_read(rt, alloc, path, faults)?.facts;
+    let more = if facts.has_files { UNCHECKED } else { "" };
+    print_line(output, WELL_FORMED, more)
 }
 
 /// Gives the log of the disk this form, and prints the form. Where the log has it already, that is
@@ -164,48 +161,6 @@ pub fn seal<'w, R: Files<File = File>, O: Write>(
     let was = give_form(alloc, path, disk, form)?;
     let already = if was == form { " already" } else { "" };
     print_line(output, form.name(), already)
-}
-
-/// Looks at the disk in the file at the path, which no other program uses as long as it is open.
-/// Nothing is written to it.
-pub fn find<'w, R: Files<File = File>>(
-    rt: &R,
-    alloc: Global,
-    path: &'w str,
-) -> Result<FoundDisk, Fault<'w>> {
-    match find_disk(rt, alloc, path) {
-        Ok(found) => Ok(found),
-        Err(why) => Err(Fault::unopened(path, why)),
-    }
-}
-
-/// The disk that was found in the file at the path, once what it reads is stable.
-pub fn settle<'w>(alloc: Global, path: &'w str, found: FoundDisk) -> Result<SizedDisk, Fault<'w>> {
-    match found.settle(alloc) {
-        Ok(settled) => Ok(settled.disk()),
-        Err(why) => Err(Fault::unopened(path, why)),
-    }
-}
-
-/// Prints a line, and writes the output out.
-pub fn print_line<'w, O: Write>(output: &mut O, word: &str, more: &str) -> Result<(), Fault<'w>> {
-    match writeln!(output, "{word}{more}").and_then(|()| output.flush()) {
-        Ok(()) => Ok(()),
-        Err(_) => Err(Fault::CannotWrite),
-    }
-}
-
-// Opens the disk in the file at the path to be read, and reads what it is.
-fn open_to_read<'w, R: Files<File = File>, E: Write>(
-    rt: &R,
-    alloc: Global,
-    path: &'w str,
-    faults: &mut E,
-) -> Result<ToCheck, Fault<'w>> {
-    match open_to_check(rt, alloc, path, faults) {
-        Ok(opened) => Ok(opened),
-        Err(why) => Err(Fault::unopened(path, why)),
-    }
 }
 
 // Gives the log of the disk this form, and answers the form that it had.

@@ -1,45 +1,15 @@
 // The labels of disks are written, and the number of their blocks is raised.
-ghost use Rattle.std.specs.Prelude.{◌≡◌, IsTrue, IfSome};
-ghost use Rattle.std.specs.Option.{ForSome};
-ghost use Rattle.journal_world.specs.Addresses.{are_regions};
+ghost use Rattle.std.specs.Prelude.{◌≡◌, IfSome};
 ghost use Rattle.journal_program.specs.Labels.{IsLabel};
-ghost use Rattle.jnl.specs.Layouts.{told_of};
 
-use crate::fault::Fault;
-use crate::regions::{OtherRegions, RegionWords, Regions};
+use journal_commands::{Fault, RegionWords, Regions, label_of, regions_of_files, told};
 use journal_program::{
-    DeviceFault, DiskFacts, DiskToLabel, Label, LabelFault, OpenFault, UNTOLD, Zeros,
-    find_disk_to_label,
+    DeviceFault, DiskFacts, DiskToLabel, Label, LabelFault, OpenFault, Zeros, find_disk_to_label,
 };
-use journal_world::{Layout, MAX_LAYOUT_BLOCKS};
+use journal_world::MAX_LAYOUT_BLOCKS;
 use std::alloc::Global;
 use std::fs::{File, Files};
 use std::io::Write;
-
-/// The label of a disk of `blocks` blocks, with the regions that were named. Where none were, these
-/// are those of files if a disk of that size has them, and else the label has none.
-///
-/// `None` where no disk has `blocks` blocks, or no layout these regions.
-pub fn label_of(blocks: u64, regions: Option<Regions>) -> Option<Label>
-    ensures label { IfSome result IsLabel }
-    ensures blocks { IfSome result (λ label. label.blocks ≡ blocks) }
-{
-    let regions = regions.or(regions_of_files(blocks));
-    Label::new(blocks, regions.unwrap_or(UNTOLD))
-}
-
-// The regions of files, on a disk of so few blocks that it may have them.
-fn regions_of_files(blocks: u64) -> Option<Regions> {
-    Some(Layout::new(blocks)?.regions)
-}
-
-/// The regions that the label of a disk tells, where it has one that tells any.
-pub fn told(facts: &DiskFacts) -> Option<Regions>
-    ensures told { result ≡ told_of facts.now.label }
-    ensures rise { ForSome result (λ regions. IsTrue (are_regions regions)) }
-{
-    facts.label?.told()
-}
 
 /// Gives the disk in the file at the path a label with these regions, and prints them. Where none
 /// are named, it has those of the label before it, or those of a new disk.
@@ -179,17 +149,6 @@ fn grown_label(facts: &DiskFacts, blocks: u64) -> Option<Label>
         None => regions_of_files(facts.blocks),
     };
     Label::new(blocks, regions?)
-}
-
-/// Refuses a disk of the file service whose label tells other regions than those of files.
-pub fn refuse_other_regions<'w>(path: &'w str, facts: &DiskFacts) -> Result<(), Fault<'w>> {
-    match (told(facts), regions_of_files(facts.blocks)) {
-        (Some(told), Some(asked)) if told != asked => {
-            let regions = OtherRegions { told, asked };
-            Err(Fault::OtherRegions { path, regions })
-        }
-        _ => Ok(()),
-    }
 }
 
 // Refuses a label by which a disk of the file service would have other objects.

@@ -1,42 +1,35 @@
 //! The journal at the command line. `jnl create` makes an empty disk in a file or on a block device,
-//! `jnl info` prints what a disk is, `jnl check` whether it is sound, and `jnl seal` gives its log
-//! the form with one barrier a group, or the plain form again. `jnl backup` copies a disk that
-//! nobody writes. `jnl label` gives a disk its label, and `jnl grow` more blocks. `jnl serve` serves
-//! a disk to programs in any language, `jnl stat` prints what such a service has counted, and
-//! `jnl stop` ends it. `jnl nfs` serves the files of a disk of the file service so that a Linux
-//! machine mounts them. `jnl --help` is the manual.
+//! `jnl info` prints what a disk is, `jnl check` whether its log is well formed, and `jnl seal`
+//! gives its log the form with one barrier a group, or the plain form again. `jnl backup` copies a
+//! disk that nobody writes. `jnl label` gives a disk its label, and `jnl grow` more blocks.
+//! `jnl serve` serves a disk to programs in any language, `jnl stat` prints what such a service has
+//! counted, and `jnl stop` ends it. `jnl --help` is the manual. The program `jnlfs` serves files.
 #![tactic(auto)]
 
 ghost use Rattle.std.specs.Prelude.{◌≤◌};
 
-mod checking;
 mod command;
 mod copying;
 mod counted_disk;
 mod counts;
 mod disks;
-mod exporting;
-mod fault;
 mod labels;
 mod listener;
 mod numbering;
 mod peer;
 mod queue;
-mod regions;
 mod serving;
 mod socket;
 mod stat;
 mod stopping;
 mod working;
 
-use command::Subcommand;
-use fault::Fault;
+use command::{PROGRAM, Subcommand};
+use journal_commands::{Fault, start};
 use journal_program::hold_closed_streams;
 use std::alloc::Global;
-use std::env;
-use std::env::Env;
 use std::fs::{File, Files};
-use std::io::{BufWriter, Write};
+use std::io::Write;
 use std::net::{Net, TcpListener, TcpStream};
 use std::process::ExitCode;
 use std::random::RandomSource;
@@ -62,7 +55,7 @@ pub fn run<
 {
     match obey(rt, alloc, words, output, faults) {
         Ok(()) => 0,
-        Err(fault) => fault.report(output, faults),
+        Err(fault) => fault.report(PROGRAM, output, faults),
     }
 }
 
@@ -115,9 +108,6 @@ fn obey<
         Subcommand::Serve(service) => serving::serve(rt, alloc, service, output),
         Subcommand::Stat { socket, form } => stat::stat(rt, alloc, socket, form, output),
         Subcommand::Stop { socket } => stopping::stop(rt, alloc, socket),
-        Subcommand::Nfs { path, endpoint } => {
-            exporting::export(rt, alloc, path, endpoint, output, faults)
-        }
     }
 }
 
@@ -126,17 +116,7 @@ fn main(rt: HostRuntime) -> ExitCode {
     let faults = &mut rt.stderr();
     let status = match start(&rt, rt.stdout()) {
         Ok((words, mut output)) => run(&rt, rt.alloc(), &words, &mut output, faults),
-        Err(fault) => fault.report(&mut rt.stdout(), faults),
+        Err(fault) => fault.report(PROGRAM, &mut rt.stdout(), faults),
     };
     ExitCode::from(status)
-}
-
-// The words of the command line, and the output with a buffer.
-fn start<R: Env + AllocGlobal, O: Write + Drop>(
-    rt: &R,
-    output: O,
-) -> Result<(Vec<String>, BufWriter<O>), Fault<'static>> {
-    let words = env::args(rt)?.skip(1).collect(rt.alloc())?;
-    let output = BufWriter::new(rt.alloc(), output)?;
-    Ok((words, output))
 }

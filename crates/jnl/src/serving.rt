@@ -1,18 +1,15 @@
 // A disk is served to programs in any language.
 ghost use Rattle.std.specs.Prelude.{◌≡◌, IfOk};
 ghost use Rattle.journal_world.specs.Files.{shape};
-ghost use Rattle.jnl.specs.Layouts.{asked_shape, told_or, told_of};
+ghost use Rattle.journal_commands.specs.Layouts.{asked_shape, told_or, told_of};
 
 use crate::counted_disk::CountedDisk;
 use crate::counts::{SyncCounts, micros};
-use crate::disks::{find, print_line, settle};
-use crate::fault::Fault;
-use crate::labels::told;
 use crate::listener::Listener;
 use crate::numbering::opening_number;
-use crate::regions::AskedLayout;
 use crate::socket;
 use crate::working::{Listeners, OpenDisk, OpenJournal, Workers, WorkersFault};
+use journal_commands::{AskedLayout, Fault, find, print_line, settle, told};
 use journal_disk::BlockDisk;
 use journal_history::{Book, Naming};
 use journal_lockmap::SlotCell;

@@ -1,7 +1,7 @@
 // What a service has counted is printed.
 
-use crate::fault::Fault;
 use crate::stopping::ask;
+use journal_commands::Fault;
 use journal_records::{Answer, Counter, Input, Opening, Refused, Request, VERSION};
 use std::alloc::Global;
 use std::io;

@@ -1,6 +1,6 @@
 // A service is ended.
 
-use crate::fault::Fault;
+use journal_commands::Fault;
 use journal_records::{
     Answer, FIRST_VERSION, Input, Next, Refused as Answered, Request, write_request,
 };

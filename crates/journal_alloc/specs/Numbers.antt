@@ -37,7 +37,7 @@ abbrev pub AreTaken : Numbers → List ℕ → Numbers → Type 0
 AreTaken old [] new = new ≡ old
 AreTaken old (n ∷ ns) new = IsLowestFree old n × AreTaken (with_out old n true) ns new
 
--- So many numbers were taken in turn, and written behind what a list had
+-- n numbers were taken in turn, and written after those of a list
 pub record TakesMany (n : ℕ) (old new : Numbers) (before after : List ℕ) : Type 0 where
   pub numbers : List ℕ
   pub count : length numbers ≡ n

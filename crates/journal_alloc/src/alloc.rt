@@ -4,15 +4,14 @@ ghost use Rattle.journal_alloc.specs.Numbers.{IsOut, IsFree, IsLowestFree, Takes
 
 use std::marker::Model;
 
-/// Numbers from a first one on, each out or not. Contracts see the first, and the list that says
-/// which are.
+/// Numbers from a first one on, each out or not. Contracts see the first, and the list of flags.
 #[derive(Debug, Drop)]
 pub struct Alloc {
     first: u64,
     out: Vec<bool>,
-    // All places below this one are out, so the lowest that is not stands here or above.
+    // All places below this one are out, so the lowest that is not out is here or above.
     start: usize,
-    // How many are not out.
+    // The number of places that are not out.
     free: usize,
 }
 
@@ -30,8 +29,8 @@ impl Model for Alloc {
 }
 
 impl Alloc {
-    /// The numbers from `first` on, as many as the list is long. Number `first + i` is out where
-    /// `out[i]` is yes.
+    /// The numbers from `first` on, as many as the list is long. Number `first + i` is out if
+    /// `out[i]` is true.
     pub fn new(first: u64, out: Vec<bool>) -> Alloc
         requires in_range { first + vec_len out < 2 ^ 64 }
         ensures numbers { result ≡ record { first = first; out = out.items } }
@@ -47,7 +46,7 @@ impl Alloc {
 
     /// Hands out the lowest number that is not out. It is out then, and the others stay.
     ///
-    /// `None`, and nothing changes, where all are out.
+    /// `None` if all are out. Nothing changes then.
     pub fn take(&mut self) -> Option<u64>
         ensures lowest { IfSome result (IsLowestFree self.old) }
         ensures taken { IfSome result (λ n. self.new ≡ with_out self.old n true) }
@@ -60,10 +59,10 @@ impl Alloc {
         Some(self.take_lowest())
     }
 
-    /// Hands out so many numbers, or none. Each is the lowest that is not out then, so they rise;
-    /// they are written behind what `out` has, whose room was reserved, and are out then.
+    /// Hands out `n` numbers, or none. Each is the lowest that is not out then, so they rise. They
+    /// are appended to `out`, whose room was reserved, and are out then.
     ///
-    /// No, and nothing changes, where fewer are not out.
+    /// False if fewer than `n` are not out. Nothing changes then.
     pub fn take_many(&mut self, n: usize, out: &mut Vec<u64>) -> bool
         requires room { vec_len out.old + n ≤ vec_capacity out.old }
         ensures enough { IsTrue result ↔ (n ≤ free_count self.old) }
@@ -81,9 +80,9 @@ impl Alloc {
         true
     }
 
-    /// Takes a number back, and says whether it was out. It is not out then, and the others stay.
+    /// Takes a number back. True if it was out. It is not out then, and the others stay.
     ///
-    /// Where it was not out, or is none of these numbers, nothing changes.
+    /// False if it was not out, or is none of these numbers. Nothing changes then.
     pub fn give(&mut self, n: u64) -> bool
         ensures out { IsTrue result ↔ IsOut self.old n }
         ensures given { IsTrue result → self.new ≡ with_out self.old n false }
@@ -114,7 +113,7 @@ impl Alloc {
         self.first + place as u64
     }
 
-    // Where the number stands in the list.
+    // The place of the number in the list.
     fn place_of(&self, n: u64) -> Option<usize>
         ensures place { IfSome result (λ place. (self.now.first + place ≡ n) × (place < length self.now.out)) }
         ensures none { IfNone result (self.now.first ≤ n → self.now.first + length self.now.out ≤ n) }
@@ -126,7 +125,7 @@ impl Alloc {
     }
 }
 
-// The first place from this one on that is not out, or the length where all are.
+// The first place from this one on that is not out, or the length if all are.
 fn first_free(out: &[bool], start: usize) -> usize
     requires in_range { start ≤ length out.now }
     requires below { AreOutBelow out.now start }
@@ -142,7 +141,7 @@ fn first_free(out: &[bool], start: usize) -> usize
     out.len()
 }
 
-// How many places are not out.
+// The number of places that are not out.
 fn count_free(out: &[bool]) -> usize
     ensures { result ≡ free_places out.now }
 {

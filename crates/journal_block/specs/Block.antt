@@ -1,4 +1,4 @@
--- What a block holds: its bytes, the little-endian numbers in them, and its bits.
+-- The content of a block: its bytes, the little-endian numbers in them, and its bits.
 use Rattle.std.specs.Prelude.{ℕ, ◌+◌, ◌-◌, ◌*◌, ◌/◌, ◌%◌, ◌^◌, Bool, ◌==◌, if◌then◌else◌, List, ◌++◌, length, take, drop, slice_index, slice_range, slice_set}
 use Rattle.std.specs.Int.{bit_at}
 use Rattle.byteorder.specs.Endian.{little_bytes, little_number}
@@ -19,12 +19,11 @@ u64_bytes n = little_bytes 8 n
 unfoldable pub u64_at : Bytes → ℕ → ℕ
 u64_at bytes at = little_number 8 (slice_range bytes at (at + 8))
 
--- whether bit i is set: bit i % 8, the least significant first, of byte i / 8
+-- bit i is set: bit i % 8, the least significant first, of byte i / 8
 unfoldable pub bit_of : Bytes → ℕ → Bool
 bit_of bytes i = bit_at (slice_index bytes (i / 8)) (i % 8) == 1
 
--- the byte with its bit k set or cleared: what the bit was worth is taken away, and what it is to
--- be worth added
+-- the byte with its bit k set or cleared: the bit's old weight is taken away, and its new one added
 unfoldable pub byte_with_bit : ℕ → ℕ → Bool → ℕ
 byte_with_bit byte k value = byte - bit_at byte k * 2 ^ k + (if value then 2 ^ k else 0)
 

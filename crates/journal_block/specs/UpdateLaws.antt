@@ -1,4 +1,4 @@
--- What follows from the definitions for every list of updates.
+-- Laws of every list of updates.
 use Rattle.std.proofs.Common.{◌≡◌, ℕ, ◌==◌, ◌||◌, Bool, true, false, cond, List, [], ◌∷◌, ◌++◌, refl, sym, ap, ◌∙◌}
 use Rattle.std.proofs.lemmas.Bool.{cond-true, cond-false}
 use Rattle.journal_block.specs.declared.update.Update.{Update}

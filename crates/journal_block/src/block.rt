@@ -32,7 +32,8 @@ impl Model for Block {
 impl Block {
     /// A block of zeros.
     ///
-    /// Answers J1 `NoMemory`, and nothing else, where memory for its bytes is refused.
+    /// # Errors
+    /// - `J1 NoMemory`: the memory for its bytes is refused. Nothing changed.
     pub fn try_new<C>(alloc: Global) -> Result<Block, Refusal<C>>
         ensures contents { IfOk result (λ block. block ≡ zeros_of Kind.Block) }
         ensures size { IfOk result (λ block. length block ≡ BLOCK_BYTES) }
@@ -44,7 +45,8 @@ impl Block {
 
     /// A block with the bytes of another.
     ///
-    /// Answers J1 `NoMemory`, and nothing else, where memory for its bytes is refused.
+    /// # Errors
+    /// - `J1 NoMemory`: the memory for its bytes is refused. Nothing changed.
     pub fn copied_from<C>(alloc: Global, other: &Block) -> Result<Block, Refusal<C>>
         ensures contents { IfOk result (λ block. block ≡ other.now) }
         ensures size { IfOk result (λ block. length block ≡ BLOCK_BYTES) }
@@ -60,12 +62,12 @@ impl Block {
         ensures size { length result.now ≡ BLOCK_BYTES }
         ensures value { IsTrue (is_value_of Kind.Block result.now) }
     {
-        // Of a slice with a name the proof knows that each element is a byte.
+        // The slice has a name, so that the proof knows that each element is a byte.
         let bytes = self.bytes.as_slice();
         bytes
     }
 
-    /// The bytes, lent to be overwritten: the block then has those that the slice is left with.
+    /// The bytes, lent to be overwritten. The block then has the bytes that the borrower leaves.
     pub fn as_mut_bytes(&mut self) -> &mut [u8]
         ensures* writes_back { sem 𝓛 (LendsBytes self.entry result) }
         ensures contents { result.now ≡ self.old }
@@ -88,7 +90,7 @@ impl Block {
         ensures contents { self.new ≡ with_bytes self.old at bytes.now }
         ensures size { length self.new ≡ BLOCK_BYTES }
 
-        // The range now is those bytes, and each range before it or after it is as it was.
+        // The range then is those bytes, and each range before it or after it is as it was.
         ensures range { slice_range self.new at (at + length bytes.now) ≡ bytes.now }
         ensures before { (j k : ℕ) → k ≤ at → slice_range self.new j k ≡ slice_range self.old j k }
         ensures after { (j k : ℕ) → at + length bytes.now ≤ j
@@ -121,7 +123,7 @@ impl Block {
         self.copy_range(at, &bytes);
     }
 
-    /// Whether bit `i` is set: bit `i % 8`, least significant first, of byte `i / 8`.
+    /// True if bit `i` is set: bit `i % 8`, least significant first, of byte `i / 8`.
     pub fn bit(&self, i: usize) -> bool
         requires { i < BLOCK_BITS }
         ensures { result ≡ bit_of self.now i }
@@ -135,7 +137,7 @@ impl Block {
         requires multiple { i % 8 ≡ 0 }
         ensures { (k : ℕ) → k < 64 → (bit_at result k == 1) ≡ bit_of self.now (i + k) }
     {
-        // Of a slice with a name the proof knows that each element is a byte.
+        // The slice has a name, so that the proof knows that each element is a byte.
         let bytes = self.bytes.as_slice();
         LittleEndian::read_u64(&bytes[i / 8..i / 8 + 8])
     }

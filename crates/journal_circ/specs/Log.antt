@@ -26,8 +26,8 @@ with_end header end = with_bytes header 0 (u64_bytes end)
 abbrev pub with_address : Bytes → ℕ → ℕ → Bytes
 with_address header p block = with_bytes header (address_at p) (u64_bytes block)
 
--- block 1: the start in bytes 0 to 7, and then the label, which is no part of the log and which each
--- new start leaves as it is
+-- block 1: the start in bytes 0 to 7, and then the label. The label is no part of the log, and each
+-- new start leaves it as it is
 abbrev pub start_block : (label : Bytes) (start : ℕ) → Bytes
 start_block label start = u64_bytes start ++ label
 
@@ -39,7 +39,7 @@ label_of block = drop 8 block
 -- where the last group begins, and that group is there exactly where each of its log blocks has the
 -- tag that block 0 wants of it.
 
--- whether block 0 is of the sealed form: a plain one's first number is less than 2^62
+-- block 0 is of the sealed form: a plain one's first number is less than 2^62
 abbrev pub is_sealed : Bytes → Bool
 is_sealed header = nat_le (2 ^ 63) (u64_at header 0)
 
@@ -87,7 +87,7 @@ counted header begin n = with_address header begin (word_of (home_in header begi
 abbrev pub with_group : Bytes → (begin n : ℕ) → Bytes
 with_group header begin n = with_end (counted header begin n) (2 ^ 63 + begin)
 
--- whether each of n positions has the tag that is wanted
+-- each of n positions has the tag that is wanted
 abbrev pub are_there : (want have : ℕ → ℕ) (from n : ℕ) → Bool
 are_there want have from zero = true
 are_there want have from (suc n) = (have from == want from) && are_there want have (suc from) n

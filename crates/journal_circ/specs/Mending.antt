@@ -1,5 +1,5 @@
--- What a disk is that can be mended: of which the log names all that a failed barrier may have lost
--- beside the log itself.
+-- A disk that can be mended: its log names all that a failed barrier may have lost beside the log
+-- itself.
 use Rattle.std.specs.Prelude.{ℕ, ◌≡◌, ◌≢◌, ◌<◌, ◌≤◌, List}
 use Rattle.journal_block.specs.Block.{Bytes}
 use Rattle.journal_disk.specs.Disks.{Past, block_at, read_of}

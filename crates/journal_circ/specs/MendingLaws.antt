@@ -17,7 +17,7 @@ settled_mendable p settled b home lt leaves image is = settled_reads p settled i
 pub begun_mendable : (size : ℕ) (blocks : List Bytes) → IsMendable (past_from size blocks)
 begun_mendable size blocks = settled_mendable (past_from size blocks) (λ b lt. (refl, refl))
 
--- what reads the same is the same
+-- disks that read the same have the same reading
 same_reading : (old new : Past) → new.size ≡ old.size → ((b : ℕ) → b < old.size → read_of new b ≡ read_of old b) → reading new ≡ reading old
 same_reading old new size reads =
     fill_by_all (read_of old) (reading new) old.size [] (length-map-range_with_len (read_of new) 0 new.size ∙ size)
@@ -45,6 +45,6 @@ mendable_after_rewrite old new rewritten = mendable_after old new rewritten.size
 pub images_mended : (old lost mended : Past) → LosesWrites old lost → IsRewritten lost mended → EveryImage mended (IsImage old)
 images_mended old lost mended loss rewritten image is = images_after_loss old lost loss image (rewritten.images image is)
 
--- what it reads among them
+-- its reading is among them
 pub reading_mended : (old lost mended : Past) → LosesWrites old lost → IsRewritten lost mended → IsImage old (reading mended)
 reading_mended old lost mended loss rewritten = images_mended old lost mended loss rewritten (reading mended) (reading_is_image mended)

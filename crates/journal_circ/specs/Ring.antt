@@ -1,4 +1,4 @@
--- What contracts see of a circular log, and what its steps say.
+-- A circular log as contracts see it, and its steps.
 use Rattle.std.specs.Prelude.{ℕ, ◌≡◌, ◌≢◌, ◌⊎◌, ◌<◌, ◌≤◌, ◌-◌, ◌%◌, Bool, false, [], ◌∷◌, if◌then◌else◌, IsTrue, IsErr, IfErr, OnOk, List, take, Result}
 use Rattle.journal_world.specs.declared.refusal.Refusal.{Refusal}
 use Rattle.journal_world.specs.declared.refusal.Refusal.TheVariants.{NoMemory, DeviceFailed, BadLog}
@@ -13,7 +13,7 @@ use Rattle.journal_circ.specs.Log.{updates_from, is_sealed, tag_in, tag_at, tag_
 use Rattle.journal_circ.specs.StandsFor.{StandsFor}
 use Rattle.journal_circ.specs.declared.layout.TheConstants.{FIRST_HOME, LOG_POSITIONS}
 
--- What contracts see of a `Circ`
+-- The state of a `Circ` that contracts see
 pub record Ring : Type 0 where
   pub disk : DiskState
   -- block 0 as the next group has it
@@ -22,20 +22,20 @@ pub record Ring : Type 0 where
   pub tags : Bytes
   -- bytes 8 to 4095 of block 1
   pub label : Bytes
-  -- whether the log is of the sealed form
+  -- the log is of the sealed form
   pub sealed : Bool
   pub extent : Extent
   -- the position that is put next
   pub next : ℕ
-  -- whether a call failed
+  -- a call failed
   pub faulted : Bool
 
 -- the tag that the next log block of a sealed log is put with
 abbrev pub next_tag : Ring → ℕ
 next_tag r = other_tag (tag_at r.tags r.next) (tag_in r.header r.next)
 
--- What an update of the next position is put as: its log block, and what block 0 and the tags in
--- memory become
+-- The blocks of an update at the next position: its log block, and block 0 and the tags in memory
+-- after it
 abbrev pub bytes_put : Ring → Bytes → Bytes
 bytes_put r bytes = if r.sealed then with_tag bytes (next_tag r) else bytes
 
@@ -87,15 +87,15 @@ pub record KeepsLabel (old new : Ring) : Type 0 where
   pub same : new.label ≡ old.label
   pub moments : IsTrue old.disk.honest → LeavesOnly old.disk.past new.disk.past (HasLabel old.label)
 
--- What each step says of images: at every moment of it each stands for the blocks up to the old end
--- or up to the coming one, and has the label
+-- The clause of each step on images: at every moment of it each stands for the blocks up to the old
+-- end or up to the coming one, and has the label
 pub record Crashes (coming : ℕ) (old new : Ring) : Type 0 where
   pub keeps : Keeps old.disk new.disk
   pub moments : IsTrue old.disk.honest → LeavesOnly old.disk.past new.disk.past (StandsForEither old old.extent.end coming)
   pub label : KeepsLabel old new
   pub images : IsTrue new.disk.honest → EveryImage new.disk.past (StandsForEither new new.extent.end new.extent.coming)
 
--- What a step did to an honest disk: this happened to it, and nothing else
+-- The effect of a step on an honest disk: this event, and nothing else
 abbrev pub MakesCall : DiskEvent → DiskState → DiskState → Type 0
 MakesCall event old new = IsTrue old.honest → new.past ≡ past_after event old.past
 
@@ -107,8 +107,8 @@ TriesCall event old new = IsTrue old.honest → MayHaveHappened event old.past n
 abbrev pub IsFault : Bool → DiskState → DiskState → Refusal Unit → Type 0
 IsFault faulted old new refusal = (refusal ≡ DeviceFailed tt) × (IsTrue faulted ⊎ HasFailed old new)
 
--- What each step says of its device call: it makes this one and no other, or may have made it where
--- it is refused, by J6
+-- The clause of each step on its device call: it makes this one and no other. If J6 refuses it, it
+-- may have made this one
 pub record Steps {A : Type 0} (event : DiskEvent) (result : Result A (Refusal Unit)) (old new : Ring) : Type 0 where
   pub refusal : IfErr result (IsFault old.faulted old.disk new.disk)
   -- once a call failed, none is made
@@ -120,8 +120,8 @@ pub record Steps {A : Type 0} (event : DiskEvent) (result : Result A (Refusal Un
 abbrev pub IsHomeAndLabel : Ring → List Bytes → Type 0
 IsHomeAndLabel r image = StandsFor r.disk.past.size (home_of r) image × HasLabel r.label image
 
--- What a change of the form of an empty log says of images: up to one moment, and from it on, each
--- stands for the home blocks, and has the label
+-- The clause of a change of the form of an empty log on images: up to one moment, and from it on,
+-- each stands for the home blocks, and has the label
 abbrev pub ChangesForm : Ring → Past → Type 0
 ChangesForm r new = (mid : Past) × (LeavesOnly r.disk.past mid (IsHomeAndLabel r) × LeavesOnly mid new (IsHomeAndLabel r))
 

@@ -1,5 +1,5 @@
--- What holds of every circular log: of its numbers, whatever the disk does, and of each image of an
--- honest disk.
+-- The invariant of every circular log: of its numbers, whatever the disk does, and of each image of
+-- an honest disk.
 use Rattle.std.specs.Prelude.{ℕ, ◌≡◌, ◌≢◌, ◌⊎◌, true, length, ◌<◌, ◌≤◌, ◌+◌, ◌-◌, ◌^◌, false, IsTrue, List}
 use Rattle.journal_block.specs.declared.update.Update.{Update}
 use Rattle.journal_world.specs.declared.layout.TheConstants.{BLOCK_BYTES}
@@ -50,7 +50,7 @@ GivesHomeBlocks p header m from image = (b : ℕ) → FIRST_HOME ≤ b → b < p
 abbrev pub HasHomeBlocks : Past → List Bytes → Type 0
 HasHomeBlocks p image = (b : ℕ) → FIRST_HOME ≤ b → b < p.size → block_at image b ≡ read_of p b
 
--- What holds of each image of an honest disk
+-- The invariant of each image of an honest disk
 pub record HasSoundImages (p : Past) (header : Bytes) (m : Extent) : Type 0 where
   pub start : EveryImage p (HasStart m)
   pub end : EveryImage p (HasEnd m)
@@ -67,7 +67,7 @@ pub record HasHeaders (p : Past) (m : Extent) : Type 0 where
   pub end : end_by (read_of p 0) (read_of p) ≡ m.coming
   pub start : u64_at (read_of p 1) 0 ≡ m.freed
 
--- Of a sealed log: what its block 0 may name is within reach, and it wants of the free log blocks
+-- Of a sealed log: its block 0 names positions within reach, and it wants of the free log blocks
 -- the tags that block 0 in memory has for them
 
 abbrev pub HasHold : ℕ → List Bytes → Type 0
@@ -99,7 +99,7 @@ pub record HasTags (p : Past) (header tags : Bytes) (start end coming next : ℕ
   -- block 0 as it reads names a last group that is within reach of the coming end
   pub last : coming ≤ begin_of (read_of p 0) + MAX_GROUP
 
--- What holds of the numbers, whatever the disk does
+-- The invariant of the numbers, whatever the disk does
 pub record HasBounds (size : ℕ) (header : Bytes) (m : Extent) (next : ℕ) : Type 0 where
   pub large : FIRST_HOME < size
   pub few : is_sealed header ≡ true → next ≤ m.end + MAX_GROUP
@@ -114,7 +114,7 @@ pub record HasBounds (size : ℕ) (header : Bytes) (m : Extent) (next : ℕ) : T
   pub small : next < 2 ^ 62
   pub addresses : (q : ℕ) → m.start ≤ q → q < next → (FIRST_HOME ≤ home_by header q) × (home_by header q < size)
 
--- What holds of every `Circ`
+-- The invariant of every `Circ`
 pub record IsCirc (r : Ring) : Type 0 where
   pub form : r.sealed ≡ is_sealed r.header
   pub bounds : HasBounds r.disk.past.size r.header r.extent r.next

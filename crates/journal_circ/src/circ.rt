@@ -24,23 +24,23 @@ pub use opening::Opened;
 
 /// A disk with its circular log.
 ///
-/// A step or a read answers J6 `DeviceFailed` where the device fails in it, and no other refusal.
-/// From then on each answers J6 without a device call, and the state that was handed in is spent.
-/// After a failed step each image still stands for what it might have stood for during the step.
-/// The disk stays here until `into_disk`.
+/// Once the device failed in a step or a read, each step and read answers J6 `DeviceFailed` without
+/// a device call. The state that was passed to the failed step is gone. After a failed step each
+/// image still stands for one of the contents that it might have stood for during the step. The
+/// disk stays here until `into_disk`.
 #[derive(Drop)]
 pub struct Circ<D: BlockDisk> {
     device: FailStop<D>,
     // Block 0 as the next group has it.
     header: Block,
-    // Whether block 0 is of the sealed form.
+    // True if block 0 is of the sealed form.
     sealed: bool,
-    // Of a sealed log, the tag that each log block has as it reads: byte s is the one of block 2 +
+    // Of a sealed log, the tag that each log block has as it reads: byte s is the tag of block 2 +
     // s.
     tags: Block,
-    // What a tagged log block is written from, so that no step allocates.
+    // The buffer from which a tagged log block is written, so that no step allocates.
     scratch: Block,
-    // Block 1 as it was read, with the start that was put last.
+    // Block 1 as it was read, with the last start that was put.
     start_block: Block,
     extent: Extent,
     // The position that is put next.
@@ -78,10 +78,11 @@ impl<D: BlockDisk> Model for Circ<D> {
 }
 
 impl<D: BlockDisk> Circ<D> {
-    /// Reads a block of the disk, as its last write left it, whatever the log has for it.
+    /// Reads a block of the disk, as its last write left it, whatever update the log has of it.
     ///
-    /// Answers J6, and nothing else, where the device failed in this call or before. What `into`
-    /// then holds is not said.
+    /// # Errors
+    /// - `J6 DeviceFailed`: the device failed, in this call or before. The content of `into` is not
+    ///   specified. The images are as before.
     pub fn read(&mut self, block: u64, into: &mut Block) -> Result<(), Refusal<()>>
         requires { block < self.old.disk.past.size }
         ensures refusal { IfErr result (IsFault self.old.faulted self.old.disk self.new.disk) }
@@ -98,8 +99,9 @@ impl<D: BlockDisk> Circ<D> {
     /// Reads the log block of a position from the start to the one that is put next, and gives the
     /// number of its home block.
     ///
-    /// Answers J6, and nothing else, where the device failed in this call or before. What `into`
-    /// then holds is not said.
+    /// # Errors
+    /// - `J6 DeviceFailed`: the device failed, in this call or before. The content of `into` is not
+    ///   specified. The images are as before.
     pub fn read_logged(&mut self, position: u64, into: &mut Block) -> Result<u64, Refusal<()>>
         requires from_start { self.old.extent.start ≤ position }
         requires put { position < self.old.next }
@@ -149,14 +151,14 @@ impl<D: BlockDisk> Circ<D> {
         self.next
     }
 
-    /// Whether the log is of the sealed form: a group takes one barrier.
+    /// True if the log is of the sealed form: a group takes one barrier.
     pub fn is_sealed(&self) -> bool
         ensures { result ≡ self.now.sealed }
     {
         self.sealed
     }
 
-    /// Whether a device call failed, so that every step and read answers J6.
+    /// True if a device call failed, so that every step and read answers J6.
     pub fn is_faulted(&self) -> bool
         ensures { result ≡ self.now.faulted }
     {
@@ -170,8 +172,8 @@ impl<D: BlockDisk> Circ<D> {
         &self.device.disk
     }
 
-    /// Gives the disk up, with all that is pending on it. Once a failed barrier, a kill or a crash
-    /// has left it, it can be mended, also after a fault.
+    /// Gives the disk up, with all that is pending on it. It can be mended once a failed barrier, a
+    /// kill or a crash has left it, also after a fault.
     pub fn into_disk(self) -> D
         ensures disk { D.state result ≡ self.disk }
         ensures mendable { IsTrue self.disk.honest → IsMendable self.disk.past }
@@ -183,8 +185,8 @@ impl<D: BlockDisk> Circ<D> {
 }
 
 impl Circ<MemDisk> {
-    /// Makes the `call`-th device call from now on fail, be it a read, a write or a barrier, and no
-    /// other, whatever an earlier `fail_in` said. At 0 none fails.
+    /// Makes the `call`-th device call from now on fail, be it a read, a write or a barrier. No
+    /// other call fails, whatever an earlier `fail_in` said. At 0 none fails.
     pub fn fail_in(&mut self, call: u64)
         ensures { self.new ≡ self.old }
     {

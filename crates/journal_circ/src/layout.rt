@@ -1,6 +1,6 @@
-// Where the log lies on a disk. Numbers have 8 bytes, the lowest first.
+// The log's blocks on a disk. Numbers have 8 bytes, the lowest first.
 //
-// | Block | Bytes | What it has |
+// | Block | Bytes | Content |
 // |---|---|---|
 // | 0, the end's header | 0 to 7 | plain: the end, which is the position after the last, below 2^62 |
 // | | | sealed: 2^63 + a, where a, below 2^62, is the position at which the last group begins |
@@ -14,7 +14,7 @@
 // sealed log the word has these bytes, and the log block is the content with its byte 0 replaced by
 // the tag:
 //
-// | Bytes of the word | What they have |
+// | Bytes of the word | Content |
 // |---|---|
 // | 0 to 4 | the number of the home block |
 // | 5 | of the first position of a group how many positions the group has, from 1 to 255; of the others 0 |
@@ -24,47 +24,47 @@
 // Let a be the position in block 0 and n byte 5 of its word. The log ends at a + n if and only if
 // byte 0 of the log block of each position from a to a + n - 1 is the tag in its word, else at a.
 //
-// There are two headers so that each cycle writes one of its own, and the steps of the two come in
-// any order. A word of 2^62 up to 2^63 in block 0 is of neither form.
+// There are two headers so that each cycle writes its own, and the steps of the two come in any
+// order. A word from 2^62 up to 2^63 in block 0 is of neither form.
 ghost use Rattle.std.specs.Prelude.{◌≡◌};
 ghost use Rattle.journal_block.specs.Block.{u64_at};
 ghost use Rattle.journal_circ.specs.Log.{log_block, address_at, is_sealed, home_by, start_block, label_of};
 
 use journal_block::Block;
 
-/// How many positions the log has at once.
+/// The number of positions of the log.
 pub const LOG_POSITIONS: u64 = 511;
-/// The first block that is no part of the log.
+/// The first block after the log.
 pub const FIRST_HOME: u64 = 513;
-/// How many positions a group of a sealed log has at most, so that two groups share no log block.
+/// The most positions of a group of a sealed log, so that two groups share no log block.
 pub const MAX_GROUP: u64 = 255;
-/// How many blocks a disk with a sealed log has at most: its words have 5 bytes for a block's
-/// number.
+/// The most blocks of a disk with a sealed log: its words have 5 bytes for a block's number.
 pub const MAX_SEALED_BLOCKS: u64 = 1 << 40;
-/// The block with the log's end, or where its last group begins, and the words of its positions.
+/// The block with the log's end, or the beginning of its last group, and the words of its
+/// positions.
 pub(crate) const HEADER: u64 = 0;
 /// The block with the log's start, and the label.
 pub(crate) const START_BLOCK: u64 = 1;
-/// Where in block 0 the end lies, or where the last group begins, and in block 1 the start.
+/// The byte in block 0 of the end, or of the last group's position, and in block 1 of the start.
 pub(crate) const BOUND_AT: usize = 0;
 /// In block 0 of a sealed log this is added to the position at which the last group begins.
 pub(crate) const SEALED: u64 = 1 << 63;
 
-/// The block that a position's content lies in.
+/// The block of a position's content.
 pub(crate) fn log_block(position: u64) -> u64
     ensures { result ≡ log_block position }
 {
     2 + position % LOG_POSITIONS
 }
 
-/// Where in block 0 the word of a position lies.
+/// The byte in block 0 of a position's word.
 pub(crate) fn address_at(position: u64) -> usize
     ensures { result ≡ address_at position }
 {
     (8 + 8 * (position % LOG_POSITIONS)) as usize
 }
 
-/// Whether block 0 is of the sealed form.
+/// True if block 0 is of the sealed form.
 pub(crate) fn is_sealed(header: &Block) -> bool
     ensures { result ≡ is_sealed header.now }
 {

@@ -42,8 +42,8 @@ pub(crate) fn put_tagged(into: &mut Block, from: &Block, tag: u8)
     into.copy_range(0, &[tag]);
 }
 
-/// Makes of a position's log block, as it was read, the content that it stands for: of a sealed log
-/// it puts byte 0 back.
+/// Restores the content of a position's log block, as it was read: of a sealed log it puts byte 0
+/// back.
 pub(crate) fn put_back(header: &Block, position: u64, block: &mut Block)
     ensures { block.new ≡ bytes_by header.now (λ _. block.old) position }
 {
@@ -59,14 +59,14 @@ pub(crate) fn tag_in(header: &Block, position: u64) -> u8
     (header.get_u64(address_at(position)) / (1 << 48) % (1 << 8)) as u8
 }
 
-// The byte that the tag of a position's log block stands for.
+// The byte that the tag of a position's log block replaces.
 fn first_in(header: &Block, position: u64) -> u8
     ensures { result ≡ first_in header.now position }
 {
     (header.get_u64(address_at(position)) / (1 << 56)) as u8
 }
 
-// How many positions the group has that begins at a position.
+// The number of positions of the group that begins at a position.
 fn count_in(header: &Block, position: u64) -> u64
     ensures { result ≡ count_in header.now position }
 {
@@ -115,8 +115,8 @@ pub(crate) fn put_group(header: &mut Block, begin: u64, n: u8)
     header.put_u64(BOUND_AT, SEALED + begin);
 }
 
-/// Where a sealed log ends: after its last group, where each of its log blocks has its tag, else
-/// before it.
+/// The end of a sealed log: after its last group if each of its log blocks has its tag, else before
+/// it.
 pub(crate) fn end_of(header: &Block, tags: &Block) -> u64
     requires { is_sealed header.now ≡ true }
     ensures { result ≡ end_of (tag_in header.now) (tag_at tags.now) (begin_of header.now) (count_in header.now (begin_of header.now)) }
@@ -130,7 +130,7 @@ pub(crate) fn end_of(header: &Block, tags: &Block) -> u64
     }
 }
 
-// Whether the log block of each position from one to another has its tag.
+// True if the log block of each position from one to another has its tag.
 fn are_there(header: &Block, tags: &Block, from: u64, to: u64) -> bool
     requires { from ≤ to }
     ensures { result ≡ are_there (tag_in header.now) (tag_at tags.now) from (to - from) }

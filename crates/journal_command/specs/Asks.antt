@@ -1,4 +1,4 @@
--- What the words of a program ask for.
+-- The request in the words of a program.
 use Rattle.std.specs.Prelude.{ℕ, ◌≡◌, ◌⊎◌, ◌<◌, ◌≤◌, ◌^◌, List, [], ◌∷◌, codes}
 use Rattle.std.specs.Fmt.{decimal}
 use Rattle.journal_world.specs.declared.layout.TheConstants.{MIN_BLOCKS, MAX_BLOCKS}
@@ -7,11 +7,11 @@ use Rattle.journal_command.specs.declared.ask.Ask.TheVariants.{Script, Format, C
 use Rattle.journal_command.specs.declared.ask.AskFault.{AskFault}
 use Rattle.journal_command.specs.declared.ask.AskFault.TheVariants.{Usage, BadSize}
 
--- the words ask for a script on a disk of so many blocks
+-- the words ask for a script on a disk of this many blocks
 abbrev pub AsksScript : List (List ℕ) → ℕ → Type 0
 AsksScript words n = (n < 2 ^ 32) × (words ≡ codes "script" ∷ decimal n ∷ [])
 
--- the words ask for a disk of so many blocks in the file at the path
+-- the words ask for a disk of this many blocks in the file at the path
 abbrev pub AsksFormat : List (List ℕ) → List ℕ → ℕ → Type 0
 AsksFormat words path n = (n < 2 ^ 32) × (words ≡ codes "format" ∷ path ∷ decimal n ∷ [])
 
@@ -23,11 +23,11 @@ AsksCheck words path = words ≡ codes "check" ∷ path ∷ []
 abbrev pub AsksMigrate : List (List ℕ) → List ℕ → Type 0
 AsksMigrate words path = words ≡ codes "migrate" ∷ path ∷ []
 
--- the words ask for the service of the file at the path, at a port, to so many connections
+-- the words ask for the service of the file at the path, at a port, to this many connections
 abbrev pub AsksServe : List (List ℕ) → List ℕ → ℕ → ℕ → Type 0
 AsksServe words path port k = (port < 2 ^ 16) × (k < 2 ^ 32) × (words ≡ codes "serve" ∷ path ∷ decimal port ∷ decimal k ∷ [])
 
--- a disk may have so many blocks
+-- a disk may have this many blocks
 abbrev pub IsSize : ℕ → Type 0
 IsSize n = (MIN_BLOCKS ≤ n) × (n ≤ MAX_BLOCKS)
 
@@ -39,7 +39,7 @@ AsksFor words (Check path) = AsksCheck words path.now
 AsksFor words (Migrate path) = AsksMigrate words path.now
 AsksFor words (Serve path port connections) = AsksServe words path.now port connections
 
--- the words ask for a disk of so many blocks, in memory or in a file
+-- the words ask for a disk of this many blocks, in memory or in a file
 abbrev pub MayBeAsked : List (List ℕ) → ℕ → Type 0
 MayBeAsked words n = AsksScript words n ⊎ ((path : List ℕ) × AsksFormat words path n)
 

@@ -1,4 +1,4 @@
--- What a line of a script says.
+-- The command of a line of a script.
 use Rattle.std.specs.Prelude.{ℕ, ◌≡◌, ◌+◌, ◌<◌, ◌≤◌, ◌^◌, ◌==◌, List, [], ◌∷◌, length, map, Option, Some, None, codes}
 use Rattle.std.specs.List.{slice_split, join_with_byte, AllByRecursion}
 use Rattle.std.specs.Fmt.{decimal}
@@ -12,7 +12,7 @@ use Rattle.journal_command.specs.declared.command.verb.Verb.TheVariants as verbs
 use denote.Ref.{Bor}
 use Rattle.journal_command.specs.Values.{SpellsValue}
 
--- the words of a line: what stands between its spaces
+-- the words of a line: the texts between its spaces
 abbrev pub line_words : List ℕ → List (List ℕ)
 line_words line = slice_split (λ b. b == 32) line
 
@@ -57,12 +57,11 @@ abbrev pub AtMost : List (List ℕ) → Option ℕ → Type 0
 AtMost ws None = ws ≡ []
 AtMost ws (Some most) = IsNumber most × (ws ≡ decimal most ∷ [])
 
--- so many bytes from this one on lie inside a block
+-- this many bytes from this one on are inside a block
 abbrev pub InBlock : ℕ → ℕ → Type 0
 InBlock at len = (1 ≤ len) × (at + len ≤ 4096)
 
--- The text lists the numbers: they stand in decimal, joined by commas. A line has no room for more
--- than 10000
+-- The text lists the numbers, in decimal, joined by commas. A line has no room for more than 10000
 pub record Lists (text numbers : List ℕ) : Type 0 where
   pub some : 0 < length numbers
   pub fits : length numbers ≤ 10000
@@ -79,7 +78,7 @@ Chooses text (choices.Listed numbers) = Lists text numbers.now
 abbrev pub IsChoice : List (List ℕ) → Choice → Type 0
 IsChoice ws choice = (text : List ℕ) × Chooses text choice × (ws ≡ text ∷ [])
 
--- the words may stand behind the verb, and say the command with it
+-- the words may follow the verb, and say the command with it
 abbrev pub FollowsVerb : Verb → List (List ℕ) → Command → Type 0
 FollowsVerb verbs.Put ws c = (a : Addr) × (text : List ℕ) × (value : Bor (List ℕ)) × AddrThen ws a (text ∷ []) × SpellsValue text value.now × (c ≡ commands.Put a value)
 FollowsVerb verbs.Get ws c = (a : Addr) × AddrThen ws a [] × (c ≡ commands.Get a)

@@ -17,11 +17,11 @@ abbrev pub first_line : List ℕ → List ℕ
 first_line [] = []
 first_line (x ∷ xs) = if x == 10 then [] else x ∷ first_line xs
 
--- what is kept of a line
+-- the kept part of a line
 unfoldable pub kept : List ℕ → List ℕ
 kept line = take 20001 line
 
--- The line is the first of the input, which goes on behind its newline
+-- The line is the first of the input, which goes on after its newline
 pub record TakesLine (xs taken : List ℕ) (rest : Option (List ℕ)) : Type 0 where
   pub some : 0 < length xs
   pub line : taken ≡ kept (first_line xs)
@@ -41,7 +41,7 @@ pub record TakesBytes (bytes all : List ℕ) (old new : LinesState) : Type 0 whe
   pub line : new.line ≡ kept (old.line ++ bytes)
   pub left : Consumes old.left new.left all
 
--- what is shown of an input begins with so many bytes of the line, and goes on so
+-- the shown part of an input begins with this many bytes of the line, and goes on in this way
 abbrev pub ShowsPiece : List ℕ → ℕ → Piece → Type 0
 ShowsPiece shown n pieces.Part = (0 < n) × (n ≡ length shown) × NoBreak shown
 ShowsPiece shown n pieces.Whole = (take (n + 1) shown ≡ take n shown ++ 10 ∷ []) × NoBreak (take n shown)

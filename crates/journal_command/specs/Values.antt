@@ -15,7 +15,7 @@ hex byte = digit (byte / 16) ∷ digit (byte % 16) ∷ []
 abbrev pub starred : ℕ → ℕ → List ℕ
 starred byte count = hex byte ++ 42 ∷ decimal count
 
--- A term of a text: some bytes, or one byte and how often it stands
+-- A term of a text: some bytes, or one byte and how often it comes
 pub data Term : Type 0 where
   listed : List ℕ → Term
   repeated : ℕ → ℕ → Term
@@ -76,6 +76,6 @@ pub record AddsTerm (text old new : List ℕ) : Type 0 where
   pub is_text : text ≡ term_text term
   pub is_value : new ≡ old ++ term_bytes term
 
--- the text is no term whose bytes fit behind old
+-- the text is no term whose bytes fit after old
 abbrev pub NoTermFits : List ℕ → List ℕ → Type 0
 NoTermFits text old = (t : Term) → IsTerm t → text ≡ term_text t → length old + length (term_bytes t) ≤ 4096 → ⊥

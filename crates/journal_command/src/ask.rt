@@ -1,4 +1,4 @@
-// What the words of a program ask for.
+// The request in the words of a program.
 ghost use Rattle.std.specs.Prelude.{ℕ, map, string_bytes, IfOk, IfErr, IfSome, IfNone, OnOk, List};
 ghost use Rattle.journal_command.specs.Asks.{AsksScript, AsksFormat, AsksCheck, AsksMigrate, AsksServe, AsksFor, IsSize, MayBeAsked, CannotBegin};
 
@@ -6,19 +6,19 @@ use crate::number::{read_number, read_port};
 use journal_world::Layout;
 use thiserror::Error;
 
-/// What the program is asked to do.
+/// The request of the words.
 #[derive(Clone, Copy)]
 pub enum Ask<'w> {
-    /// Answer a script, over a new disk of so many blocks.
+    /// Answer a script, over a new disk of this many blocks.
     Script {
         blocks: u64,
     },
-    /// Make a disk without files, of so many blocks, in the file at the path.
+    /// Make a disk without files, of this many blocks, in the file at the path.
     Format {
         path: &'w str,
         blocks: u64,
     },
-    /// Look whether the disk in the file at the path is sound.
+    /// Check whether the disk in the file at the path is sound.
     Check {
         path: &'w str,
     },
@@ -26,8 +26,8 @@ pub enum Ask<'w> {
     Migrate {
         path: &'w str,
     },
-    /// Serve the files of the disk in the file at the path, at a port, or at one that is free where
-    /// that is 0, to so many connections.
+    /// Serve the files of the disk in the file at the path, at a port, or at a free one if that is
+    /// 0, to this many connections.
     Serve {
         path: &'w str,
         port: u16,
@@ -41,13 +41,18 @@ pub enum AskFault {
     /// The words ask for nothing.
     #[error("the words ask for nothing")]
     Usage,
-    /// They ask for a disk of a size that there is not.
+    /// They ask for a disk of a size that no disk has.
     #[error("no disk has so many blocks")]
     BadSize,
 }
 
 impl<'w> Ask<'w> {
-    /// What the words ask for.
+    /// Reads the request of the words.
+    ///
+    /// # Errors
+    /// Nothing begins.
+    /// - `Usage`: the words ask for nothing.
+    /// - `BadSize`: they ask for a disk of a size that no disk has.
     pub fn read(words: &'w [String]) -> Result<Ask<'w>, AskFault>
         ensures ok { IfOk result (AsksFor (map string_bytes words.now)) }
         ensures err { IfErr result (CannotBegin (map string_bytes words.now)) }
@@ -77,7 +82,7 @@ impl<'w> Ask<'w> {
     }
 }
 
-// How many blocks the words ask for, where they ask for a script.
+// The number of blocks, if the words ask for a script.
 fn script_asked(words: &[String]) -> Option<u64>
     ensures some { IfSome result (AsksScript (map string_bytes words.now)) }
     ensures none { IfNone result ((n : ℕ) → AsksScript (map string_bytes words.now) n → ⊥) }
@@ -90,7 +95,7 @@ fn script_asked(words: &[String]) -> Option<u64>
     }
 }
 
-// In which file, and of how many blocks the words ask for a disk, where they do.
+// The file and the number of blocks, if the words ask for a new disk.
 fn format_asked(words: &[String]) -> Option<(&str, u64)>
     ensures some { IfSome result (λ asked. AsksFormat (map string_bytes words.now) asked.0.now asked.1) }
     ensures none { IfNone result ((path : List ℕ) (n : ℕ) → AsksFormat (map string_bytes words.now) path n → ⊥) }
@@ -104,7 +109,7 @@ fn format_asked(words: &[String]) -> Option<(&str, u64)>
     }
 }
 
-// Which file the words ask to look at, where they do.
+// The file, if the words ask to check it.
 fn check_asked(words: &[String]) -> Option<&str>
     ensures some { IfSome result (λ path. AsksCheck (map string_bytes words.now) path.now) }
     ensures none { IfNone result ((path : List ℕ) → AsksCheck (map string_bytes words.now) path → ⊥) }
@@ -115,7 +120,7 @@ fn check_asked(words: &[String]) -> Option<&str>
     }
 }
 
-// Which file the words ask to make one of version 2, where they do.
+// The file, if the words ask to make it one of version 2.
 fn migrate_asked(words: &[String]) -> Option<&str>
     ensures some { IfSome result (λ path. AsksMigrate (map string_bytes words.now) path.now) }
     ensures none { IfNone result ((path : List ℕ) → AsksMigrate (map string_bytes words.now) path → ⊥) }
@@ -126,7 +131,7 @@ fn migrate_asked(words: &[String]) -> Option<&str>
     }
 }
 
-// Which service the words ask for, where they do.
+// The service that the words ask for, if they do.
 fn serve_asked(words: &[String]) -> Option<(&str, u16, u64)>
     ensures some { IfSome result (λ asked. AsksServe (map string_bytes words.now) asked.0.now asked.1 asked.2) }
     ensures none { IfNone result ((path : List ℕ) (port k : ℕ) → AsksServe (map string_bytes words.now) path port k → ⊥) }
@@ -141,7 +146,7 @@ fn serve_asked(words: &[String]) -> Option<(&str, u16, u64)>
     }
 }
 
-// Whether a disk may have so many blocks.
+// Refuses a number of blocks that no disk has.
 fn check_size(words: &[String], blocks: u64) -> Result<(), AskFault>
     requires { MayBeAsked (map string_bytes words.now) blocks }
     ensures ok { OnOk result (IsSize blocks) }

@@ -20,13 +20,16 @@ pub struct ChoiceRoom {
 
 impl ChoiceRoom {
     /// Takes the memory.
+    ///
+    /// # Errors
+    /// - Memory is refused. Nothing was made.
     pub fn new(alloc: Global) -> Result<ChoiceRoom, AllocError> {
         Ok(ChoiceRoom {
             numbers: Vec::with_capacity(alloc, MOST)?,
         })
     }
 
-    /// The choice that the text is, or `None` where it is none. It takes no memory.
+    /// The choice of the text, or `None` if it is none. The call takes no memory.
     pub fn read(&mut self, text: &[u8]) -> Option<Choice<'_>>
         ensures found { IfSome result (Chooses text.now) }
         ensures none { IfNone result ((choice : Chosen) → Chooses text.now choice → ⊥) }
@@ -50,7 +53,7 @@ impl ChoiceRoom {
         Some(&self.numbers)
     }
 
-    // Adds the numbers between the commas. `false` says that the text lists none, or too many.
+    // Adds the numbers between the commas. False if the text lists none, or too many.
     fn push_numbers(&mut self, text: &[u8]) -> bool
         requires { self.old.numbers.items ≡ [] }
         ensures found { IsTrue result → Lists text.now self.new.numbers.items }

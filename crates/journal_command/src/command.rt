@@ -1,4 +1,4 @@
-// What a line of a script asks for.
+// The command of a line of a script.
 ghost use Rattle.std.specs.Prelude.{◌≡◌, ◌≢◌, ℕ, ◌+◌, ◌&&◌, nat_le, [], List, Option, IfSome, IfNone};
 ghost use Rattle.journal_world.specs.declared.address.Addr.{Addr as Address};
 ghost use Rattle.journal_command.specs.declared.command.Choice.{Choice as Chosen};
@@ -17,7 +17,7 @@ use words::Words;
 // The bytes of a block.
 const BLOCK_BYTES: usize = 4096;
 
-/// What a line asks for.
+/// The command of a line.
 #[derive(Clone, Copy)]
 pub enum Command<'a> {
     /// Overwrite an object.
@@ -31,13 +31,13 @@ pub enum Command<'a> {
     },
     /// Commit the open transaction.
     Commit,
-    /// Give the open transaction up.
+    /// Abort the open transaction.
     Abort,
     /// Fence the session, so that none of its commits is added from then on.
     Fence,
     /// Take steps until each commit is marked.
     Wait,
-    /// Steps of the logger, at most so many where a number stands there.
+    /// Steps of the logger, at most as many as the number says, if there is one.
     Log {
         most: Option<u32>,
     },
@@ -45,9 +45,9 @@ pub enum Command<'a> {
     Install {
         most: Option<u32>,
     },
-    /// Say how far the journal has come.
+    /// Answer the numbers of the journal.
     Stat,
-    /// Say which blocks have writes that are not synced.
+    /// Answer the blocks with writes that are not synced.
     Pend,
     /// `len` bytes of a block from byte `at` on: at least one, and inside the block.
     Disk {
@@ -89,7 +89,7 @@ pub enum Choice<'a> {
 }
 
 impl<'a> Command<'a> {
-    /// The command that the line says, or `None` where it says none. The room takes the bytes of a
+    /// The command that the line says, or `None` if it says none. The room takes the bytes of a
     /// value and the numbers of a choice.
     pub fn read(line: &[u8], room: &'a mut Room) -> Option<Command<'a>>
         ensures found { IfSome result (LineSays line.now) }
@@ -113,7 +113,7 @@ fn read_words<'a>(line: &[u8], room: &'a mut Room) -> Option<Command<'a>>
     read_behind(verb, &mut words, room)
 }
 
-// The command that the words behind a verb say.
+// The command that the words after a verb say.
 fn read_behind<'a>(verb: Verb, words: &mut Words<'_>, room: &'a mut Room) -> Option<Command<'a>>
     ensures found { IfSome result (FollowsVerb verb words.old) }
     ensures none { IfNone result ((command : Asked) → FollowsVerb verb words.old command → ⊥) }
@@ -146,7 +146,7 @@ fn read_behind<'a>(verb: Verb, words: &mut Words<'_>, room: &'a mut Room) -> Opt
     }
 }
 
-// The command, where no word is left behind it.
+// The command, if no word is left after it.
 fn alone<'a>(command: Command<'a>, words: &Words<'_>) -> Option<Command<'a>>
     ensures found { IfSome result (λ found. (words.now ≡ []) × (found ≡ command.entry)) }
     ensures none { IfNone result (words.now ≢ []) }
@@ -155,7 +155,7 @@ fn alone<'a>(command: Command<'a>, words: &Words<'_>) -> Option<Command<'a>>
     Some(command)
 }
 
-// What stands behind `put`.
+// Reads the words after `put`.
 fn read_put<'a>(words: &mut Words<'_>, room: &'a mut Room) -> Option<Command<'a>>
     ensures found { IfSome result (FollowsVerb Verb.Put words.old) }
     ensures none { IfNone result ((command : Asked) → FollowsVerb Verb.Put words.old command → ⊥) }
@@ -165,7 +165,7 @@ fn read_put<'a>(words: &mut Words<'_>, room: &'a mut Room) -> Option<Command<'a>
     alone(Command::Put { addr, value }, words)
 }
 
-// What stands behind `get`.
+// Reads the words after `get`.
 fn read_get<'a>(words: &mut Words<'_>) -> Option<Command<'a>>
     ensures found { IfSome result (FollowsVerb Verb.Get words.old) }
     ensures none { IfNone result ((command : Asked) → FollowsVerb Verb.Get words.old command → ⊥) }
@@ -174,7 +174,7 @@ fn read_get<'a>(words: &mut Words<'_>) -> Option<Command<'a>>
     alone(Command::Get { addr }, words)
 }
 
-// What stands behind `disk`.
+// Reads the words after `disk`.
 fn read_disk<'a>(words: &mut Words<'_>) -> Option<Command<'a>>
     ensures found { IfSome result (FollowsVerb Verb.Disk words.old) }
     ensures none { IfNone result ((command : Asked) → FollowsVerb Verb.Disk words.old command → ⊥) }
@@ -188,7 +188,7 @@ fn read_disk<'a>(words: &mut Words<'_>) -> Option<Command<'a>>
     alone(Command::Disk { block, at, len }, words)
 }
 
-// What stands behind `fail`.
+// Reads the words after `fail`.
 fn read_fail<'a>(words: &mut Words<'_>) -> Option<Command<'a>>
     ensures found { IfSome result (FollowsVerb Verb.Fail words.old) }
     ensures none { IfNone result ((command : Asked) → FollowsVerb Verb.Fail words.old command → ⊥) }
@@ -200,7 +200,7 @@ fn read_fail<'a>(words: &mut Words<'_>) -> Option<Command<'a>>
     alone(Command::Fail { call }, words)
 }
 
-// What stands behind `poke`.
+// Reads the words after `poke`.
 fn read_poke<'a>(words: &mut Words<'_>, room: &'a mut Room) -> Option<Command<'a>>
     ensures found { IfSome result (FollowsVerb Verb.Poke words.old) }
     ensures none { IfNone result ((command : Asked) → FollowsVerb Verb.Poke words.old command → ⊥) }
@@ -224,7 +224,7 @@ fn read_addr(words: &mut Words<'_>) -> Option<Addr>
     Some(Addr { block, off })
 }
 
-// The number that is the one word left, or none where no word is left.
+// The number that is the one word left, or none if no word is left.
 fn read_most(words: &mut Words<'_>) -> Option<Option<u32>>
     ensures found { IfSome result (AtMost words.old) }
     ensures none { IfNone result ((most : Option ℕ) → AtMost words.old most → ⊥) }
@@ -247,7 +247,7 @@ fn read_choice<'a>(words: &mut Words<'_>, room: &'a mut Room) -> Option<Choice<'
     Some(choice)
 }
 
-// Whether there are bytes so many, from this one on, and all inside a block.
+// True if there are `len` bytes from this one on, at least one, all inside a block.
 fn is_in_block(at: u32, len: usize) -> bool
     ensures { result ≡ (nat_le 1 len && nat_le (at + len) 4096) }
 {

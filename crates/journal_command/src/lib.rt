@@ -1,5 +1,6 @@
-//! What a program's words and the lines of a script say, with no journal: what the words ask for,
-//! the lines of an input, the command that each says, and how numbers and values are written.
+//! The meaning of a program's words and of the lines of a script, with no journal: the request of
+//! the words, the lines of an input, the command of each line, and how numbers and values are
+//! written.
 //!
 //! A line is its words, with one space between each two, and `specs/Commands.antt` says which words
 //! say which command. A command lends the bytes of its value, or the numbers of its choice, from a

@@ -12,12 +12,12 @@ use std::marker::Model;
 /// The most bytes of a line, the newline not counted.
 pub const LINE_BYTES: usize = 20000;
 
-/// What was taken of a line.
+/// The part of a line that was taken.
 #[derive(Clone, Copy)]
 pub enum Piece {
-    /// Bytes of it, behind which it goes on.
+    /// Bytes of it. More of it follows.
     Part,
-    /// All that was left of it, and its newline.
+    /// The rest of it, and its newline.
     Whole,
     /// Nothing: the input ended.
     End,
@@ -25,7 +25,7 @@ pub enum Piece {
 
 /// The lines of an input. The memory for a line is taken once.
 ///
-/// Contracts see the bytes that are left of the input, where they are known, and the line that was
+/// Contracts see the bytes that are left of the input, if they are known, and the line that was
 /// read last. Of a longer one only the first bytes are kept, one more than a line may have.
 #[derive(Drop)]
 pub struct Lines<I: Read> {
@@ -47,6 +47,9 @@ impl<I: Read> Model for Lines<I> {
 
 impl<I: Read + Drop> Lines<I> {
     /// The lines of the input.
+    ///
+    /// # Errors
+    /// - Memory is refused. The input is dropped.
     pub fn new(alloc: Global, input: I) -> Result<Lines<I>, AllocError>
         ensures { IfOk result (λ lines. lines.left ≡ I.remaining input) }
     {
@@ -56,13 +59,15 @@ impl<I: Read + Drop> Lines<I> {
         })
     }
 
-    /// Whether a line can be read without waiting for more of the input.
+    /// True if a line can be read without waiting for more of the input.
     pub fn is_at_hand(&self) -> bool {
         self.input.buffer().contains(&b'\n')
     }
 
-    /// Reads the next line. `false` at the end of the input. The last line need not end in a
-    /// newline.
+    /// Reads the next line. False at the end of the input. The last line need not end in a newline.
+    ///
+    /// # Errors
+    /// - The input fails. The line is not specified.
     pub fn advance(&mut self) -> io::Result<bool>
         ensures { IfOk result (Advances self.old self.new) }
     {
@@ -84,8 +89,8 @@ impl<I: Read + Drop> Lines<I> {
         &self.line
     }
 
-    // Takes what is at hand of the line, with its newline. Where nothing is at hand, the input is
-    // read first.
+    // Takes the part of the line that is at hand, with its newline. If nothing is at hand, the
+    // input is read first.
     fn take_piece(&mut self) -> io::Result<Piece>
         ensures { IfOk result (TakesPiece self.old self.new) }
     {
@@ -101,7 +106,7 @@ impl<I: Read + Drop> Lines<I> {
     }
 }
 
-// Reads the input where nothing of it is at hand. Nothing is then at its end alone.
+// Reads the input if nothing of it is at hand. Afterwards nothing is at hand only at its end.
 fn fill<I: Read>(input: &mut BufReader<I>) -> io::Result<()>
     ensures left { Keeps (reader_remaining I.remaining input.old) (reader_remaining I.remaining input.new) }
     ensures end { OnOk result (reader_buffer input.new ≡ [] → IsAtEnd (reader_remaining I.remaining input.old)) }
@@ -117,7 +122,7 @@ fn fill<I: Read>(input: &mut BufReader<I>) -> io::Result<()>
     Err(ErrorKind::TimedOut.into())
 }
 
-// How many bytes of the line stand in front, and how it goes on.
+// The number of bytes of the line in front, and how it goes on.
 fn first_piece(shown: &[u8]) -> (usize, Piece)
     ensures { ShowsPiece shown.now result.0 result.1 }
 {

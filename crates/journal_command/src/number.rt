@@ -27,7 +27,8 @@ pub fn read_port(text: &[u8]) -> Option<u16>
     str::from_utf8(text).ok()?.parse().ok()
 }
 
-// Whether the text begins with a sign, or with a zero before others: `parse` would take these.
+// True if the text begins with a sign, or with a zero before other digits: `parse` would take
+// these.
 fn is_padded(text: &[u8]) -> bool
     ensures { result ≡ begins_padded text.now }
 {

@@ -1,10 +1,9 @@
-// Memory for what a line spells.
+// Memory for the values of a line.
 use crate::choice::ChoiceRoom;
 use crate::value::ValueRoom;
 use std::alloc::{AllocError, Global};
 
-/// Room for what one line spells, a value or a choice, taken once and used for one line after
-/// another.
+/// Room for the value or the choice of one line, taken once and used for one line after another.
 #[derive(Drop)]
 pub struct Room {
     /// For the bytes of a value.
@@ -15,6 +14,9 @@ pub struct Room {
 
 impl Room {
     /// Takes the memory.
+    ///
+    /// # Errors
+    /// - Memory is refused. Nothing was made.
     pub fn new(alloc: Global) -> Result<Room, AllocError> {
         Ok(Room {
             value: ValueRoom::new(alloc)?,

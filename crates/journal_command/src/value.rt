@@ -22,13 +22,16 @@ pub struct ValueRoom {
 
 impl ValueRoom {
     /// Takes the memory.
+    ///
+    /// # Errors
+    /// - Memory is refused. Nothing was made.
     pub fn new(alloc: Global) -> Result<ValueRoom, AllocError> {
         Ok(ValueRoom {
             bytes: Vec::with_capacity(alloc, LONGEST)?,
         })
     }
 
-    /// The value that the text spells, or `None` where it spells none. It takes no memory.
+    /// The value that the text spells, or `None` if it spells none. The call takes no memory.
     pub fn read(&mut self, text: &[u8]) -> Option<&[u8]>
         ensures found { IfSome result (λ value. SpellsValue text.now value.now) }
         ensures only { IfSome result (λ value. (other : List ℕ) → SpellsValue text.now other → other ≡ value.now) }
@@ -41,7 +44,7 @@ impl ValueRoom {
         Some(&self.bytes)
     }
 
-    // Adds the bytes of the text's terms. `false` says that the text is no terms, or too many.
+    // Adds the bytes of the text's terms. False if the text is no terms, or too many.
     fn push_terms(&mut self, text: &[u8]) -> bool
         requires { self.old.bytes.items ≡ [] }
         ensures found { IsTrue result → SpellsValue text.now self.new.bytes.items }
@@ -55,7 +58,7 @@ impl ValueRoom {
         true
     }
 
-    // Adds the bytes of a term. `false` says that the text is none, or that its bytes do not fit.
+    // Adds the bytes of a term. False if the text is none, or its bytes do not fit.
     fn push_term(&mut self, term: &[u8]) -> bool
         ensures added { IsTrue result → AddsTerm term.now self.old.bytes.items self.new.bytes.items }
         ensures none { result ≡ false → NoTermFits term.now self.old.bytes.items }
@@ -124,7 +127,7 @@ fn value_of(letter: u8) -> Option<u8>
     }
 }
 
-// The count behind a `*`: 1 to 4096.
+// The count after a `*`: 1 to 4096.
 fn count_of(text: &[u8]) -> Option<usize>
     ensures { MatchOption result
         ((count : ℕ) → 1 ≤ count → count ≤ 4096 → text.now ≢ decimal count)
@@ -137,7 +140,10 @@ fn count_of(text: &[u8]) -> Option<usize>
     Some(count)
 }
 
-/// Prints a value by its maximal runs of equal bytes. It takes no memory.
+/// Prints a value by its maximal runs of equal bytes. The call takes no memory.
+///
+/// # Errors
+/// - The output fails. Part of the text may be printed.
 pub fn print_value<W: Write>(output: &mut W, value: &[u8]) -> io::Result<()>
     ensures printed { OnOk result
         (Appends (W.contents output.old) (W.contents output.new) (text_of value.now)) }
@@ -155,7 +161,7 @@ pub fn print_value<W: Write>(output: &mut W, value: &[u8]) -> io::Result<()>
     Ok(())
 }
 
-// The longest run at the front, its byte and its length, and what is behind it.
+// The longest run at the front, its byte and its length, and the rest after it.
 fn split_run(bytes: &[u8]) -> Option<(u8, usize, &[u8])>
     ensures { MatchOption result (bytes.now ≡ [])
         (λ split. (runs bytes.now ≡ run split.0 split.1 ∷ runs split.2.now) × (length split.2.now < length bytes.now)) }
@@ -166,7 +172,7 @@ fn split_run(bytes: &[u8]) -> Option<(u8, usize, &[u8])>
     Some((byte, count, behind))
 }
 
-// How many bytes at the front are this one.
+// The number of bytes at the front that are this one.
 fn run_length(byte: u8, bytes: &[u8]) -> usize
     ensures { result ≡ length (take_while (λ other. nat_eq other byte) bytes.now) }
 {

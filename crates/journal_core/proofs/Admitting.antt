@@ -21,7 +21,7 @@ use Rattle.journal_parts.specs.Durables.{DurableState, IsCallRefusal}
 use Rattle.journal_memory.specs.Volatiles.{VolatileState, IsVolatile}
 use Rattle.journal_memory.specs.VolatileCommits.{IsCommitted as IsCommittedIn, with_room}
 use Rattle.journal_parts.specs.Pairs.{Tied}
-use Rattle.journal_parts.specs.Cores.{CoreState, IsRunning, OnlyReads, is_faulted}
+use Rattle.journal_parts.specs.CoreStates.{CoreState, IsRunning, OnlyReads, is_faulted}
 use Rattle.journal_parts.specs.CoreParts.{IsPair, core_of, outset}
 use Rattle.journal_core.specs.Steps.{IsDeviceRefusal}
 use Rattle.journal_core.specs.Commits.{IsCommitted, IsCommitRefusal}

@@ -17,7 +17,7 @@ use Rattle.journal_parts.specs.Durables.{DurableState, IsCallRefusal, is_faulted
 use Rattle.journal_memory.specs.Fetches.{FetchedState, IsFetched}
 use Rattle.journal_memory.specs.Outsets.{Outset, MayRead}
 use Rattle.journal_memory.specs.Volatiles.{VolatileState, outset_of}
-use Rattle.journal_parts.specs.Cores.{CoreState, Crashes, IsRunning, OnlyReads}
+use Rattle.journal_parts.specs.CoreStates.{CoreState, Crashes, IsRunning, OnlyReads}
 use Rattle.journal_parts.specs.CoreParts.{IsPair, core_of}
 use Rattle.journal_memory.specs.Transactions.{TransactionState, ReadResultState}
 use Rattle.journal_core.specs.Steps.{LogAnswers, IsLogRefusal, InstallAnswers, IsInstallRefusal, BeginsSession, IsSessionRefusal, IsReadRefusal, IsFetchRefusal}

@@ -15,9 +15,9 @@ use Rattle.journal_block.specs.Block.{Bytes}
 use Rattle.journal_disk.specs.Disks.{DiskState}
 use Rattle.journal_history.specs.Tokens.{SessionState, next_transaction}
 use Rattle.journal_memory.specs.Fetches.{FetchedState}
-use Rattle.journal_parts.specs.Cores.{CoreState, Crashes, disk_of}
+use Rattle.journal_parts.specs.CoreStates.{CoreState, Crashes, disk_of}
 use Rattle.journal_memory.specs.Transactions.{TransactionState, begun, Overwrites}
-use Rattle.journal_parts.specs.Openings.{Begins}
+use Rattle.journal_parts.specs.Beginnings.{Begins}
 use Rattle.journal_core.specs.Interleavings.{Event, Mount, Machine, mounted, with_core, with_transaction, with_slot, with_fetched, ended, FetchesBlocks, CommitsTransaction, LogsStep, Joins, OverwritesUnderSlot, Run, holds}
 use Rattle.journal_core.specs.Outcomes.{Answer, IsLeftBetween, HoldsImage, is_actor}
 use Rattle.journal_core.specs.Interleavings.Event.{joins, fetches, begins, takes, overwrites, logs, crashes, opens}

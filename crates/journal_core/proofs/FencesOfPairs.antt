@@ -11,7 +11,7 @@ use Rattle.journal_memory.specs.Fences.{AddsFence, HasFence, SetsFence}
 use Rattle.journal_parts.specs.Durables.{DurableState}
 use Rattle.journal_memory.specs.Volatiles.{VolatileState}
 use Rattle.journal_parts.specs.Pairs.{Tied}
-use Rattle.journal_parts.specs.Cores.{CoreState, Crashes}
+use Rattle.journal_parts.specs.CoreStates.{CoreState, Crashes}
 use Rattle.journal_parts.specs.CoreParts.{IsPair, core_of}
 use Rattle.journal_core.specs.FenceSteps.{IsFenceRefusal, AnswersFence, SetsFence as SetsInCore}
 use Rattle.journal_memory.proofs.Fencing.{volatile_fenced}

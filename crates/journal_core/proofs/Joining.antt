@@ -28,7 +28,8 @@ use Rattle.journal_memory.specs.Ledgers.{IsMarkRefusal}
 use Rattle.journal_parts.specs.Durables.{DurableState, IsDurable, IsFault, IsCallRefusal, IsRoomRefusal, is_faulted, disk_of, Leaves, Crashes as CrashesDurable, LogAnswers as DurableAnswers, InstallAnswers as DurableInstalls, IsInstallRefusal as IsDurableRefusal, LeavesLog as DurableLeaves}
 use Rattle.journal_memory.specs.Volatiles.{VolatileState, IsVolatile, outset_of}
 use Rattle.journal_parts.specs.Pairs.{Tied, IsMarkDue, IsCutDue, IsRestDue, IsNothingDue, CutsBoth, MarksBoth, MarksAll, DoesWhatIsDue, IsUntied, IsCutRefusal, IsMarkingRefusal, IsRestRefusal, IsDueRefusal}
-use Rattle.journal_parts.specs.Cores.{CoreState, IsRunning, with_wal, Crashes, Leaves as LeavesHistory, disk_of as core_disk}
+use Rattle.journal_parts.specs.Cores.{Leaves as LeavesHistory}
+use Rattle.journal_parts.specs.CoreStates.{CoreState, IsRunning, with_wal, Crashes, disk_of as core_disk}
 use Rattle.journal_parts.specs.CoreParts.{IsPair, core_of, outset}
 use Rattle.journal_core.specs.Steps.{GoesOnLogging, EndsCycle, CutsGroup, HasLogged, HasUnmarked, MarksDue, LogAnswers, IsLogRefusal, LeavesLog, TriesToLog, IsDeviceRefusal, InstallAnswers, IsInstallRefusal}
 use Rattle.journal_parts.proofs.Enduring.{StaysCut, crashes_noted}

@@ -9,3 +9,4 @@ pub mod OneThread
 pub mod Admitting
 pub mod FencesOfPairs
 mod Examples
+mod HoldExamples

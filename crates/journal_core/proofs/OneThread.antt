@@ -12,7 +12,7 @@ use Rattle.journal_memory.specs.Causes.{CauseState}
 use Rattle.journal_memory.specs.Volatiles.{VolatileState, IsVolatile}
 use Rattle.journal_parts.specs.Durables.{DurableState, Crashes, is_faulted, IsInstallRefusal as IsDurableRefusal}
 use Rattle.journal_parts.specs.Pairs.{IsMarkDue, MarksBoth, MarksAll, DoesWhatIsDue}
-use Rattle.journal_parts.specs.Cores.{IsRunning}
+use Rattle.journal_parts.specs.CoreStates.{IsRunning}
 use Rattle.journal_parts.specs.CoreParts.{IsPair, core_of}
 use Rattle.journal_core.specs.Steps.{LogAnswers, IsLogRefusal, LeavesLog, TriesToLog, IsInstallRefusal}
 use Rattle.journal_parts.specs.Holds.{AnswersMarkOrCut}

@@ -12,7 +12,7 @@ use Rattle.journal_memory.specs.Transactions.{TransactionState}
 use Rattle.journal_memory.specs.Outsets.{Outset, MayRead, IsCheckRefusal}
 use Rattle.journal_memory.specs.Fetches.{FetchedState}
 use Rattle.journal_memory.specs.Volatiles.{VolatileState, IsReadRefusal as IsRefusedIn, outset_of}
-use Rattle.journal_parts.specs.Cores.{CoreState}
+use Rattle.journal_parts.specs.CoreStates.{CoreState}
 use Rattle.journal_parts.specs.CoreParts.{outset}
 use Rattle.journal_core.specs.Steps.{IsReadRefusal}
 use Rattle.journal_parts.proofs.Pairing.{begins_not}

@@ -26,11 +26,12 @@ use Rattle.journal_tail.proofs.MapsOfBlocks.{same_objects}
 use Rattle.journal_history.specs.Tokens.{SessionState, made, next_transaction, Commits}
 use Rattle.journal_memory.specs.Causes.{CauseState}
 use Rattle.journal_memory.specs.Fetches.{FetchedState, IsFetched, IsBlockAfter}
-use Rattle.journal_parts.specs.Cores.{CoreState, Leaves, Crashes}
+use Rattle.journal_parts.specs.Cores.{Leaves}
+use Rattle.journal_parts.specs.CoreStates.{CoreState, Crashes}
 use Rattle.journal_memory.specs.Transactions.{TransactionState, begun}
 use Rattle.journal_core.specs.Steps.{Marks, IsInstallRefusal}
 use Rattle.journal_core.specs.FenceSteps.{AddsFence, AnswersFence}
-use Rattle.journal_parts.specs.Openings.{Begins}
+use Rattle.journal_parts.specs.Beginnings.{Begins}
 use Rattle.journal_core.specs.Interleavings.{Event, Mount, Machine, mounted, holds, with_core, with_transaction, with_slot, with_fetched, ended, keeping, layout_of, FindsValue, ReadsValue, IsUnread, CommitsTransaction, RefusesCommit, LogsStep, AnswersLog, AnswersInstall, AnswersSession, AnswersFetch, Ignores, BeginsTransaction, TakesSlot, ReadsUnderSlot, OverwritesUnderSlot, Finishes, MakesLogStep, MakesFence, HappensUp, HappensDown, Happens, Run, HasHistory, IsUndisturbed, StaysFetched}
 use Rattle.journal_core.specs.Outcomes.{Answer, Tells, TellsAll, HoldsImage}
 use Rattle.journal_core.specs.Interleavings.Event.{begins, takes, reads, overwrites, aborts, fetches, joins, fences, stops, logs, installs, crashes, opens}
@@ -38,7 +39,7 @@ use Rattle.journal_core.specs.Interleavings.Event.{commits as finishes}
 use Rattle.journal_core.specs.Outcomes.Answer.{nothing, value, scanned, committed, marked, fenced, waited, imaged, crashed, reopened}
 use Rattle.journal_core.specs.Interleavings.Machine.{up, down}
 use Rattle.journal_core.proofs.Holding.{IsSound, begun_sound, sound_held, keeps_taken, keeps_given, sound_marked, sound_fenced, sound_committed, sound_read, sound_overwritten, is_holder}
-use Rattle.journal_parts.specs.Cores.{disk_of}
+use Rattle.journal_parts.specs.CoreStates.{disk_of}
 use Rattle.journal_memory.proofs.Fronts.{at-layout, at-longer, count-longer, trusted-longer}
 use Rattle.journal_parts.proofs.Pairing.{begins_not}
 

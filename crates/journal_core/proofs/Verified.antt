@@ -3,7 +3,7 @@ use Rattle.std.proofs.Common.{◌≡◌, List, Result, Ok, Err, OnOk, OnErr, ap}
 use Rattle.journal_world.specs.Addresses.{Shape}
 use Rattle.journal_lockmap.specs.Numbers.{HeldState}
 use Rattle.journal_memory.specs.SlotCounts.{AgreeWith}
-use Rattle.journal_parts.specs.Cores.{CoreState}
+use Rattle.journal_parts.specs.CoreStates.{CoreState}
 use Rattle.journal_memory.proofs.Verifying.{agree_still}
 
 -- a commit of the core

@@ -1,4 +1,4 @@
--- What a commit is, and why one is refused.
+-- A commit, and why one is refused.
 use Rattle.std.specs.Prelude.{ℕ, ◌≡◌, ◌+◌, max, List, length}
 use Rattle.journal_world.specs.declared.refusal.Refusal.{Refusal}
 use Rattle.journal_world.specs.declared.refusal.Refusal.TheVariants.{DeviceFailed, Closed}
@@ -12,7 +12,7 @@ use Rattle.journal_history.specs.Tokens.{SessionState, next_transaction as numbe
 use Rattle.journal_memory.specs.Causes.{CauseState}
 use Rattle.journal_memory.specs.Transactions.{TransactionState}
 use Rattle.journal_memory.specs.Outsets.{CanCommit as CanCommitFrom, IsCommitRefusal as IsRefusedFrom}
-use Rattle.journal_parts.specs.Cores.{CoreState, ObjectsState}
+use Rattle.journal_parts.specs.CoreStates.{CoreState, ObjectsState}
 use Rattle.journal_parts.specs.CoreParts.{outset}
 use Rattle.journal_core.specs.Steps.{IsStopped, IsDeviceRefusal}
 

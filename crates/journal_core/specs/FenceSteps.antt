@@ -5,7 +5,7 @@ use Rattle.journal_world.specs.Histories.{is_fenced}
 use Rattle.journal_world.specs.Histories.Entry.{fence}
 use Rattle.journal_memory.specs.Causes.{CauseState}
 use Rattle.journal_memory.specs.Fences.{IsFenceRefusal as IsRefusedFrom}
-use Rattle.journal_parts.specs.Cores.{CoreState, Crashes}
+use Rattle.journal_parts.specs.CoreStates.{CoreState, Crashes}
 use Rattle.journal_parts.specs.CoreParts.{outset}
 
 -- The fence was added to the history, and nothing else was done. No session gets the number from
@@ -14,7 +14,7 @@ pub record AddsFence (session : ℕ) (old new : CoreState) : Type 0 where
   pub free : is_fenced session old.history ≡ false
   pub fenced : new ≡ record old { history = old.history ++ fence session ∷ []; next = max old.next (session + 1) }
 
--- It stands already, and nothing was done
+-- It is there already, and nothing was done
 pub record HasFence (session : ℕ) (old new : CoreState) : Type 0 where
   pub stands : is_fenced session old.history ≡ true
   pub same : new ≡ old
@@ -37,7 +37,7 @@ pub record RefusesFence (session : ℕ) (old : CoreState) (why : Refusal CauseSt
   pub same : new ≡ old
   pub crash : Crashes old new
 
--- what a fence did, or why it was refused
+-- the effect of a fence, or why it was refused
 abbrev pub AnswersFence : ℕ → CoreState → Result (Unit {0}) (Refusal CauseState) → CoreState → Type 0
 AnswersFence session old (Ok done) new = FencesSession session old new
 AnswersFence session old (Err why) new = RefusesFence session old why new

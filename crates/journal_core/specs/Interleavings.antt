@@ -17,7 +17,7 @@ use Rattle.journal_wal.specs.declared.step.InstallStep.{InstallStep}
 use Rattle.journal_parts.specs.declared.step.LogStep.{LogStep}
 use Rattle.journal_parts.specs.declared.step.LogStep.TheVariants.{Marked}
 use Rattle.journal_memory.specs.Causes.{CauseState}
-use Rattle.journal_parts.specs.Cores.{CoreState, Crashes, IsRunning, OnlyReads, disk_of}
+use Rattle.journal_parts.specs.CoreStates.{CoreState, Crashes, IsRunning, OnlyReads, disk_of}
 use Rattle.journal_memory.specs.Transactions.{TransactionState, ReadResultState, begun, AreUnmoved, Remembers, Overwrites}
 use Rattle.journal_core.specs.Steps.{LogAnswers, IsLogRefusal, InstallAnswers, IsInstallRefusal, MayRead, IsReadRefusal, BeginsSession, IsSessionRefusal, Stops, IsFetchRefusal}
 use Rattle.journal_memory.specs.Ledgers.{IsBehind}
@@ -25,7 +25,7 @@ use Rattle.journal_memory.specs.Fetches.{FetchedState, IsFetched, IsBlockAfter}
 use Rattle.journal_memory.specs.Volatiles.{IsFrontRefusal}
 use Rattle.journal_core.specs.Commits.{IsCommitted, CanCommit, IsCommitRefusal}
 use Rattle.journal_core.specs.FenceSteps.{AddsFence, AnswersFence}
-use Rattle.journal_parts.specs.Openings.{Begins}
+use Rattle.journal_parts.specs.Beginnings.{Begins}
 use Rattle.journal_core.specs.Outcomes.{Answer, IsLeftBetween, HoldsImage, is_actor}
 use Rattle.journal_core.specs.Outcomes.Answer.{nothing, value, committed, marked, fenced, crashed, reopened}
 
@@ -118,12 +118,12 @@ pub record RefusesRead (layout : Shape) (old : CoreState) (t : TransactionState)
   pub others : new ≡ record old { objects = new.objects }
   pub crash : Crashes old new
 
--- what is answered, where the bytes read are these
+-- the answer, where the bytes read are these
 abbrev pub AnswersRead : Shape → CoreState → TransactionState → Addr → Result ReadResultState (Refusal CauseState) → Value → CoreState → Type 0
 AnswersRead layout old t a (Ok found) v new = FindsValue layout old t a v new
 AnswersRead layout old t a (Err why) v new = RefusesRead layout old t a why new
 
--- what the core did for a read that is answered by a refusal, or whose answer is not remembered: it
+-- the effect of a read that is answered by a refusal, or whose answer is not remembered: the core
 -- refused the read, or found the value, or was not asked for want of memory to read into
 abbrev pub IsUnread : Shape → CoreState → TransactionState → Addr → CoreState → Type 0
 IsUnread layout old t a new =
@@ -146,7 +146,7 @@ pub record RefusesCommit (old : CoreState) (session : SessionState) (d : Transac
   pub others : new ≡ record old { objects = new.objects }
   pub crash : Crashes old new
 
--- what a commit did, or why it was refused
+-- the effect of a commit, or why it was refused
 abbrev pub AnswersCommit : CoreState → SessionState → TransactionState → Result CommitPlace (Refusal CauseState) → CoreState → SessionState → Type 0
 AnswersCommit old session d (Ok place) new after = CommitsTransaction old session d new after
 AnswersCommit old session d (Err why) new after = RefusesCommit old session d why new
@@ -185,7 +185,7 @@ pub record RefusesLog (old : CoreState) (why : Refusal CauseState) (new : CoreSt
   pub refusal : IsLogRefusal old new why
   pub crash : Crashes old new
 
--- what a step of the logger did, or why it was refused
+-- the effect of a step of the logger, or why it was refused
 abbrev pub AnswersLog : CoreState → Result LogStep (Refusal CauseState) → CoreState → Type 0
 AnswersLog old (Ok step) new = LogsStep old step new
 AnswersLog old (Err why) new = RefusesLog old why new
@@ -201,7 +201,7 @@ pub record RefusesInstall (old : CoreState) (why : Refusal CauseState) (new : Co
   pub refusal : IsInstallRefusal old new why
   pub crash : Crashes old new
 
--- what a step of the installer did, or why it was refused
+-- the effect of a step of the installer, or why it was refused
 abbrev pub AnswersInstall : CoreState → Result InstallStep (Refusal CauseState) → CoreState → Type 0
 AnswersInstall old (Ok step) new = InstallsStep old step new
 AnswersInstall old (Err why) new = RefusesInstall old why new
@@ -275,7 +275,7 @@ Finishes old actor (Some draft) (committed t) new =
     × CommitsTransaction old.core session draft core after × (new ≡ up (ended (with_core old core) actor))))
 Finishes old actor (Some draft) other new = ⊥
 
--- what was fetched is the actor's from then on
+-- the fetched blocks are the actor's from then on
 abbrev pub keeping : Mount → ℕ → Result FetchedState (Refusal CauseState) → Mount
 keeping m actor (Ok fetched) = with_fetched m actor fetched
 keeping m actor (Err why) = m
@@ -295,7 +295,7 @@ MakesLogStep old (marked n) new =
     (core : CoreState) × LogsStep old.core (Marked n) core × (new ≡ up (with_core old core))
 MakesLogStep old other new = ⊥
 
--- a fence that is added is answered by it. One that stands already, and a refusal, leave the
+-- a fence that is added is answered by it. One that is there already, and a refusal, leave the
 -- history
 abbrev pub MakesFence : Mount → ℕ → Answer → Machine → Type 0
 MakesFence old session nothing new =
@@ -328,7 +328,7 @@ HappensUp old (crashes image) answer new =
     × IsLeftBetween (disk_of old.core).past (disk_of core).past image × (new ≡ down (layout_of old) image))
 HappensUp old opens answer new = Ignores old answer new
 
--- what waits is opened, or is refused and waits on
+-- the waiting disk is opened, or is refused and waits on
 abbrev pub HappensDown : (Map → Type 0) → Shape → List Bytes → Event → Answer → Machine → Type 0
 HappensDown rule layout image opens reopened new =
     (disk : DiskState) × HoldsImage disk image × ((core : CoreState) × Begins rule layout disk core × (new ≡ mounted core))
@@ -352,17 +352,17 @@ abbrev pub HasHistory : Machine → List Entry → Type 0
 HasHistory (up m) history = m.core.history ≡ history
 HasHistory (down layout image) history = (m : Map) × (m.layout ≡ layout) × OpensAs m image × (history ≡ opening m true ∷ [])
 
--- What an open transaction has read is what the map gives now, and no commit touched a slot under
--- which it read: neither a read nor its commit is refused for what others did
+-- The map now gives all that an open transaction has read, and no commit touched a slot under which
+-- it read: neither a read nor its commit is refused because of other transactions
 pub record IsUndisturbed (c : CoreState) (t : TransactionState) : Type 0 where
   pub later : IsPrefix t.seen c.history
   pub unmoved : AreUnmoved (opened c.history).layout c.history t
   pub agrees : Agrees (latest c.history) t.reads
   pub never_behind : (cause : CauseState) → IsBehind c.history t cause → ⊥
 
--- What was fetched, however long ago, is what the first commits of the history left, so that it can
--- be used in a later hold of another lock. No step is refused because the fetch had seen more of
--- the history
+-- The fetched blocks, however old, are as the first commits of the history left them, so that they
+-- can be used in a later hold of another lock. No step is refused because the fetch had seen more
+-- of the history
 pub record StaysFetched (c : CoreState) (f : FetchedState) : Type 0 where
   pub begins : IsPrefix f.front c.history
   pub made : f.commits ≤ count c.history

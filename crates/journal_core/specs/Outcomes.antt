@@ -1,4 +1,4 @@
--- What is answered of events, and what each answer tells of the history.
+-- The answers of events, and the meaning of each answer for the history.
 use Rattle.std.specs.Prelude.{ℕ, ◌≡◌, ◌==◌, ◌≤◌, true, false, Bool, IsTrue, List, [], ◌∷◌, ◌++◌, Option, Some, None}
 use Rattle.journal_world.specs.declared.address.Addr.{Addr}
 use Rattle.journal_world.specs.Addresses.{Value}
@@ -13,9 +13,9 @@ use Rattle.journal_memory.specs.declared.bit_scan.BitScan.{BitScan}
 use Rattle.journal_memory.specs.Bits.{found_bits}
 use Rattle.journal_parts.specs.Cores.{Leaves}
 
--- What is answered: a value, the numbers of bits, a commit, a mark, a fence, that so many commits
--- are marked, an image of the disk, or nothing, where nothing is asked or it is refused; that the
--- mount ended by a crash, and that the next one began
+-- The answer of an event. It is a value, the numbers of bits, a commit, a mark, a fence, that the
+-- first n commits are marked, or an image of the disk. It is nothing, where nothing is asked or it
+-- is refused. Or the mount ended by a crash, or the next one began
 pub data Answer : Type 0 where
   nothing : Answer
   value : Addr → Value → Answer
@@ -32,10 +32,10 @@ pub data Answer : Type 0 where
 abbrev pub AddsEntry : (Map → Type 0) → List Entry → Entry → List Entry → Type 0
 AddsEntry rule old e new = Follows old e × IsTrueTo rule old e × (new ≡ old ++ e ∷ [])
 
--- What an answer tells of the history: a value is what its last map gives, and the bits that were
--- asked for are those that this map has; a commit, a mark or a fence is one entry more; so many
--- commits are marked; an image opens as the map after some commits, no fewer than the greatest
--- mark; a crash leaves such a map, and the next history begins with it
+-- The meaning of an answer for the history. A value is that of its last map, and the bits that were
+-- asked for are those of this map. A commit, a mark or a fence is one entry more. The first n
+-- commits are marked. An image opens as the map after some commits, no fewer than the greatest
+-- mark. A crash leaves such a map, and the next history begins with it
 abbrev pub Tells : (Map → Type 0) → List Entry → Answer → List Entry → Type 0
 Tells rule old nothing new = new ≡ old
 Tells rule old (value a v) new = (v ≡ value_at (latest old) a) × (new ≡ old)

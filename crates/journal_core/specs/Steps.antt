@@ -1,4 +1,4 @@
--- What the steps of the core do, and why they are refused.
+-- The steps of the core: their effects, and why they are refused.
 use Rattle.std.specs.Prelude.{ℕ, ◌≡◌, ◌⊎◌, ◌<◌, ◌≤◌, ◌+◌, ◌++◌, ◌∷◌, [], IsTrue, true, false}
 use Rattle.journal_world.specs.declared.address.Addr.{Addr}
 use Rattle.journal_world.specs.declared.refusal.Refusal.{Refusal}
@@ -19,7 +19,7 @@ use Rattle.journal_memory.specs.Causes.{CauseState, IsUnexplained}
 use Rattle.journal_memory.specs.Transactions.{TransactionState}
 use Rattle.journal_memory.specs.Ledgers.{IsBehind, IsNumberRefusal, IsStaleRefusal, IsMarkRefusal}
 use Rattle.journal_memory.specs.Outsets.{IsEndRefusal as IsEndOf, MayRead as MayReadFrom}
-use Rattle.journal_parts.specs.Cores.{CoreState, is_faulted, IsRunning, disk_of, Crashes, tail_length, start_of, end_of, with_wal}
+use Rattle.journal_parts.specs.CoreStates.{CoreState, is_faulted, IsRunning, disk_of, Crashes, tail_length, start_of, end_of, with_wal}
 use Rattle.journal_parts.specs.CoreParts.{outset}
 
 -- The logger
@@ -74,7 +74,7 @@ pub record MarksDue (n : ℕ) (old new : CoreState) : Type 0 where
   pub marks : Marks n old new
   pub due : ((n ≡ old.cut) × HasLogged old) ⊎ ((n ≡ count old.history) × HasUnmarked old)
 
--- What a step of the logger answers, and does
+-- The answers of a step of the logger, and their effects
 abbrev pub LogAnswers : CoreState → LogStep → CoreState → Type 0
 LogAnswers old Idle new = IsLogIdle old × (new ≡ old)
 LogAnswers old Cut new = CutsGroup old new
@@ -127,7 +127,7 @@ IsLogRefusal old new NoMemory = IsRunning old × HasTailRoom old × IsRoomed old
 IsLogRefusal old new refusal =
     IsRunning old × (log_steps old.objects.wal ≡ 0) × (HasLogged old ⊎ HasUnmarked old) × IsMarkRefusal old.history refusal × (new ≡ old)
 
--- what a step of the installer answers, and does
+-- the answers of a step of the installer, and their effects
 abbrev pub InstallAnswers : CoreState → InstallStep → CoreState → Type 0
 InstallAnswers old step new = WalInstalls old.objects.wal step new.objects.wal × (new ≡ with_wal old new.objects.wal)
 

@@ -1,20 +1,20 @@
 -- Transactions of many actors, and the holds of two locks that threads make for them, in any order:
 -- lists of events, and what they come to. A hold of one lock leaves the other's part as it is.
-use Rattle.std.specs.Prelude.{ℕ, ◌≡◌, ◌≢◌, ◌⊎◌, ◌==◌, ◌≤◌, true, false, if◌then◌else◌, Bool, IsTrue, List, [], ◌∷◌, All, Option, Some, None, Result, Ok, Err}
+use Rattle.std.specs.Prelude.{ℕ, ◌≡◌, ◌≢◌, ◌⊎◌, ◌==◌, ◌≤◌, true, false, if◌then◌else◌, Bool, IsTrue, List, [], ◌∷◌, ◌++◌, All, Option, Some, None, Result, Ok, Err}
 use mathlib.Core.List.{IsPrefix}
 use Rattle.journal_world.specs.declared.address.Addr.{Addr}
 use Rattle.journal_world.specs.declared.refusal.Refusal.{Refusal}
 use Rattle.journal_world.specs.declared.refusal.Refusal.TheVariants.{Full}
 use Rattle.journal_world.specs.Addresses.{Value, slot_of, Shape}
-use Rattle.journal_world.specs.Maps.{Map, Pair, Agrees, is_object}
-use Rattle.journal_world.specs.Histories.{Entry, opened, latest, count}
-use Rattle.journal_world.specs.Histories.Entry.{opening}
+use Rattle.journal_world.specs.Maps.{Map, Pair, Transaction, Agrees, is_object}
+use Rattle.journal_world.specs.Histories.{Entry, opened, latest, count, commits_of}
+use Rattle.journal_world.specs.Histories.Entry.{opening, commit}
 use Rattle.journal_block.specs.Block.{Bytes}
 use Rattle.journal_disk.specs.Disks.{DiskState}
 use Rattle.journal_disk.specs.Images.{IsImage}
 use Rattle.journal_objlog.specs.Maps.{OpensAs}
 use Rattle.journal_objlog.specs.ObjectLogs.{end_of}
-use Rattle.journal_history.specs.Tokens.{SessionState, next_transaction}
+use Rattle.journal_history.specs.Tokens.{SessionState, next_transaction, OnlyExtends}
 use Rattle.journal_wal.specs.declared.step.GroupStep.{GroupStep}
 use Rattle.journal_wal.specs.declared.step.InstallStep.{InstallStep}
 use Rattle.journal_parts.specs.declared.step.LogStep.{LogStep}
@@ -22,50 +22,53 @@ use Rattle.journal_parts.specs.declared.step.LogStep.TheVariants.{Marked}
 use Rattle.journal_memory.specs.Causes.{CauseState}
 use Rattle.journal_parts.specs.CoreParts.{core_of}
 use Rattle.journal_memory.specs.Transactions.{TransactionState, ReadResultState, begun, AreUnmoved, Remembers, Overwrites}
-use Rattle.journal_memory.specs.Ledgers.{IsBehind}
+use Rattle.journal_memory.specs.Ledgers.{IsBehind, IsStrange}
 use Rattle.journal_memory.specs.Fences.{AddsFence}
 use Rattle.journal_parts.specs.Durables.{DurableState, Crashes, disk_of}
 use Rattle.journal_memory.specs.Fetches.{FetchedState, IsBlockAfter}
 use Rattle.journal_memory.specs.declared.bit_scan.BitScan.{BitScan}
 use Rattle.journal_memory.specs.Bits.{bits_in}
 use Rattle.journal_memory.specs.Volatiles.{VolatileState, IsFrontRefusal}
-use Rattle.journal_parts.specs.Openings.{Begins}
+use Rattle.journal_parts.specs.Beginnings.{Begins}
 use Rattle.journal_parts.specs.Holds.{IsBetween, AnswersFetch, AnswersGroupCall, AnswersHomeCall, MarksOrCuts, AnswersMarkOrCut, Trims, NotesFault, ShowsDisk, RefusesDisk}
 use Rattle.journal_memory.specs.VolatileHolds.{FindsInMemory, AnswersRead, FindsBits, AnswersScan, CommitsInMemory, LacksBlocks, RefusesCommit, KeepsCopies, AnswersSession, FencesSession, AnswersFence, Stops, AnswersWait, AnswersFlush, AnswersShow}
 use Rattle.journal_core.specs.Outcomes.{Answer, TellsAll, IsLeftBetween, HoldsImage, is_actor}
 use Rattle.journal_core.specs.Outcomes.Answer.{nothing, value, scanned, committed, marked, fenced, waited, imaged, crashed, reopened}
 
--- An event. Of memory alone: a transaction begins, an object is read, a block of bits is scanned, a
--- transaction is committed, copies are kept of blocks that are at home, a session is asked for, a
--- session is fenced, all is stopped, a session asks whether so many commits are marked, or whether
--- all are that it has seen, or is shown the history. Of the disk alone: blocks are fetched, the device call is made that is
+-- An event. Of memory alone: an actor's transaction begins, with the session of a number, an object
+-- is read, a session scans a block of bits, an actor's transaction is committed with the session of
+-- a number, copies are kept of blocks that are at home, a session begins, one is fenced, all is
+-- stopped, a session asks whether so many commits are marked, or whether all are that it has seen,
+-- or is shown the history. Of the disk alone: blocks are fetched, the device call is made that is
 -- due of the group in flight, the installer's next is. Of both: what is due where no device call
--- is, what is at home is dropped from memory up to a position, a fault is noted, an image is taken
--- of the disk. Slots are taken and given back, and objects overwritten, under no lock. A close
--- gives the disk up: what is left of it is left as by a crash between two calls
+-- is, what is at home is dropped from memory up to a position, a fault is noted, a session takes an
+-- image of the disk. Under no lock: slots are taken and given back, objects overwritten, and a
+-- session sees more. A close gives the disk up: what is left of it is left as by a crash between
+-- two calls
 pub data Event : Type 0 where
-  begins : ℕ → Event
+  begins : (actor number : ℕ) → Event
   takes : ℕ → ℕ → Event
   gives_back : ℕ → ℕ → Event
   reads : ℕ → Addr → Event
-  scans : BitScan → Event
+  scans : (number : ℕ) → BitScan → Event
   overwrites : ℕ → Addr → Value → Event
   aborts : ℕ → Event
-  commits : ℕ → Event
+  commits : (actor number : ℕ) → Event
   copies : Event
   joins : Event
+  sees : (number : ℕ) → Event
   fences : ℕ → Event
   stops : Event
-  waits : ℕ → Event
-  flushes : Event
-  shows : Event
+  waits : (number n : ℕ) → Event
+  flushes : (number : ℕ) → Event
+  shows : (number : ℕ) → Event
   fetches : ℕ → List ℕ → Event
   logs : Event
   installs : Event
   marks_or_cuts : Event
   trims : ℕ → Event
   notes : Event
-  images : List Bytes → Event
+  images : (number : ℕ) → List Bytes → Event
   -- at a moment of a device call, or between two, and leaves this image
   crashes : List Bytes → Event
   opens : Event
@@ -78,11 +81,14 @@ pub record Parts : Type 0 where
 abbrev pub history_of : Parts → List Entry
 history_of p = p.volatile.ledger.history
 
--- A mount: its two parts, the transaction that each actor has open, the actor that holds each slot,
--- and all that each has fetched
+-- A mount: its two parts, the session of each number, the transaction that each actor has open and
+-- what the session had seen with which that began, the actor that holds each slot, and all that
+-- each has fetched
 pub record Mount : Type 0 where
   pub parts : Parts
+  pub sessions : ℕ → Option SessionState
   pub transactions : ℕ → Option TransactionState
+  pub began : ℕ → List Entry
   pub holders : ℕ → Option ℕ
   pub fetched : ℕ → List FetchedState
 
@@ -91,9 +97,16 @@ pub data Machine : Type 0 where
   up : Mount → Machine
   down : Shape → List Bytes → Machine
 
--- nobody has a transaction open, holds a slot, or has fetched a block
+-- there is no session, and nobody has a transaction open, holds a slot, or has fetched a block
 abbrev pub mounted : Parts → Machine
-mounted parts = up (record { parts = parts; transactions = λ actor. None; holders = λ slot. None; fetched = λ actor. [] })
+mounted parts = up (record {
+  parts = parts;
+  sessions = λ number. None;
+  transactions = λ actor. None;
+  began = λ actor. [];
+  holders = λ slot. None;
+  fetched = λ actor. [];
+})
 
 -- the actor holds the slot of the address
 abbrev pub holds : Mount → ℕ → Addr → Bool
@@ -109,9 +122,17 @@ with_volatile m volatile = with_parts m volatile m.parts.durable
 abbrev pub with_durable : Mount → DurableState → Mount
 with_durable m durable = with_parts m m.parts.volatile durable
 
+-- this is the session of the number
+abbrev pub with_session : Mount → ℕ → SessionState → Mount
+with_session m number session = record m { sessions = λ other. if other == number then Some session else m.sessions other }
+
 -- the actor has this transaction open, or none
 abbrev pub with_transaction : Mount → ℕ → Option TransactionState → Mount
 with_transaction m actor draft = record m { transactions = λ other. if other == actor then draft else m.transactions other }
+
+-- the actor's transaction has begun, with a session that had seen this
+abbrev pub with_begun : Mount → ℕ → List Entry → Mount
+with_begun m actor seen = record (with_transaction m actor (Some (begun seen))) { began = λ other. if other == actor then seen else m.began other }
 
 -- the actor has the slot
 abbrev pub with_slot : Mount → ℕ → ℕ → Mount
@@ -142,11 +163,24 @@ pub record BeginsApart (rule : Map → Type 0) (layout : Shape) (disk : DiskStat
 abbrev pub Ignores : Mount → Answer → Machine → Type 0
 Ignores old answer new = (answer ≡ nothing) × (new ≡ up old)
 
--- a transaction begins after what its session has seen of the history
-abbrev pub BeginsTransaction : Mount → ℕ → Option TransactionState → Answer → Machine → Type 0
-BeginsTransaction old actor None answer new =
-    (answer ≡ nothing) × ((seen : List Entry) × IsPrefix seen (history_of old.parts) × (new ≡ up (with_transaction old actor (Some (begun seen)))))
-BeginsTransaction old actor (Some draft) answer new = Ignores old answer new
+-- a transaction begins after what its session has then seen of the history
+abbrev pub BeginsTransaction : Mount → ℕ → ℕ → Option TransactionState → Option SessionState → Answer → Machine → Type 0
+BeginsTransaction old actor number (Some draft) session answer new = Ignores old answer new
+BeginsTransaction old actor number None None answer new = Ignores old answer new
+BeginsTransaction old actor number None (Some session) answer new =
+    (answer ≡ nothing) × ((after : SessionState) × OnlyExtends session after × IsPrefix after.seen (history_of old.parts)
+    × (new ≡ up (with_begun (with_session old number after) actor after.seen)))
+
+-- a session sees more of the history than it had
+abbrev pub SeesMore : Mount → ℕ → Option SessionState → Answer → Machine → Type 0
+SeesMore old number None answer new = Ignores old answer new
+SeesMore old number (Some session) answer new =
+    (answer ≡ nothing) × ((after : SessionState) × OnlyExtends session after × (new ≡ up (with_session old number after)))
+
+-- a session that begins is that of its number
+abbrev pub joined : Mount → Result SessionState (Refusal CauseState) → Mount
+joined m (Ok session) = with_session m session.number session
+joined m (Err why) = m
 
 -- a slot is taken that nobody holds
 abbrev pub TakesSlot : Mount → ℕ → ℕ → Option TransactionState → Option ℕ → Answer → Machine → Type 0
@@ -180,14 +214,15 @@ ReadsUnderSlot old actor a (Some draft) true other new = ⊥
 
 -- a block of bits is copied for a session, with no slot and for no transaction, and the bits of the
 -- copy that are asked for are answered. Else nothing is answered, and either way all stays as it is
-abbrev pub ScansBits : Mount → BitScan → Answer → Machine → Type 0
-ScansBits old s nothing new =
-    (session : SessionState) × ((after : SessionState) × ((f : FetchedState) × ((r : Result Bool (Refusal CauseState)) × ((copy : Bytes)
-    × AnswersScan (layout_of old) old.parts.volatile session s f r copy after × (new ≡ up old)))))
-ScansBits old s (scanned asked bits) new =
-    (asked ≡ s) × ((session : SessionState) × ((after : SessionState) × ((copy : Bytes) × FindsBits (layout_of old) old.parts.volatile session s copy after
-    × (bits ≡ bits_in copy s) × (new ≡ up old))))
-ScansBits old s other new = ⊥
+abbrev pub ScansBits : Mount → ℕ → BitScan → Option SessionState → Answer → Machine → Type 0
+ScansBits old number s None answer new = Ignores old answer new
+ScansBits old number s (Some session) nothing new =
+    (after : SessionState) × ((f : FetchedState) × ((r : Result Bool (Refusal CauseState)) × ((copy : Bytes)
+    × AnswersScan (layout_of old) old.parts.volatile session s f r copy after × (new ≡ up (with_session old number after)))))
+ScansBits old number s (Some session) (scanned asked bits) new =
+    (asked ≡ s) × ((after : SessionState) × ((copy : Bytes) × FindsBits (layout_of old) old.parts.volatile session s copy after
+    × (bits ≡ bits_in copy s) × (new ≡ up (with_session old number after))))
+ScansBits old number s (Some session) other new = ⊥
 
 -- an object is remembered under its slot, or the overwrite is refused; no part is asked
 abbrev pub OverwritesUnderSlot : Mount → ℕ → Pair → Option TransactionState → Bool → Answer → Machine → Type 0
@@ -199,21 +234,25 @@ OverwritesUnderSlot old actor p (Some draft) true answer new =
     ⊎ (IsTrue (is_object (layout_of old) p)
     × ((after : TransactionState) × Overwrites draft p.0 p.1 after × (new ≡ up (with_transaction old actor (Some after))))))
 
--- the transaction is committed in memory by some session, as that session's next one, or refused,
--- and ended either way; or it goes on, since it waits for room in the log's tail, or since blocks
--- are to be fetched for it first
-abbrev pub Finishes : Mount → ℕ → Option TransactionState → Answer → Machine → Type 0
-Finishes old actor None answer new = Ignores old answer new
-Finishes old actor (Some draft) nothing new =
-    (session : SessionState) × ((w : VolatileState)
-    × (((why : Refusal CauseState) × RefusesCommit (layout_of old) old.parts.volatile session draft why w × (new ≡ up (ended (with_volatile old w) actor)))
-    ⊎ (((cause : CauseState) × RefusesCommit (layout_of old) old.parts.volatile session draft (Full cause) w × (new ≡ up (with_volatile old w)))
+-- the transaction is committed in memory as the session's next one, or refused, and ended either
+-- way; or it goes on, since it waits for room in the log's tail, or since blocks are to be fetched
+-- for it first. Where it is not committed the session may have seen more
+abbrev pub Finishes : Mount → ℕ → ℕ → Option TransactionState → Option SessionState → Answer → Machine → Type 0
+Finishes old actor number None session answer new = Ignores old answer new
+Finishes old actor number (Some draft) None answer new = Ignores old answer new
+Finishes old actor number (Some draft) (Some session) nothing new =
+    (after : SessionState) × ((w : VolatileState) × OnlyExtends session after
+    × (((why : Refusal CauseState) × RefusesCommit (layout_of old) old.parts.volatile session draft why w
+    × (new ≡ up (ended (with_session (with_volatile old w) number after) actor)))
+    ⊎ (((cause : CauseState) × RefusesCommit (layout_of old) old.parts.volatile session draft (Full cause) w
+    × (new ≡ up (with_session (with_volatile old w) number after)))
     ⊎ ((f : FetchedState) × ((missing : List ℕ) × LacksBlocks (layout_of old) old.parts.volatile session draft f missing w
-    × (new ≡ up (with_volatile old w)))))))
-Finishes old actor (Some draft) (committed t) new =
-    (session : SessionState) × ((after : SessionState) × ((w : VolatileState) × (t ≡ next_transaction session draft.reads draft.writes)
-    × CommitsInMemory (layout_of old) old.parts.volatile session draft w after × (new ≡ up (ended (with_volatile old w) actor))))
-Finishes old actor (Some draft) other new = ⊥
+    × (new ≡ up (with_session (with_volatile old w) number after)))))))
+Finishes old actor number (Some draft) (Some session) (committed t) new =
+    (after : SessionState) × ((w : VolatileState) × (t ≡ next_transaction session draft.reads draft.writes)
+    × CommitsInMemory (layout_of old) old.parts.volatile session draft w after
+    × (new ≡ up (ended (with_session (with_volatile old w) number after) actor)))
+Finishes old actor number (Some draft) (Some session) other new = ⊥
 
 -- what was fetched is the actor's from then on
 abbrev pub keeping : Mount → ℕ → Result FetchedState (Refusal CauseState) → Mount
@@ -241,51 +280,62 @@ MarksOrCutsBoth old (marked n) new =
 MarksOrCutsBoth old other new = ⊥
 
 -- a mark that stands is answered by how many commits it is of. Else nothing is answered, and either
--- way all stays as it is
-abbrev pub WaitsFor : Mount → ℕ → Answer → Machine → Type 0
-WaitsFor old n nothing new =
-    (session : SessionState) × ((after : SessionState) × ((r : Result Bool (Refusal CauseState)) × AnswersWait old.parts.volatile session n r after × (new ≡ up old)))
-WaitsFor old n (waited k) new =
-    (k ≡ n) × ((session : SessionState) × ((after : SessionState) × AnswersWait old.parts.volatile session n (Ok true) after × (new ≡ up old)))
-WaitsFor old n other new = ⊥
+-- way both parts stay as they are
+abbrev pub WaitsFor : Mount → ℕ → ℕ → Option SessionState → Answer → Machine → Type 0
+WaitsFor old number n None answer new = Ignores old answer new
+WaitsFor old number n (Some session) nothing new =
+    (after : SessionState) × ((r : Result Bool (Refusal CauseState)) × AnswersWait old.parts.volatile session n r after × (new ≡ up (with_session old number after)))
+WaitsFor old number n (Some session) (waited k) new =
+    (k ≡ n) × ((after : SessionState) × AnswersWait old.parts.volatile session n (Ok true) after × (new ≡ up (with_session old number after)))
+WaitsFor old number n (Some session) other new = ⊥
 
 -- the same of all commits that the session has seen
-abbrev pub Flushes : Mount → Answer → Machine → Type 0
-Flushes old nothing new =
-    (session : SessionState) × ((after : SessionState) × ((r : Result Bool (Refusal CauseState)) × AnswersFlush old.parts.volatile session r after × (new ≡ up old)))
-Flushes old (waited k) new =
-    (session : SessionState) × ((after : SessionState) × (k ≡ count session.seen) × AnswersFlush old.parts.volatile session (Ok true) after × (new ≡ up old))
-Flushes old other new = ⊥
+abbrev pub Flushes : Mount → ℕ → Option SessionState → Answer → Machine → Type 0
+Flushes old number None answer new = Ignores old answer new
+Flushes old number (Some session) nothing new =
+    (after : SessionState) × ((r : Result Bool (Refusal CauseState)) × AnswersFlush old.parts.volatile session r after × (new ≡ up (with_session old number after)))
+Flushes old number (Some session) (waited k) new =
+    (k ≡ count session.seen) × ((after : SessionState) × AnswersFlush old.parts.volatile session (Ok true) after × (new ≡ up (with_session old number after)))
+Flushes old number (Some session) other new = ⊥
+
+-- a session is shown the history, or has seen more
+abbrev pub ShowsHistory : Mount → ℕ → Option SessionState → Answer → Machine → Type 0
+ShowsHistory old number None answer new = Ignores old answer new
+ShowsHistory old number (Some session) answer new =
+    (answer ≡ nothing) × ((after : SessionState) × ((r : Result (Unit {0}) (Refusal CauseState)) × AnswersShow old.parts.volatile session r after
+    × (new ≡ up (with_session old number after))))
 
 -- an image is taken of the disk that is lent under both, or the disk is not lent
-abbrev pub TakesImage : Mount → List Bytes → Answer → Machine → Type 0
-TakesImage old image nothing new =
-    (session : SessionState) × ((after : SessionState) × ((why : Refusal CauseState) × RefusesDisk old.parts.volatile old.parts.durable session why after × (new ≡ up old)))
-TakesImage old image (imaged other) new =
-    (other ≡ image) × ((session : SessionState) × ((after : SessionState) × ShowsDisk old.parts.volatile old.parts.durable session after
-    × IsImage (disk_of old.parts.durable).past image × (new ≡ up old)))
-TakesImage old image other new = ⊥
+abbrev pub TakesImage : Mount → ℕ → List Bytes → Option SessionState → Answer → Machine → Type 0
+TakesImage old number image None answer new = Ignores old answer new
+TakesImage old number image (Some session) nothing new =
+    (after : SessionState) × ((why : Refusal CauseState) × RefusesDisk old.parts.volatile old.parts.durable session why after × (new ≡ up (with_session old number after)))
+TakesImage old number image (Some session) (imaged other) new =
+    (other ≡ image) × ((after : SessionState) × ShowsDisk old.parts.volatile old.parts.durable session after
+    × IsImage (disk_of old.parts.durable).past image × (new ≡ up (with_session old number after)))
+TakesImage old number image (Some session) other new = ⊥
 
 -- The event may be answered so, and then leaves new. One that is not enabled changes nothing
 abbrev pub HappensUp : Mount → Event → Answer → Machine → Type 0
-HappensUp old (begins actor) answer new = BeginsTransaction old actor (old.transactions actor) answer new
+HappensUp old (begins actor number) answer new = BeginsTransaction old actor number (old.transactions actor) (old.sessions number) answer new
 HappensUp old (takes actor slot) answer new = TakesSlot old actor slot (old.transactions actor) (old.holders slot) answer new
 HappensUp old (gives_back actor slot) answer new = GivesBackSlot old actor slot (old.transactions actor) (is_actor (old.holders slot) actor) answer new
 HappensUp old (reads actor a) answer new = ReadsUnderSlot old actor a (old.transactions actor) (holds old actor a) answer new
-HappensUp old (scans s) answer new = ScansBits old s answer new
+HappensUp old (scans number s) answer new = ScansBits old number s (old.sessions number) answer new
 HappensUp old (overwrites actor a v) answer new = OverwritesUnderSlot old actor (a, v) (old.transactions actor) (holds old actor a) answer new
 HappensUp old (aborts actor) answer new = (answer ≡ nothing) × (new ≡ up (ended old actor))
-HappensUp old (commits actor) answer new = Finishes old actor (old.transactions actor) answer new
+HappensUp old (commits actor number) answer new = Finishes old actor number (old.transactions actor) (old.sessions number) answer new
 HappensUp old copies answer new =
     (answer ≡ nothing) × ((w : VolatileState) × KeepsCopies (layout_of old) old.parts.volatile w × (new ≡ up (with_volatile old w)))
 HappensUp old joins answer new =
-    (answer ≡ nothing) × ((r : Result SessionState (Refusal CauseState)) × ((w : VolatileState) × AnswersSession old.parts.volatile r w × (new ≡ up (with_volatile old w))))
+    (answer ≡ nothing) × ((r : Result SessionState (Refusal CauseState)) × ((w : VolatileState) × AnswersSession old.parts.volatile r w
+    × (new ≡ up (joined (with_volatile old w) r))))
+HappensUp old (sees number) answer new = SeesMore old number (old.sessions number) answer new
 HappensUp old (fences session) answer new = MakesFence old session answer new
 HappensUp old stops answer new = (answer ≡ nothing) × ((w : VolatileState) × Stops old.parts.volatile w × (new ≡ up (with_volatile old w)))
-HappensUp old (waits n) answer new = WaitsFor old n answer new
-HappensUp old flushes answer new = Flushes old answer new
-HappensUp old shows answer new =
-    (answer ≡ nothing) × ((session : SessionState) × ((after : SessionState) × ((r : Result (Unit {0}) (Refusal CauseState)) × AnswersShow old.parts.volatile session r after × (new ≡ up old))))
+HappensUp old (waits number n) answer new = WaitsFor old number n (old.sessions number) answer new
+HappensUp old (flushes number) answer new = Flushes old number (old.sessions number) answer new
+HappensUp old (shows number) answer new = ShowsHistory old number (old.sessions number) answer new
 HappensUp old (fetches actor numbers) answer new =
     (answer ≡ nothing) × ((r : Result FetchedState (Refusal CauseState)) × ((e : DurableState) × AnswersFetch (layout_of old) old.parts.durable numbers r e
     × (new ≡ up (keeping (with_durable old e) actor r))))
@@ -300,7 +350,7 @@ HappensUp old (trims upto) answer new =
     (answer ≡ nothing) × ((w : VolatileState) × Trims (layout_of old) old.parts.volatile old.parts.durable upto w × (new ≡ up (with_volatile old w)))
 HappensUp old notes answer new =
     (answer ≡ nothing) × ((w : VolatileState) × NotesFault old.parts.volatile old.parts.durable w × (new ≡ up (with_volatile old w)))
-HappensUp old (images image) answer new = TakesImage old image answer new
+HappensUp old (images number image) answer new = TakesImage old number image (old.sessions number) answer new
 HappensUp old (crashes image) answer new =
     (answer ≡ crashed) × ((e : DurableState) × Crashes old.parts.durable e
     × IsLeftBetween (disk_of old.parts.durable).past (disk_of e).past image × (new ≡ down (layout_of old) image))
@@ -324,6 +374,13 @@ Run rule old (event ∷ events) [] new = ⊥
 Run rule old (event ∷ events) (answer ∷ answers) new =
     (mid : Machine) × Happens rule old event answer mid × Run rule mid events answers new
 
+-- a run of one mount: no crash comes
+abbrev pub RunUp : Mount → List Event → List Answer → Mount → Type 0
+RunUp old [] [] new = new ≡ old
+RunUp old [] (answer ∷ answers) new = ⊥
+RunUp old (event ∷ events) [] new = ⊥
+RunUp old (event ∷ events) (answer ∷ answers) new = (mid : Mount) × HappensUp old event answer (up mid) × RunUp mid events answers new
+
 -- The history of a mount is its memory's. That of a disk that waits is the opening of the map that
 -- it opens as by its layout
 abbrev pub HasHistory : Machine → List Entry → Type 0
@@ -346,3 +403,30 @@ pub record StaysFetched (history : List Entry) (f : FetchedState) : Type 0 where
   pub made : f.commits ≤ count history
   pub blocks : All (IsBlockAfter (opened history).layout history f.commits) f.updates
   pub never_longer : (why : Refusal CauseState) → IsFrontRefusal history f.front why → ⊥
+
+-- The history's commits under a session's number are the session's own, so that none of its calls
+-- is refused because of a stranger's
+pub record HasOwnCommits (history : List Entry) (number : ℕ) (s : SessionState) : Type 0 where
+  pub is : s.number ≡ number
+  pub own : commits_of number history ≡ commits_of number s.mine
+  pub never_strange : IsStrange history s → ⊥
+
+-- A commit is one entry more and one more of its session's. It stands after all that the session
+-- had seen with which its transaction began, and after all that its own session has seen, which has
+-- then seen the commit
+pub record StandsOnce (actor number : ℕ) (t : Transaction) (old new : Mount) : Type 0 where
+  pub added : history_of new.parts ≡ history_of old.parts ++ commit t ∷ []
+  pub once : commits_of number (history_of new.parts) ≡ commits_of number (history_of old.parts) ++ t ∷ []
+  pub after_begin : IsPrefix (old.began actor) (history_of old.parts)
+  pub after_seen : (s : SessionState) → old.sessions number ≡ Some s → IsPrefix s.seen (history_of old.parts)
+  pub seen : (s : SessionState) → new.sessions number ≡ Some s → s.seen ≡ history_of new.parts
+
+-- there is the session, and it has seen all that it had
+abbrev pub HasSeenMore : SessionState → Option SessionState → Type 0
+HasSeenMore old None = ⊥
+HasSeenMore old (Some new) = (new.number ≡ old.number) × IsPrefix old.seen new.seen
+
+-- The history and what each session has seen of it only grow
+pub record Grows (old new : Mount) : Type 0 where
+  pub history : IsPrefix (history_of old.parts) (history_of new.parts)
+  pub sessions : (number : ℕ) (s : SessionState) → old.sessions number ≡ Some s → HasSeenMore s (new.sessions number)

@@ -6,7 +6,7 @@ ghost use Rattle.journal_history.specs.Tokens.{next_transaction, OnlyExtends, Is
 ghost use Rattle.journal_lockmap.specs.Numbers.{AreApart, HoldsSlots, slots_of};
 ghost use Rattle.journal_memory.specs.SlotCounts.{AgreeWith, AreUnder};
 ghost use Rattle.journal_memory.specs.Transactions.{AreUnmoved};
-ghost use Rattle.journal_parts.specs.Cores.{Crashes, IsRunning, OnlyReads};
+ghost use Rattle.journal_parts.specs.CoreStates.{Crashes, IsRunning, OnlyReads};
 ghost use Rattle.journal_memory.specs.Rules.{KeepsMapRule};
 ghost use Rattle.journal_memory.specs.Ledgers.{ShowsLonger};
 ghost use Rattle.journal_core.specs.Commits.{IsCommitted, CanCommit, IsCommitRefusal};
@@ -24,25 +24,30 @@ use std::sync::Wait;
 
 impl<'b, D: BlockDisk, R: MapRule, J: Naming> Core<'b, D, R, J> {
     /// Commits the session's next transaction: adds it to the history, which the session has then
-    /// seen, and overwrites the map by its writes, in memory. The receipt says where it stands. All
-    /// memory and all reads from the device come before the history grows; it takes what memory the
-    /// spares have first.
+    /// seen, and overwrites the map by its writes, in memory. The receipt has its place. All memory
+    /// and all reads from the device come before the history grows. It takes the spares' memory
+    /// first.
     ///
-    /// What it reads and writes lies under slots that are held, each once. They are verified first:
-    /// that waits for nobody, and shows that no other commit touched one since it was read: nothing
-    /// is compared. What is held agrees with the history then too, and a refusal leaves it as it
-    /// was.
+    /// The slots of its reads and writes are held, each once. Their tokens are verified first. That
+    /// shows that no other commit touched these slots. It does not block and compares no value.
+    /// Then the held slots agree with the history too, and a refusal leaves it as it was.
     ///
-    /// The first that applies of these refuses it: J13 `Closed` where the core was stopped, J6
-    /// `DeviceFailed` where the device failed before, J9 `Stale` where the session or the
-    /// transaction has seen more of the history than the core, or the history is longer, J10
-    /// `Stranger` where the history has a commit under the session's number that the session did
-    /// not make, J14 `Fenced` where the session is fenced, J4 `TooLarge` where more than 128
-    /// distinct blocks are written, J11 `Worn` where the history's length, the session's number or
-    /// a position of the log would reach 2^62, J12 `Full` where the log's tail cannot take the
-    /// blocks that do not stand in it, then J1 `NoMemory` where memory is refused, or J6 where the
-    /// device fails in this call. The history, the map and the pending writes are then as they
-    /// were.
+    /// # Errors
+    /// The first that applies is answered, and of the last two the one that occurs. The history,
+    /// the map and the pending writes are as they were.
+    /// - `J13 Closed`: the core was stopped.
+    /// - `J6 DeviceFailed`: the device failed before.
+    /// - `J9 Stale`: the session or the transaction has seen more of the history than the core, or
+    ///   the history is longer.
+    /// - `J10 Stranger`: the history has a commit under the session's number that the session did
+    ///   not make.
+    /// - `J14 Fenced`: the session is fenced.
+    /// - `J4 TooLarge`: more than 128 distinct blocks are written.
+    /// - `J11 Worn`: the history's length, the session's number or a position of the log would
+    ///   reach 2^62.
+    /// - `J12 Full`: the log's tail has no room for the blocks that are not in it.
+    /// - `J1 NoMemory`: memory is refused.
+    /// - `J6 DeviceFailed`: the device fails in this call.
     pub fn commit_step<W: Wait>(
         &mut self,
         rt: &W,
@@ -78,7 +83,8 @@ impl<'b, D: BlockDisk, R: MapRule, J: Naming> Core<'b, D, R, J> {
         self.commit_verified(rt, session, transaction, held, spares)
     }
 
-    // Commits as `commit_step` does, once it was verified that what was read has not moved.
+    // Commits as `commit_step` does, once it was verified that no other commit touched the slots of
+    // its reads.
     fn commit_verified<W: Wait>(
         &mut self,
         rt: &W,

@@ -2,7 +2,7 @@
 ghost use Rattle.std.specs.Prelude.{◌≡◌, true, IfErr, OnOk, OnErr};
 ghost use Rattle.journal_world.specs.Histories.{is_fenced};
 ghost use Rattle.journal_history.specs.Tokens.{OnlyExtends};
-ghost use Rattle.journal_parts.specs.Cores.{Crashes};
+ghost use Rattle.journal_parts.specs.CoreStates.{Crashes};
 ghost use Rattle.journal_core.specs.FenceSteps.{SetsFence, IsFenceRefusal, AnswersFence};
 
 use crate::state::Core;
@@ -13,15 +13,19 @@ use journal_world::{MapRule, Refusal};
 use std::sync::Wait;
 
 impl<'b, D: BlockDisk, R: MapRule, J: Naming> Core<'b, D, R, J> {
-    /// Fences a session, by an entry of the history, where no fence of it stands: none of its
-    /// commits is added from then on, and no session gets its number. The session that is lent has
-    /// then seen the whole history. It may be the one that is fenced. It is no device call.
+    /// Fences a session, by an entry of the history, if it has no fence yet. None of its commits is
+    /// added from then on, and no session gets its number. The session that is lent has then seen
+    /// the whole history. It may be the one that is fenced. It makes no device call.
     ///
-    /// The first that applies of these refuses it: J13 `Closed` where the core was stopped, J6
-    /// `DeviceFailed` where the device failed before, J9 `Stale` where the history is longer than
-    /// the core's, and where no fence of it stands J11 `Worn` where the history's length or the
-    /// number that is to be fenced would reach 2^62, then J1 `NoMemory` where memory is refused.
-    /// The history is then as it was, and the session may have seen more.
+    /// # Errors
+    /// The first that applies is answered. The history is as it was, and the session may have seen
+    /// more.
+    /// - `J13 Closed`: the core was stopped.
+    /// - `J6 DeviceFailed`: the device failed before.
+    /// - `J9 Stale`: the history is longer than the core's.
+    /// - `J11 Worn`: it has no fence yet, and the history's length or the number to fence would
+    ///   reach 2^62.
+    /// - `J1 NoMemory`: memory is refused.
     pub fn fence_step<W: Wait>(
         &mut self,
         rt: &W,

@@ -1,6 +1,6 @@
 // A step of the installer.
 ghost use Rattle.std.specs.Prelude.{IfOk, IfErr, OnOk, OnErr};
-ghost use Rattle.journal_parts.specs.Cores.{Crashes, IsRunning};
+ghost use Rattle.journal_parts.specs.CoreStates.{Crashes, IsRunning};
 ghost use Rattle.journal_core.specs.Steps.{InstallAnswers, IsInstallRefusal, LeavesLog, TriesToInstall};
 ghost use Rattle.journal_core.specs.Interleavings.{AnswersInstall};
 
@@ -13,14 +13,15 @@ use journal_wal::InstallStep;
 use journal_world::{MapRule, Refusal};
 
 impl<'b, D: BlockDisk, R: MapRule, J: Naming> Core<'b, D, R, J> {
-    /// Does the next thing of the installer, with at most one device call that changes the disk:
+    /// Makes the next step of the installer, with at most one device call that changes the disk:
     /// writes one home block; makes a barrier; writes block 1; makes a barrier, after which the
-    /// positions are free. It is idle where nothing is logged that is not at home. The history
-    /// stays.
+    /// positions are free. It is idle if all that is logged is at home. The history stays.
     ///
-    /// Answers J13 `Closed` where the core was stopped, else J6 `DeviceFailed` where the device
-    /// failed in this call or before, and J1 `NoMemory` where memory for the list of addresses is
-    /// refused, at the first of these steps.
+    /// # Errors
+    /// The history is as it was. J13 comes before all others.
+    /// - `J13 Closed`: the core was stopped.
+    /// - `J6 DeviceFailed`: the device failed, in this call or before.
+    /// - `J1 NoMemory`: memory for the list of addresses is refused, at the first of these steps.
     pub fn install_step(&mut self) -> Result<InstallStep, Refusal<Cause<'b, J, R>>>
         ensures ok { IfOk result (λ step. InstallAnswers self.old step self.new) }
         ensures running { OnOk result (IsRunning self.old × IsRunning self.new) }

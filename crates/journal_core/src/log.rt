@@ -1,6 +1,6 @@
 // A step of the logger, or a mark.
 ghost use Rattle.std.specs.Prelude.{IfOk, IfErr, OnOk, OnErr};
-ghost use Rattle.journal_parts.specs.Cores.{Crashes, IsRunning};
+ghost use Rattle.journal_parts.specs.CoreStates.{Crashes, IsRunning};
 ghost use Rattle.journal_core.specs.Steps.{LogAnswers, IsLogRefusal, LeavesLog, TriesToLog};
 ghost use Rattle.journal_core.specs.Interleavings.{AnswersLog};
 
@@ -13,15 +13,18 @@ use journal_parts::LogStep;
 use journal_world::{MapRule, Refusal};
 
 impl<'b, D: BlockDisk, R: MapRule, J: Naming> Core<'b, D, R, J> {
-    /// Does the next thing of the logger, with at most one device call that changes the disk: the
-    /// next step of the group in flight; where its cycle ended, the mark of its commits; a cut;
-    /// where nothing awaits logging, the mark of commits that wrote nothing. It is idle where there
-    /// is none of these.
+    /// Makes the next step of the logger, with at most one device call that changes the disk: the
+    /// next step of the group in flight; if its cycle ended, the mark of its commits; a cut; if
+    /// nothing awaits logging, the mark of commits that wrote nothing. It is idle if none of these
+    /// is due.
     ///
-    /// Answers J13 `Closed` where the core was stopped, else J6 `DeviceFailed` where the device
-    /// failed in this call or before, J9 `Stale` where the history is longer than the core's, and
-    /// J11 `Worn` where its length would reach 2^62. Nothing is then marked. Answers J1 `NoMemory`
-    /// where memory for a group is refused, which is then not cut.
+    /// # Errors
+    /// Nothing is then marked. J13 comes before all others.
+    /// - `J13 Closed`: the core was stopped.
+    /// - `J6 DeviceFailed`: the device failed, in this call or before.
+    /// - `J9 Stale`: the history is longer than the core's.
+    /// - `J11 Worn`: the history's length would reach 2^62.
+    /// - `J1 NoMemory`: memory for a group is refused, which is then not cut.
     pub fn log_step(&mut self) -> Result<LogStep, Refusal<Cause<'b, J, R>>>
         ensures ok { IfOk result (λ step. LogAnswers self.old step self.new) }
         ensures running { OnOk result (IsRunning self.old × IsRunning self.new) }

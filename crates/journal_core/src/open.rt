@@ -2,7 +2,8 @@
 ghost use Rattle.std.specs.Prelude.{◌≡◌, ◌<◌, false, length, replicate, IsTrue, OnOk, IfOk, IfErr, IfSome};
 ghost use Rattle.journal_world.specs.Files.{shape};
 ghost use Rattle.journal_disk.specs.Disks.{IsSettled};
-ghost use Rattle.journal_parts.specs.Openings.{HasWellFormedLog, HasBoundsOf, Begins, IsLayoutRefusal, OnlyReadsDisk};
+ghost use Rattle.journal_parts.specs.Openings.{HasWellFormedLog, IsLayoutRefusal, OnlyReadsDisk};
+ghost use Rattle.journal_parts.specs.Beginnings.{HasBoundsOf, Begins};
 
 use crate::state::Core;
 use journal_block::{Block, Update};
@@ -16,16 +17,20 @@ use std::alloc::Global;
 
 impl<'b, D: BlockDisk, R: MapRule, J: Naming> Core<'b, D, R, J> {
     /// Opens a disk on which nothing is pending: begins the book's history with the map that the
-    /// disk holds, where the rule admits it. What lies in the disk's log is read into memory, and
-    /// nothing is written. Copies of no more than so many blocks that are at home will be kept in
-    /// memory. The slots of the journal, by whose cell it is named, come with it: all are free, and
-    /// no commit touched any.
+    /// disk holds, if the rule admits it. The updates in the disk's log are read into memory, and
+    /// nothing is written. Memory keeps at most `copies` copies of blocks that are at home. The
+    /// slots of the journal, by whose cell it is named, come with it: all are free, and no commit
+    /// touched any.
     ///
-    /// The first that applies of these refuses it: J8 `BadSuper` where the disk has not as many
-    /// blocks as the layout, J7 `BadLog` where the disk's log is not well formed, J8 where the rule
-    /// does not hold of the map, J9 `Stale` where the book has a history already. J1 `NoMemory`
-    /// where memory is refused, and J6 `DeviceFailed` where the device fails in this call, come
-    /// where they are met. A refusal hands the disk back as it was.
+    /// # Errors
+    /// A refusal gives the disk back as it was. The first that applies is answered; J1 and J6 are
+    /// answered where they occur.
+    /// - `J8 BadSuper`: the disk has another number of blocks than the layout.
+    /// - `J7 BadLog`: the disk's log is not well formed.
+    /// - `J8 BadSuper`: the rule does not hold of the map.
+    /// - `J9 Stale`: the book has a history already.
+    /// - `J1 NoMemory`: memory is refused.
+    /// - `J6 DeviceFailed`: the device fails in this call.
     pub fn open_step(
         alloc: Global,
         book: &'b Book<R>,
@@ -70,7 +75,7 @@ impl<'b, D: BlockDisk, R: MapRule, J: Naming> Core<'b, D, R, J> {
     }
 }
 
-// Memory for one block, where there is memory.
+// Memory for one block, if there is any.
 fn spare_block(alloc: Global) -> Option<Vec<Update>>
     ensures { IfSome result (λ spare. length spare.items ≡ 1) }
 {

@@ -6,7 +6,7 @@ ghost use Rattle.journal_tail.specs.ObjectTails.{known_updates, missing_blocks};
 ghost use Rattle.journal_history.specs.Tokens.{next_transaction, OnlyExtends, IsReceiptFor};
 ghost use Rattle.journal_lockmap.specs.Numbers.{AreApart, HoldsSlots, slots_of};
 ghost use Rattle.journal_memory.specs.SlotCounts.{AgreeWith};
-ghost use Rattle.journal_parts.specs.Cores.{Crashes, IsRunning, OnlyReads};
+ghost use Rattle.journal_parts.specs.CoreStates.{Crashes, IsRunning, OnlyReads};
 ghost use Rattle.journal_parts.specs.CoreParts.{IsPair, core_of};
 ghost use Rattle.journal_parts.specs.Durables.{IsCallRefusal};
 ghost use Rattle.journal_memory.specs.Rules.{KeepsMapRule};
@@ -28,7 +28,7 @@ use journal_world::{MapRule, Refusal};
 use std::alloc::Global;
 use std::sync::Wait;
 
-/// Commits in memory, where the blocks that memory lacks are fetched first.
+/// Commits in memory. Blocks that memory lacks are fetched first.
 pub(crate) fn commit_step<'b, D: BlockDisk, R: MapRule, J: Naming, W: Wait>(
     rt: &W,
     alloc: Global,
@@ -62,7 +62,7 @@ pub(crate) fn commit_step<'b, D: BlockDisk, R: MapRule, J: Naming, W: Wait>(
 {
     let nothing = Fetched::empty(alloc, volatile.front());
     let answer = volatile.commit_verified(rt, session, transaction, held, spares, &nothing);
-    // Called for its contract: what memory keeps by itself.
+    // Called for its contract: memory's invariant.
     volatile.prove_invariant();
     match answer {
         Ok(CommitStep::Done(receipt)) => Ok(receipt),
@@ -83,7 +83,7 @@ pub(crate) fn commit_step<'b, D: BlockDisk, R: MapRule, J: Naming, W: Wait>(
     }
 }
 
-/// Commits once the blocks are fetched that memory lacks, for which this is the memory.
+/// Commits once the missing blocks are fetched, into this memory.
 pub(crate) fn commit_fetched<'b, D: BlockDisk, R: MapRule, J: Naming, W: Wait>(
     rt: &W,
     durable: &mut Durable<'b, D, R, J>,

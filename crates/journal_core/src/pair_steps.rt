@@ -1,9 +1,9 @@
 // Steps of both parts for one thread, of a pair that is tied: the same holds as threads make, one
-// after the other. Each step makes at most one call of the device, and where that fails both parts
-// know of it.
+// after the other. Each step makes at most one call of the device. If it fails, both parts know of
+// it.
 ghost use Rattle.std.specs.Prelude.{◌≡◌, ◌<◌, false, true, map, IsTrue, IfOk, IfErr, OnOk, OnErr, All};
 ghost use Rattle.journal_objlog.specs.ObjectLogs.{OnlyReads};
-ghost use Rattle.journal_parts.specs.Cores.{IsRunning, Crashes};
+ghost use Rattle.journal_parts.specs.CoreStates.{IsRunning, Crashes};
 ghost use Rattle.journal_parts.specs.CoreParts.{IsPair, core_of};
 ghost use Rattle.journal_parts.specs.Durables.{IsCallRefusal, Crashes as CrashesDurable};
 ghost use Rattle.journal_core.specs.Interleavings.{AnswersFetch};
@@ -17,8 +17,8 @@ use journal_parts::{Durable, InstallCall, InstallFault, LogCall, LogStep};
 use journal_wal::InstallStep;
 use journal_world::{MapRule, Refusal};
 
-/// Does the next thing of the logger: the device call of the group in flight that is due, or where
-/// none is in flight what is due of both parts.
+/// Makes the next step of the logger: the device call of the group in flight that is due, or if
+/// none is in flight the work of both parts that is due.
 pub(crate) fn log_step<'b, D: BlockDisk, R: MapRule, J: Naming>(
     durable: &mut Durable<'b, D, R, J>,
     volatile: &mut Volatile<'b, R, J>,
@@ -45,7 +45,7 @@ pub(crate) fn log_step<'b, D: BlockDisk, R: MapRule, J: Naming>(
     }
 }
 
-/// Does the next thing of the installer. What is at home then is dropped from memory.
+/// Makes the next step of the installer. Blocks that are then at home are dropped from memory.
 pub(crate) fn install_step<'b, D: BlockDisk, R: MapRule, J: Naming>(
     durable: &mut Durable<'b, D, R, J>,
     volatile: &mut Volatile<'b, R, J>,

@@ -11,8 +11,8 @@ use journal_parts::Durable;
 use journal_world::MapRule;
 
 impl<'b, D: BlockDisk, R: MapRule, J: Naming> Core<'b, D, R, J> {
-    /// Its two parts, for a lock of each. What ties them is asked for by none of their own calls:
-    /// each looks at what it needs of the other where both are held.
+    /// Its two parts, for a lock of each. None of their own calls asks for the facts that tie them:
+    /// each tests the facts that it needs of the other part where both are held.
     #[tactic(auto, using(journal_parts::proofs::Between::between_pair))]
     pub fn into_parts(self) -> (Durable<'b, D, R, J>, Volatile<'b, R, J>)
         ensures parts { core_of result.1 result.0 ≡ self.entry }

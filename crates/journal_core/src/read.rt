@@ -6,7 +6,7 @@ ghost use Rattle.journal_world.specs.Histories.{is_trusted, latest};
 ghost use Rattle.journal_object.specs.Objects.{size_at};
 ghost use Rattle.journal_memory.specs.SlotCounts.{AgreeWith, AreUnder};
 ghost use Rattle.journal_memory.specs.Transactions.{AreUnmoved};
-ghost use Rattle.journal_parts.specs.Cores.{Crashes, IsRunning, OnlyReads};
+ghost use Rattle.journal_parts.specs.CoreStates.{Crashes, IsRunning, OnlyReads};
 ghost use Rattle.journal_core.specs.Steps.{MayRead, IsReadRefusal};
 ghost use Rattle.journal_core.specs.Interleavings.{AnswersRead};
 
@@ -22,18 +22,21 @@ use std::mem;
 use std::sync::Wait;
 
 impl<'b, D: BlockDisk, R: MapRule, J: Naming> Core<'b, D, R, J> {
-    /// Reads what the map after the history gives the address, into bytes that are as many as its
-    /// object has. What it found is for the transaction to remember, once the core is let go. The
-    /// history stays. It takes no memory, and the address's block is read from the device only
-    /// where it is not in memory.
+    /// Reads the value that the map after the history gives the address, into bytes that are as
+    /// many as its object has. The transaction remembers the result once the core is released. The
+    /// history stays. It takes no memory, and the address's block is read from the device only if
+    /// it is not in memory.
     ///
-    /// What the transaction read before lies under slots that are held. They are verified first:
-    /// that waits for nobody, and shows that no commit touched one since: nothing is compared.
+    /// The slots of all earlier reads are held. Their tokens are verified first. That shows that no
+    /// commit touched these slots since. It does not block and compares no value.
     ///
-    /// The first that applies of these refuses it: J13 `Closed` where the core was stopped, J6
-    /// `DeviceFailed` where the device failed before, J2 `BadAddress` where the address is not
-    /// valid, J9 `Stale` where the transaction has seen more of the history than the core, then J6
-    /// where the device fails in this call.
+    /// # Errors
+    /// The first that applies is answered. The history is as it was.
+    /// - `J13 Closed`: the core was stopped.
+    /// - `J6 DeviceFailed`: the device failed before.
+    /// - `J2 BadAddress`: the address is not valid.
+    /// - `J9 Stale`: the transaction has seen more of the history than the core.
+    /// - `J6 DeviceFailed`: the device fails in this call.
     pub fn read_step<W: Wait>(
         &mut self,
         rt: &W,
@@ -61,7 +64,8 @@ impl<'b, D: BlockDisk, R: MapRule, J: Naming> Core<'b, D, R, J> {
         self.read_verified(transaction, addr, into)
     }
 
-    // Reads as `read_step` does, once it was verified that what was read has not moved.
+    // Reads as `read_step` does, once it was verified that no other commit touched the slots of its
+    // reads.
     fn read_verified(
         &mut self,
         transaction: &Transaction<'b, J, R>,

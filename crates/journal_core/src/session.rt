@@ -3,7 +3,7 @@ ghost use Rattle.std.specs.Prelude.{◌≡◌, ◌≤◌, ◌^◌, ◌+◌, ◌�
 ghost use Rattle.journal_world.specs.Histories.{floor};
 ghost use Rattle.journal_history.specs.Tokens.{IsExact, OnlyExtends};
 ghost use Rattle.journal_memory.specs.Waits.{MayWait, IsWaitRefusal};
-ghost use Rattle.journal_parts.specs.Cores.{Crashes};
+ghost use Rattle.journal_parts.specs.CoreStates.{Crashes};
 ghost use Rattle.journal_parts.specs.CoreParts.{outset};
 ghost use Rattle.journal_core.specs.Steps.{BeginsSession, Stops, IsSessionRefusal, IsShowRefusal};
 ghost use Rattle.journal_core.specs.Interleavings.{AnswersSession};
@@ -16,10 +16,11 @@ use journal_world::{CommitCount, MapRule, Refusal};
 use std::sync::Wait;
 
 impl<'b, D: BlockDisk, R: MapRule, J: Naming> Core<'b, D, R, J> {
-    /// A session of a number that no session had before and that the history has no commit and no
-    /// fence of. It has seen the whole history. It takes no memory.
+    /// A session of a number that no session had before. The history has no commit and no fence of
+    /// it. It has seen the whole history. The call takes no memory.
     ///
-    /// Answers J11 `Worn` where the number would reach 2^62.
+    /// # Errors
+    /// - `J11 Worn`: the number would reach 2^62. Nothing changed.
     pub fn session_step(&mut self) -> Result<Session<'b, J, R>, Refusal<Cause<'b, J, R>>>
         ensures begun { IfOk result (λ session. BeginsSession self.old session self.new) }
         ensures refusal { IfErr result (IsSessionRefusal self.old) }
@@ -30,13 +31,16 @@ impl<'b, D: BlockDisk, R: MapRule, J: Naming> Core<'b, D, R, J> {
         self.volatile.session()
     }
 
-    /// Whether so many commits are marked as stable. The session has then seen the whole history,
-    /// and is exact.
+    /// True if the first n commits are marked as stable. The session has then seen the whole
+    /// history, and is exact.
     ///
-    /// The first that applies of these refuses it, and leaves the session as it was: J13 `Closed`
-    /// where the core was stopped and J6 `DeviceFailed` where the device failed before, both only
-    /// where so many are not marked; J9 `Stale` where the history is longer than the core's; J10
-    /// `Stranger` where it has a commit under the session's number that the session did not make.
+    /// # Errors
+    /// The first that applies is answered. The session is as it was.
+    /// - `J13 Closed`: the core was stopped, and the first n commits are not marked.
+    /// - `J6 DeviceFailed`: the device failed before, and the first n commits are not marked.
+    /// - `J9 Stale`: the history is longer than the core's.
+    /// - `J10 Stranger`: the history has a commit under the session's number that the session did
+    ///   not make.
     pub fn wait_step<W: Wait>(
         &mut self,
         rt: &W,
@@ -55,8 +59,8 @@ impl<'b, D: BlockDisk, R: MapRule, J: Naming> Core<'b, D, R, J> {
         self.volatile.wait_step(rt, session, CommitCount::new(n))
     }
 
-    /// Stops the core: reads, commits and steps, and waits for marks that do not stand, are refused
-    /// by J13 from then on. Nothing else changes.
+    /// Stops the core: reads, commits and steps are refused by J13 from then on, and so are waits
+    /// for marks that are not made yet. Nothing else changes.
     pub fn stop_step(&mut self)
         ensures stops { Stops self.old self.new }
     {
@@ -65,8 +69,9 @@ impl<'b, D: BlockDisk, R: MapRule, J: Naming> Core<'b, D, R, J> {
 
     /// Shows the session the whole history.
     ///
-    /// Answers J9 `Stale` where the session had seen more of the history than the core, and nothing
-    /// else. The session may then have seen more.
+    /// # Errors
+    /// - `J9 Stale`: the session had seen more of the history than the core. The session may then
+    ///   have seen more.
     pub fn show_step(&self, session: &mut Session<'b, J, R>) -> Result<(), Refusal<Cause<'b, J, R>>>
         ensures extends { OnlyExtends session.old session.new }
         ensures shown { OnOk result (session.new.seen ≡ self.now.history) }

@@ -1,11 +1,12 @@
-// The core, and what it tells without a step.
+// The core, and its facts that take no step.
 ghost use Rattle.std.specs.Prelude.{ℕ, ◌≡◌, IsTrue, IfErr, OnOk};
 ghost use Rattle.journal_world.specs.Histories.{opened, is_trusted, count, floor};
 ghost use Rattle.journal_disk.specs.Images.{EveryImage};
 ghost use Rattle.journal_circ.specs.Mending.{IsMendable};
 ghost use Rattle.journal_history.specs.Soundness.{IsSound};
 ghost use Rattle.journal_memory.specs.SlotCounts.{AgreeWith};
-ghost use Rattle.journal_parts.specs.Cores.{Leaves, Crashes, IsRunning, disk_of, start_of, end_of};
+ghost use Rattle.journal_parts.specs.Cores.{Leaves};
+ghost use Rattle.journal_parts.specs.CoreStates.{Crashes, IsRunning, disk_of, start_of, end_of};
 ghost use Rattle.journal_core.specs.Steps.{IsEndRefusal};
 
 use journal_block::Update;
@@ -30,7 +31,7 @@ pub struct Core<'b, D: BlockDisk, R: MapRule, J: Naming> {
 }
 
 impl<'b, D: BlockDisk, R: MapRule, J: Naming> Model for Core<'b, D, R, J> {
-    ghost use Rattle.journal_parts.specs.Cores.{CoreState};
+    ghost use Rattle.journal_parts.specs.CoreStates.{CoreState};
     ghost use Rattle.journal_parts.specs.CoreParts.{IsCore, core_of};
 
     ghost Value = { CoreState };
@@ -41,7 +42,7 @@ impl<'b, D: BlockDisk, R: MapRule, J: Naming> Model for Core<'b, D, R, J> {
 }
 
 impl<'b, D: BlockDisk, R: MapRule, J: Naming> Core<'b, D, R, J> {
-    /// The numbers of commits and of marks, and where the log on the disk lies.
+    /// The numbers of commits and of marks, and the log's range on the disk.
     pub fn stat(&self) -> Stat
         ensures { result ≡ record {
           commits = count self.now.history;
@@ -59,8 +60,12 @@ impl<'b, D: BlockDisk, R: MapRule, J: Naming> Core<'b, D, R, J> {
         }
     }
 
-    /// Refuses by J13 `Closed` where it was stopped, else by J6 `DeviceFailed` where the device
-    /// failed before, and by nothing else. It is no device call.
+    /// Checks that neither a stop nor a fault ended it. It makes no device call.
+    ///
+    /// # Errors
+    /// The first that applies is answered. Nothing changed.
+    /// - `J13 Closed`: it was stopped.
+    /// - `J6 DeviceFailed`: the device failed before.
     pub fn check_running(&self) -> Result<(), Refusal<Cause<'b, J, R>>>
         ensures running { OnOk result (IsRunning self.now) }
         ensures refusal { IfErr result (IsEndRefusal self.now) }
@@ -69,8 +74,8 @@ impl<'b, D: BlockDisk, R: MapRule, J: Naming> Core<'b, D, R, J> {
         self.volatile.check_running()
     }
 
-    /// Shows that what is held agrees with the history: as many commits touched each slot as its
-    /// token says. Nothing changes, and it waits for nobody.
+    /// Shows that the held slots agree with the history: as many commits touched each slot as its
+    /// token says. Nothing changes, and the call does not block.
     pub(crate) fn verify_tokens<W: Wait>(&mut self, rt: &W, held: &mut [Held<J>])
         ensures same { self.new ≡ self.old }
         ensures held { held.new ≡ held.old }
@@ -79,8 +84,8 @@ impl<'b, D: BlockDisk, R: MapRule, J: Naming> Core<'b, D, R, J> {
         self.volatile.verify_tokens(rt, held);
     }
 
-    /// The whole history. It is sound, its map has the journal's layout, and it is trusted where
-    /// the disk was honest and settled when it was opened.
+    /// The whole history. It is sound, its map has the journal's layout, and it is trusted if the
+    /// disk was honest and settled when it was opened.
     pub fn front(&self) -> Front<'b, J, R>
         ensures history { result ≡ self.now.history }
         ensures size { (opened self.now.history).layout ≡ J.layout }
@@ -90,8 +95,8 @@ impl<'b, D: BlockDisk, R: MapRule, J: Naming> Core<'b, D, R, J> {
         self.volatile.front()
     }
 
-    /// The disk, lent. Where it was honest and settled when it was opened, each image that a crash
-    /// may leave of it opens as the map after a front of the history that has every marked commit.
+    /// The disk, lent. If it was honest and settled when it was opened, each image that a crash may
+    /// leave of it opens as the map after a front of the history that has every marked commit.
     pub fn disk(&self) -> &D
         ensures disk { D.state result.now ≡ disk_of self.now }
         ensures size { (disk_of self.now).past.size ≡ J.layout.blocks }
@@ -100,9 +105,9 @@ impl<'b, D: BlockDisk, R: MapRule, J: Naming> Core<'b, D, R, J> {
         self.durable.disk()
     }
 
-    /// Gives the disk up, as it is. Where it was honest and settled when it was opened, each image
+    /// Gives the disk up, as it is. If it was honest and settled when it was opened, each image
     /// that a crash may leave of it opens as the map after a front of the history that has every
-    /// marked commit. Once a failed barrier, a kill or a crash has left it, it can be mended, also
+    /// marked commit. It can be mended once a failed barrier, a kill or a crash has left it, also
     /// after a fault.
     pub fn into_disk(self) -> D
         ensures disk { D.state result ≡ disk_of self.entry }

@@ -1,4 +1,4 @@
-// What a thread of the daemon does, over and over.
+// The repeated steps of a thread of the daemon.
 use journal_world::{Refusal, Step};
 use std::rt::Clock;
 use std::sync::Wait;
@@ -8,19 +8,19 @@ pub const LOGGER: u64 = 0;
 /// The installer's number at a gate.
 pub const INSTALLER: u64 = 1;
 
-/// One thing that is done over and over, a step at a time.
+/// An action that is repeated, a step at a time.
 pub trait OneStep {
-    /// What a refusal holds.
+    /// The cause in a refusal.
     type Cause: Drop;
 
-    /// Makes the next step, or is idle where there is none.
+    /// Makes the next step, or is idle if there is none.
     fn step<W: Wait + Clock>(&self, rt: &W) -> Result<Step, Refusal<Self::Cause>>;
 
     /// Is called after an idle step, and may wait until there is something to do.
     fn idle<W: Wait>(&self, rt: &W);
 }
 
-/// What a thread passes before each of its steps.
+/// A gate that a thread passes before each of its steps.
 pub trait Gate {
     /// Lets the thread `who` make its step number `n`, counted from 0. It may wait.
     fn pass<W: Wait>(&self, rt: &W, who: u64, n: u64);
@@ -34,8 +34,8 @@ impl Gate for OpenGate {
     fn pass<W: Wait>(&self, _rt: &W, _who: u64, _n: u64) {}
 }
 
-// Makes steps, each after the gate, until one is refused for another reason than memory. Where
-// memory was refused the step is tried again.
+// Makes steps, each after the gate, until one is refused for another reason than memory. If memory
+// was refused the step is tried again.
 pub(crate) fn run<S: OneStep, G: Gate, W: Wait + Clock>(rt: &W, steps: &S, gate: &G, who: u64) {
     let mut n: u64 = 0;
     for _ in rt.forever() {

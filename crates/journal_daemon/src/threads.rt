@@ -36,8 +36,7 @@ impl<'j, 'b, D: BlockDisk, R: MapRule, J: Naming> OneStep for Logger<'j, 'b, D, 
 }
 
 // A journal, whose installer makes the steps. It is lazy: an eager one would take every second pair
-// of barriers from the logger, though positions are needed only where the log is past its
-// threshold.
+// of barriers from the logger, but positions are needed only once the log is past its threshold.
 struct Installer<'j, 'b, D: BlockDisk, R: MapRule, J: Naming> {
     journal: &'j Journal<'b, D, R, J>,
 }
@@ -61,13 +60,14 @@ impl<'j, 'b, D: BlockDisk, R: MapRule, J: Naming> OneStep for Installer<'j, 'b, 
 }
 
 /// Runs a logger and an installer for the journal, each in a thread of its own, and returns when
-/// both have ended: after `Journal::stop`, or where a step of each was refused by another refusal
+/// both have ended: after `Journal::stop`, or once a step of each was refused by another refusal
 /// than J1. A step that J1 refuses is tried again. The logger passes the gate as `LOGGER`, the
-/// installer as `INSTALLER`. The clock is asked for nothing but how long the logger lets a group
-/// grow (`Journal::log_step_grouped`).
+/// installer as `INSTALLER`. The clock is used only for the time that the logger lets a group grow
+/// (`Journal::log_step_grouped`).
 ///
-/// Answers J1 `NoMemory`, and nothing else, where a thread was refused. The journal is then
-/// stopped, and a thread that was made has ended.
+/// # Errors
+/// - `J1 NoMemory`: a thread was refused. The journal is then stopped, and a thread that was made
+///   has ended.
 pub fn start<
     'b,
     D: BlockDisk + Send,

@@ -1,9 +1,8 @@
--- What a disk is: its blocks at first, what happened to them since, and what that makes of each
--- block now.
+-- A disk: its blocks at first, the events since, and the content of each block now.
 use Rattle.std.specs.Prelude.{ℕ, ◌≡◌, ◌⊎◌, ◌<◌, ◌≤◌, ◌-◌, ◌^◌, ◌==◌, Bool, List, [], ◌∷◌, slice_index_or, if◌then◌else◌}
 use Rattle.journal_block.specs.Block.{Bytes}
 
--- what happens to a disk: a write, or a barrier that succeeded
+-- an event of a disk: a write, or a barrier that succeeded
 pub data DiskEvent : Type 0 where
   write : (block : ℕ) (bytes : Bytes) → DiskEvent
   barrier : DiskEvent
@@ -18,7 +17,7 @@ pub record Past : Type 0 where
   pub device : List Bytes
   pub events : List DiskEvent
 
--- What contracts know of a disk. Where it is not honest, its past says nothing but the size
+-- The state of a disk that contracts see. If it is not honest, its past says nothing but the size
 pub record DiskState : Type 0 where
   pub past : Past
   pub honest : Bool
@@ -39,13 +38,13 @@ pending_in [] b = []
 pending_in (write c bytes ∷ older) b = if b == c then bytes ∷ pending_in older b else pending_in older b
 pending_in (barrier ∷ older) b = []
 
--- what block b held at the last barrier, or where there was none at first, which is given
+-- the content of block b at the last barrier, or without one its first content, which is given
 abbrev pub stable_in : Bytes → List DiskEvent → ℕ → Bytes
 stable_in block [] b = block
 stable_in block (write c bytes ∷ older) b = stable_in block older b
 stable_in block (barrier ∷ older) b = newest (pending_in older b) (stable_in block older b)
 
--- what a read of block b gives: the last of its pending writes, else its stable content
+-- the content that a read of block b gives: the last of its pending writes, else its stable content
 abbrev pub read_in : Bytes → List DiskEvent → ℕ → Bytes
 read_in block events b = newest (pending_in events b) (stable_in block events b)
 
@@ -56,11 +55,11 @@ pending_of p b = pending_in p.events b
 abbrev pub stable_of : Past → ℕ → Bytes
 stable_of p b = stable_in (block_at p.device b) p.events b
 
--- what a read of the block gave at the last barrier
+-- the content that a read of the block gave at the last barrier
 abbrev pub synced_of : Past → ℕ → Bytes
 synced_of p b = stable_in (block_at p.first b) p.events b
 
--- what a read of the block gives: the last pending write, else the stable block
+-- the content that a read of the block gives: the last pending write, else the stable block
 abbrev pub read_of : Past → ℕ → Bytes
 read_of p b = read_in (block_at p.first b) p.events b
 
@@ -68,7 +67,7 @@ read_of p b = read_in (block_at p.first b) p.events b
 abbrev pub IsSettled : Past → Type 0
 IsSettled p = (b : ℕ) → b < p.size → (pending_of p b ≡ []) × (stable_of p b ≡ read_of p b)
 
--- what reads give of the block, the device has or a barrier will give it
+-- the device has the content that reads give of the block, or a barrier will give it
 abbrev pub IsKeptAt : Past → ℕ → Type 0
 IsKeptAt p b = pending_of p b ≡ [] → stable_of p b ≡ read_of p b
 
@@ -88,7 +87,7 @@ past_after e p = record p { events = e ∷ p.events }
 abbrev pub MayHaveHappened : DiskEvent → Past → Past → Type 0
 MayHaveHappened e old new = (new ≡ old) ⊎ (new ≡ past_after e old)
 
--- What each call keeps, failed or not, whether the disk is honest or not
+-- The facts that each call keeps, failed or not, whether the disk is honest or not
 pub record Keeps (old new : DiskState) : Type 0 where
   pub size : new.past.size ≡ old.past.size
   pub honest : new.honest ≡ old.honest

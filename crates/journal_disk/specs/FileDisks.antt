@@ -1,4 +1,4 @@
--- A disk in a file: what contracts see of it, and of its file.
+-- A disk in a file: the state that contracts see of it, and of its file.
 use Rattle.std.specs.Prelude.{ℕ, ◌≡◌, ◌+◌, ◌-◌, ◌^◌, ◌/◌, min, Bool, false, List, [], length, Option, IfSome, IsTrue}
 use Rattle.std.proofs.lemmas.Bool.{false≢true}
 use Rattle.journal_world.specs.declared.layout.TheConstants.{BLOCK_BYTES}
@@ -6,33 +6,33 @@ use Rattle.journal_block.specs.Block.{Bytes}
 use Rattle.journal_disk.specs.Disks.{Past, DiskState, past_from}
 use Rattle.journal_disk.specs.Images.{IsImage}
 
--- What is known of a file. Where it keeps what it is told, its past is what it was told of its
--- blocks. Else its past says nothing
+-- The state of a file. If it keeps what is written to it, its past is the calls for its blocks.
+-- Else its past says nothing
 pub record Told : Type 0 where
   pub past : Past
   pub keeps : Bool
 
--- What each call of a file keeps, whether it succeeds or not: its number of blocks, and whether it
--- keeps what it is told
+-- The facts that each call of a file keeps, whether it succeeds or not: its number of blocks, and
+-- whether it keeps what is written to it
 pub record KeepsTold (old new : Told) : Type 0 where
   pub size : new.past.size ≡ old.past.size
   pub keeps : new.keeps ≡ old.keeps
 
--- what is known of a file of the system: nothing
+-- the state of a file of the system: nothing is known
 abbrev pub untold : Told
 untold = record { past = past_from 0 []; keeps = false }
 
--- What its file was told, how many blocks it has, and how many of its calls failed
+-- The state of its file, its number of blocks, and how many of its calls failed
 pub record FileState : Type 0 where
   pub told : Told
   pub size : ℕ
   pub failures : ℕ
 
--- What is known of it as of any disk: it is honest where its file keeps what it is told
+-- Its state as any disk's: it is honest if its file keeps what is written to it
 abbrev pub file_state : FileState → DiskState
 file_state f = record { past = record f.told.past { size = f.size }; honest = f.told.keeps; failures = f.failures }
 
--- once its file was told this
+-- the state once its file has this one
 abbrev pub with_told : FileState → Told → FileState
 with_told f told = record f { told = told }
 
@@ -40,7 +40,7 @@ with_told f told = record f { told = told }
 abbrev pub with_failure : FileState → FileState
 with_failure f = record f { failures = min (f.failures + 1) (2 ^ 64 - 1) }
 
--- so many blocks as there are whole ones in the file, where its bytes are known
+-- as many blocks as there are whole ones in the file, if its bytes are known
 abbrev pub HasWholeBlocks : Option (List ℕ) → ℕ → Type 0
 HasWholeBlocks file blocks = IfSome file (λ bytes. blocks ≡ length bytes / BLOCK_BYTES)
 

@@ -1,4 +1,4 @@
--- What a crash may leave of a disk.
+-- The images that a crash may leave of a disk.
 use Rattle.std.specs.Prelude.{ℕ, ◌≡◌, ◌≢◌, ◌⊎◌, ◌<◌, List, [], length, map, Contains}
 use Rattle.std.specs.List.{range_with_len}
 use Rattle.journal_block.specs.Block.{Bytes}
@@ -23,14 +23,14 @@ EveryImage p Q = (image : List Bytes) → IsImage p image → Q image
 abbrev pub reading : Past → List Bytes
 reading p = map (read_of p) (range_with_len 0 p.size)
 
--- A failed barrier leaves this to who opens the disk next with the memory of the machine kept: reads
--- give what they gave, the device has an image, and of what was pending nothing is any more
+-- A failed barrier, after which the machine keeps its memory, leaves this to the next opening:
+-- reads give the same as before, the device has an image, and nothing is pending
 pub record LosesWrites (old new : Past) : Type 0 where
   pub device : IsImage old new.device
   pub is : new ≡ record { size = old.size; first = reading old; device = new.device; events = [] }
 
--- Blocks were written as they read, and barriers made: reads give what they gave, no image is added,
--- and what was kept of a block is kept
+-- Blocks were written as they read, and barriers made: reads give the same as before, no image is
+-- added, and a kept block stays kept
 pub record IsRewritten (old new : Past) : Type 0 where
   pub size : new.size ≡ old.size
   pub reads : (b : ℕ) → read_of new b ≡ read_of old b

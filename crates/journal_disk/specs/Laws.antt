@@ -1,5 +1,4 @@
--- What follows from the definitions for every disk: its reads, its images and its moments, from
--- event to event.
+-- Laws of every disk: its reads, its images and its moments, from event to event.
 use Rattle.std.proofs.Common.{◌≡◌, ◌≢◌, ◌⊎◌, inl, inr, ⊎_elim, ◌<◌, ℕ, zero, suc, List, [], ◌∷◌, ◌++◌, Bool, cond, length, map, set, refl, sym, ap, ◌∙◌, arith, length-append, length-set, subst, Contains}
 use Rattle.std.specs.List.{range_with_len}
 use Rattle.std.proofs.lemmas.List.{get_or-set_same, get_or-set_other}
@@ -175,7 +174,7 @@ newest_same : (writes : List Bytes) (x y : Bytes) → (writes ≡ [] → x ≡ y
 newest_same [] x y same = same refl
 newest_same (bytes ∷ older) x y same = refl
 
--- what is kept of a block stays so after a write of whichever, and after a barrier
+-- a kept block stays kept after a write of any block, and after a barrier
 pub kept_after_write : (p : Past) (b c : ℕ) (bytes : Bytes) → IsKeptAt p b → IsKeptAt (past_after (write c bytes) p) b
 kept_after_write p b c bytes kept none = ⊎_elim
     (λ (here : b ≡ c). let impossible : ⊥ = some (sym (pending_written p.events b c bytes here) ∙ none) in absurd impossible)
@@ -313,8 +312,7 @@ images_after_loss old new loss image is = record { size = is.size ∙ same_size;
 same_length : {p q : Past} → p ≡ q → length p.events ≡ length q.events
 same_length same = ap (λ (r : Past). length r.events) same
 
--- what holds of every image before something that may have happened and after it, holds at each
--- moment
+-- a fact of every image before an event that may have happened, and after it, holds at each moment
 pub leaves_by : (e : DiskEvent) (p q : Past) (Q : List Bytes → Type 0)
     → MayHaveHappened e p q → EveryImage p Q → EveryImage q Q → LeavesOnly p q Q
 leaves_by e p q Q happened old new = ⊎_elim
@@ -339,7 +337,7 @@ leaves_by e p q Q happened old new = ⊎_elim
 pub leaves_none : (p q : Past) (Q : List Bytes → Type 0) → q ≡ p → EveryImage p Q → LeavesOnly p q Q
 leaves_none p q Q none all = leaves_by barrier p q Q (inl none) all (subst (λ (r : Past). EveryImage r Q) (sym none) all)
 
--- what holds at each moment holds at the last
+-- a fact of each moment holds at the last one
 pub leaves_now : (p q : Past) (Q : List Bytes → Type 0) → LeavesOnly p q Q → EveryImage q Q
 leaves_now p q Q leaves = leaves.each q leaves.extends (record { since = []; grown = refl })
 
@@ -368,7 +366,7 @@ extends a p q since to_p to_q same = record {
   grown = to_q.grown ∙ (λ i. record (sym to_p.grown i) { events = (sym (ap (λ (r : Past). r.events) to_q.grown) ∙ same) i });
 }
 
--- what is said of each image may be weakened
+-- a fact of each image may be weakened
 pub leaves_also : (a b : Past) (Q R : List Bytes → Type 0) → LeavesOnly a b Q
     → ((image : List Bytes) → Q image → R image) → LeavesOnly a b R
 leaves_also a b Q R leaves weaker = record {

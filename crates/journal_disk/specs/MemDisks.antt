@@ -1,17 +1,17 @@
--- A disk in memory: what is pending, and which image a choice names.
+-- A disk in memory: its pending writes, and the image that a choice names.
 use Rattle.std.specs.Prelude.{ℕ, ◌-◌, ◌+◌, ◌^◌, min, true, List, length, map, filter, drop, nat_lt, slice_index_or}
 use Rattle.std.specs.List.{range_with_len}
 use Rattle.journal_block.specs.Block.{Bytes}
 use Rattle.journal_disk.specs.Disks.{DiskEvent, Past, DiskState, block_at, newest, pending_in, stable_in, pending_of, past_from, past_after}
 
--- What contracts see of a disk in memory
+-- The state of a disk in memory that contracts see
 pub record MemState : Type 0 where
   pub past : Past
   pub failures : ℕ
   -- which device call from now on is to fail, or 0
   pub fails_in : ℕ
 
--- what is known of it as of any disk: it is honest
+-- its state as any disk's: it is honest
 abbrev pub state_of : MemState → DiskState
 state_of m = record { past = m.past; honest = true; failures = m.failures }
 
@@ -43,8 +43,8 @@ pending_below p n = filter (λ e. nat_lt 0 e.1) (map (count_at p) (range_with_le
 abbrev pub pending_blocks : Past → List (ℕ × ℕ)
 pending_blocks p = pending_below p p.size
 
--- block b where only the first k of its pending writes stand: its stable content where k is 0, the
--- last write where k is too great
+-- block b with only the first k of its pending writes: its stable content for k = 0, the last write
+-- if k is too great
 abbrev pub chosen_in : Bytes → List DiskEvent → ℕ → ℕ → Bytes
 chosen_in block events b k =
     let writes = pending_in events b in newest (drop (length writes - k) writes) (stable_in block events b)

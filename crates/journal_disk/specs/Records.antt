@@ -1,4 +1,4 @@
--- The record of a disk in memory: what its entries stand for, and how they are linked.
+-- The record of a disk in memory: the meaning of its entries, and how they are linked.
 use Rattle.std.specs.Prelude.{ℕ, ◌≡◌, ◌-◌, ◌<◌, ◌==◌, suc, List, [], ◌∷◌, length, map, reverse, take, Option, Some, slice_index, slice_index_or, if◌then◌else◌}
 use Rattle.journal_block.specs.Block.{Bytes}
 use Rattle.journal_disk.specs.declared.events.Entry.{Entry}
@@ -6,7 +6,8 @@ use Rattle.journal_disk.specs.declared.events.Entry.TheVariants.{Write, Barrier}
 use Rattle.journal_disk.specs.declared.events.WriteEntry.{WriteEntry}
 use Rattle.journal_disk.specs.Disks.{DiskEvent, write, barrier, pending_in}
 
--- What contracts see of a record: the number of blocks, and what happened to them, the newest first
+-- The state of a record that contracts see: the number of blocks, and their events, the newest
+-- first
 pub record Recorded : Type 0 where
   pub size : ℕ
   pub events : List DiskEvent

@@ -26,25 +26,26 @@ impl fmt::Display for DiskFault {
 
 impl Error for DiskFault {}
 
-/// A disk of blocks of 4096 bytes, whose calls may fail, and which a crash may leave as any of its
-/// images.
+/// A disk of blocks of 4096 bytes. Its calls may fail, and a crash may leave any of its images.
 ///
-/// What is said of the blocks is owed by an honest disk alone, all else by every disk. No call
+/// An honest disk alone owes what the clauses say of the blocks. Every disk owes all else. No call
 /// makes a disk honest or dishonest.
 pub trait BlockDisk {
-    /// What is known of the disk.
+    /// The disk's state, as contracts see it.
     ghost state: { Self → DiskState };
 
     /// The number of blocks, which never changes.
     fn size(&self) -> u64
         ensures { result ≡ (state self.now).past.size };
 
-    /// How often a call failed. It never falls, and stops at 2^64 - 1.
+    /// How many calls failed. It never falls, and stops at 2^64 - 1.
     fn failures(&self) -> u64
         ensures { result ≡ (state self.now).failures };
 
-    /// Copies a block of the disk, as its last write left it. What `into` holds after a fault is
-    /// not said.
+    /// Copies a block of the disk, as its last write left it.
+    ///
+    /// # Errors
+    /// - `DiskFault`: the device failed. The content of `into` is not specified.
     fn read(&mut self, block: u64, into: &mut Block) -> Result<(), DiskFault>
         requires { block < (state self.old).past.size }
         ensures keeps { Keeps (state self.old) (state self.new) }
@@ -53,8 +54,10 @@ pub trait BlockDisk {
             OnOk result (into.new ≡ read_of (state self.old).past block) }
         ensures same { IsTrue (state self.old).honest → (state self.new).past ≡ (state self.old).past };
 
-    /// Overwrites a block of the disk. The write is pending until a barrier succeeds. One that
-    /// failed may be pending or not.
+    /// Overwrites a block of the disk. The write is pending until a barrier succeeds.
+    ///
+    /// # Errors
+    /// - `DiskFault`: the device failed. The write may be pending or not.
     fn write(&mut self, block: u64, from: &Block) -> Result<(), DiskFault>
         requires { block < (state self.old).past.size }
         ensures keeps { Keeps (state self.old) (state self.new) }
@@ -64,8 +67,10 @@ pub trait BlockDisk {
         ensures written_or_not { IsTrue (state self.old).honest →
             MayHaveHappened (write block from.now) (state self.old).past (state self.new).past };
 
-    /// Makes the pending writes stable, of each block its last. A barrier that failed clears
-    /// nothing.
+    /// Makes the pending writes stable, of each block its last.
+    ///
+    /// # Errors
+    /// - `DiskFault`: the device failed. The pending writes are still pending.
     fn barrier(&mut self) -> Result<(), DiskFault>
         ensures keeps { Keeps (state self.old) (state self.new) }
         ensures cause { OnErr result (HasFailed (state self.old) (state self.new)) }
@@ -74,13 +79,14 @@ pub trait BlockDisk {
         ensures not_synced { IsTrue (state self.old).honest →
             OnErr result ((state self.new).past ≡ (state self.old).past) };
 
-    // What follows of every disk, with its proof: a disk gives its state alone.
+    // These laws follow for every disk, and each has its proof. So a disk states nothing but its
+    // state.
 
     /// The disk as it reads is one of its images.
     ghost reads_as_image: { (past : Past) → IsImage past (reading past) } = { reading_is_image };
 
     /// At each moment of a write, done or failed, an image has the block as it was or as written,
-    /// never a part.
+    /// never a part of both.
     ghost writes_whole: { (old new : Past) (block : ℕ) (bytes : Bytes)
         → block < old.size → MayHaveHappened (write block bytes) old new
         → LeavesOnly old new (IsOldOrWritten old block bytes) } = { leaves_by_write };

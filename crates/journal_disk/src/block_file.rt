@@ -1,4 +1,4 @@
-// A file as a disk needs it.
+// The file under a disk.
 ghost use Rattle.std.specs.Prelude.{◌≡◌, ◌/◌, ◌%◌, List, IsTrue, IfOk, OnOk, OnErr};
 ghost use Rattle.journal_world.specs.declared.layout.TheConstants.{BLOCK_BYTES};
 ghost use Rattle.journal_disk.specs.Disks.{write, barrier, read_of, past_after, MayHaveHappened};
@@ -12,24 +12,24 @@ use std::io;
 use std::io::{Seek, SeekFrom};
 use std::os::unix::fs::FileExt;
 
-/// A file of blocks, which states whether it keeps what it is told.
+/// A file of blocks, which states whether it keeps what is written to it.
 ///
-/// The premise about a device has its place here, in two halves. *Reads*: while the program runs, a
-/// read that the system answers gives the last write (`read_block` `value`). *Crashes*: a crash
-/// leaves of each block, on its own, what it held at the last sync that succeeded or what some
-/// later write put there (`crash`). What is said of the blocks is owed by a file that keeps what it
-/// is told, and by no other. Offsets are bytes from the file's beginning.
+/// This trait states the premise about a device. The premise has two halves. *Reads*: while the
+/// program runs, a read that the system answers gives the last write (`read_block` `value`).
+/// *Crashes*: a crash leaves of each block, on its own, what it held at the last sync that
+/// succeeded or what some later write put there (`crash`). Only a file that keeps what is written
+/// to it owes what the clauses say of the blocks. Offsets are bytes from the file's beginning.
 pub trait BlockFile {
-    /// What is known of it.
+    /// The file's state, as contracts see it.
     ghost told: { Self → Told };
 
     /// A crash at this moment may leave these blocks in it.
     ghost leaves: { Self → List Bytes → Type 0 };
 
-    /// Where it ends, in bytes.
+    /// The file's end, in bytes.
     ///
     /// # Errors
-    /// - The system does not tell. The file is as it was.
+    /// - The system does not give the end. The file is as it was.
     fn end(&mut self) -> io::Result<u64>
         ensures same { told self.new ≡ told self.old }
         ensures size { IsTrue (told self.old).keeps →
@@ -38,7 +38,8 @@ pub trait BlockFile {
     /// Copies the block that begins at a byte.
     ///
     /// # Errors
-    /// - The system refuses the read, or the file ends before. What `into` then holds is not said.
+    /// - The system refuses the read, or the file ends before. The content of `into` is not
+    ///   specified.
     fn read_block(&mut self, into: &mut Block, offset: u64) -> io::Result<()>
         requires { offset % BLOCK_BYTES ≡ 0 }
         ensures keeps { KeepsTold (told self.old) (told self.new) }
@@ -61,7 +62,7 @@ pub trait BlockFile {
     /// Makes the pending writes stable.
     ///
     /// # Errors
-    /// - The system refuses the sync. What was pending still is.
+    /// - The system refuses the sync. The pending writes are still pending.
     fn sync(&mut self) -> io::Result<()>
         ensures keeps { KeepsTold (told self.old) (told self.new) }
         ensures synced { IsTrue (told self.old).keeps →
@@ -69,12 +70,12 @@ pub trait BlockFile {
         ensures not_synced { IsTrue (told self.old).keeps →
             OnErr result ((told self.new).past ≡ (told self.old).past) };
 
-    /// What a crash leaves of a file that keeps what it is told is an image of its past.
+    /// A file that keeps what is written to it leaves, after a crash, an image of its past.
     ghost crash: { (file : Self) (image : List Bytes) → IsTrue (told file).keeps
         → leaves file image → IsImage (told file).past image };
 }
 
-/// A file of the system, which states nothing, because no contract can say what a file keeps.
+/// A file of the system. It states nothing, because no contract can say what a file keeps.
 ///
 /// A call that the system cuts short or interrupts is carried on.
 #[derive(Drop)]
@@ -90,7 +91,7 @@ impl<F: FileExt + OpenFile + Seek + Drop> BlockFile for System<F> {
 
     ghost crash = { λ _ image keeps left. untold_keeps_nothing image keeps left };
 
-    // By where it ends, since the length that a device file tells is 0.
+    // By a seek to the end, because a device file gives 0 as its length.
     fn end(&mut self) -> io::Result<u64> {
         self.file.seek(SeekFrom::End(0))
     }

@@ -14,13 +14,13 @@ use std::marker::Model;
 pub struct WriteEntry {
     block: u64,
     bytes: Block,
-    // How many writes of the block there are since the last barrier before it, itself included.
+    // How many writes of the block there are from the last barrier up to this one.
     number: u64,
     // The place of the block's write before it, or 0.
     earlier: usize,
 }
 
-/// What the record keeps of one call.
+/// The entry of one call.
 #[derive(Drop)]
 pub enum Entry {
     Write(WriteEntry),
@@ -30,9 +30,9 @@ pub enum Entry {
 /// All writes and barriers since the beginning, in their order.
 ///
 /// The place of an entry is the number of entries up to it. The record keeps the place of each
-/// block's last write, and each write that of the block's write before it. So a block's last write
-/// is found at once, and its pending writes one after the other, with no look at other blocks or at
-/// what was before the last barrier.
+/// block's last write, and with each write the place of the block's write before it. So it finds a
+/// block's last write at once, and its pending writes one after the other. It looks at no other
+/// block, and at nothing before the last barrier.
 #[derive(Drop)]
 pub struct Record {
     entries: Vec<Entry>,
@@ -54,7 +54,10 @@ impl Model for Record {
 }
 
 impl Record {
-    /// The record of so many blocks to which nothing happened yet.
+    /// The empty record of a disk of `blocks` blocks.
+    ///
+    /// # Errors
+    /// - The memory for it is refused. Nothing was made.
     pub fn new(alloc: Global, blocks: usize) -> Result<Record, AllocError>
         ensures { IfOk result (λ r. r ≡ record { size = blocks; events = [] }) }
     {
@@ -88,7 +91,7 @@ impl Record {
     }
 
     /// The bytes of the block's pending write of this number, or of its last one where there are
-    /// fewer. Where the number is 0 or no write is pending, those of its last write before the last
+    /// fewer. If the number is 0 or no write is pending, those of its last write before the last
     /// barrier, or `None` where there is none.
     pub fn chosen(&self, block: u64, number: u64) -> Option<&Block>
         requires { block < self.now.size }
@@ -106,7 +109,10 @@ impl Record {
         bytes_at(&self.entries, place)
     }
 
-    /// Adds a write. Where memory for it is refused, the record is as it was.
+    /// Adds a write.
+    ///
+    /// # Errors
+    /// - The memory for it is refused. The record is as it was.
     pub fn write(&mut self, block: u64, bytes: Block) -> Result<(), AllocError>
         requires { block < self.old.size }
         ensures ok { OnOk result
@@ -124,7 +130,10 @@ impl Record {
         Ok(())
     }
 
-    /// Adds a barrier. Where memory for it is refused, the record is as it was.
+    /// Adds a barrier.
+    ///
+    /// # Errors
+    /// - The memory for it is refused. The record is as it was.
     pub fn barrier(&mut self) -> Result<(), AllocError>
         ensures ok { OnOk result (self.new ≡ record self.old { events = barrier ∷ self.old.events }) }
         ensures err { OnErr result (self.new ≡ self.old) }

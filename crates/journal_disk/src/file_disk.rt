@@ -19,8 +19,8 @@ use std::os::unix::fs::FileExt;
 /// Block `b` is the 4096 bytes from byte `4096 * b` on. Blocks are read into the caller's and
 /// written from it, with no copy beside the kernel's, and a barrier is an fdatasync. A call that
 /// the system cuts short or interrupts is carried on; one that the system refuses fails. The disk
-/// is honest where its file keeps what it is told. A file of the system, [`System`], states nothing
-/// of that, so of what the blocks of a disk in it hold nothing is promised.
+/// is honest if its file keeps what is written to it. A file of the system, [`System`], states
+/// nothing of that. So nothing is promised of the blocks of a disk in it.
 #[derive(Drop)]
 pub struct FileDisk<B: BlockFile = System<File>> {
     file: B,
@@ -39,10 +39,12 @@ impl<B: BlockFile> Model for FileDisk<B> {
 }
 
 impl<F: FileExt + OpenFile + Seek + Drop> FileDisk<System<F>> {
-    /// Opens the disk in the file at a path, to be read and written. It has as many blocks as there
-    /// are whole 4096 bytes up to the file's end.
+    /// Opens the disk in the file at a path, to be read and written. Its size is the number of
+    /// whole 4096 bytes up to the file's end.
     ///
-    /// Refused as the system refuses the file; a file is never made.
+    /// # Errors
+    /// - The system refuses to open the file. No file is ever made.
+    /// - The system does not give the file's end. The file is closed.
     pub fn open<R: Files<File = F>>(rt: &R, path: &str) -> io::Result<FileDisk<System<F>>>
         ensures { IfOk result (λ disk. disk.failures ≡ 0) }
     {
@@ -52,14 +54,15 @@ impl<F: FileExt + OpenFile + Seek + Drop> FileDisk<System<F>> {
 
     /// The disk in a file that was opened to be read and written, as of `open`.
     ///
-    /// Refused where the system does not tell where the file ends.
+    /// # Errors
+    /// - The system does not give the file's end. The file is closed.
     pub fn over(file: F) -> io::Result<FileDisk<System<F>>>
         ensures failures { IfOk result (λ disk. disk.failures ≡ 0) }
         ensures blocks { IsSome (F.stream_position file) →
             IfOk result (λ disk. HasWholeBlocks (F.stream_bytes file) disk.size) }
     {
         let mut file = file;
-        // By where it ends, since the length that a device file tells is 0.
+        // By a seek to the end, because a device file gives 0 as its length.
         let end = file.seek(SeekFrom::End(0))?;
         Ok(FileDisk {
             file: System { file },
@@ -70,11 +73,11 @@ impl<F: FileExt + OpenFile + Seek + Drop> FileDisk<System<F>> {
 }
 
 impl<B: BlockFile + Drop> FileDisk<B> {
-    /// The disk in a file of any kind. It has as many blocks as there are whole 4096 bytes up to
-    /// the file's end, and is honest where the file keeps what it is told.
+    /// The disk in a file of any kind. Its size is the number of whole 4096 bytes up to the file's
+    /// end. It is honest if the file keeps what is written to it.
     ///
     /// # Errors
-    /// - The file does not tell where it ends. It is let go.
+    /// - The file does not give its end. It is closed.
     pub fn on(file: B) -> io::Result<FileDisk<B>>
         ensures failures { IfOk result (λ disk. disk.failures ≡ 0) }
         ensures told { IfOk result (λ disk. disk.told ≡ B.told file) }
@@ -89,8 +92,8 @@ impl<B: BlockFile + Drop> FileDisk<B> {
         })
     }
 
-    /// Gives the file up, with all that is pending on it. Where it keeps what it is told, a crash
-    /// leaves an image of the disk's past in it.
+    /// Gives the file up, with all that is pending on it. If the file keeps what is written to it,
+    /// a crash leaves an image of the disk's past in it.
     pub fn into_file(self) -> B
         ensures told { B.told result ≡ self.told }
         ensures crash { IsTrue self.told.keeps → (image : List Bytes) → B.leaves result image → IsImage (file_state self).past image }

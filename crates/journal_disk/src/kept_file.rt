@@ -1,4 +1,4 @@
-// A file that keeps what it is told.
+// A file that keeps what is written to it.
 ghost use Rattle.std.specs.Prelude.{◌≡◌, ℕ, ◌<◌, ◌/◌, true, IsTrue, IfOk};
 ghost use Rattle.journal_world.specs.Addresses.{zeros_of};
 ghost use Rattle.journal_disk.specs.Disks.{Past, read_of, IsSettled};
@@ -12,8 +12,8 @@ use std::alloc::Global;
 use std::io;
 use std::io::ErrorKind;
 
-/// A file of whole blocks in memory, which keeps what it is told. So the premise of [`BlockFile`]
-/// can be met, and a disk in such a file is honest.
+/// A file of whole blocks in memory, which keeps what is written to it. It shows that the premise
+/// of [`BlockFile`] can be met, and a disk in such a file is honest.
 #[derive(Drop)]
 pub struct KeptFile {
     blocks: MemDisk,
@@ -71,6 +71,9 @@ impl BlockFile for KeptFile {
 }
 
 /// A disk in such a file: honest, settled and all zeros.
+///
+/// # Errors
+/// - The memory for its blocks is refused. Nothing was made.
 pub fn kept_disk(alloc: Global, blocks: u64) -> io::Result<FileDisk<KeptFile>>
     ensures honest { IfOk result (λ disk. IsTrue (file_state disk).honest) }
     ensures size { IfOk result (λ disk. (file_state disk).past.size ≡ blocks) }

@@ -1,17 +1,17 @@
-//! Disks of blocks of 4096 bytes, what a crash may leave of them, a disk in memory to crash at
+//! Disks of blocks of 4096 bytes: what a crash may leave of them, a disk in memory to crash at
 //! will, and one in a file.
 //!
-//! What contracts know of a disk is its past: what its blocks held at first, and each write and
-//! barrier since. A block's writes since the last barrier are pending. A read gives the last of
-//! them, and where none is pending the stable block, which is what a read gave at that barrier. A
-//! crash leaves an image: of each block, on its own, the stable block or any of its pending writes.
-//! Since the past only grows, it also tells the images of every earlier moment, so a contract can
-//! speak of each moment of its own call. `specs/` has these words, and in `specs/Laws.antt` what
-//! follows from them for every disk.
+//! Contracts see a disk as its past: its blocks at first, and each write and barrier since. A
+//! block's writes since the last barrier are pending. A read gives the last of them. If none is
+//! pending it gives the stable block, that is what a read gave at that barrier. A crash leaves an
+//! image: of each block, on its own, the stable block or any of its pending writes. The past only
+//! grows, so it also gives the images of every earlier moment, and a contract can speak of each
+//! moment of its own call. `specs/` has these words, and `specs/Laws.antt` has what follows from
+//! them for every disk.
 //!
 //! [`BlockDisk`] is a disk as the layers above see it, [`MemDisk`] an honest one in memory, and
-//! [`FileDisk`] one in a file. It is honest where its [`BlockFile`] keeps what it is told, as
-//! [`KeptFile`] does. [`System`], a file of the system, states nothing of that.
+//! [`FileDisk`] one in a file. A disk in a file is honest if its [`BlockFile`] keeps what is
+//! written to it, as [`KeptFile`] does. [`System`], a file of the system, states nothing of that.
 #![tactic(auto)]
 
 mod block_disk;

@@ -16,7 +16,7 @@ use std::marker::Model;
 /// An honest disk in memory, which can be made to fail, and to crash to any of its images.
 ///
 /// A call that needs memory takes it from the allocator that the disk was made with. A device call
-/// for which memory is refused fails. No device call takes longer where the record is longer.
+/// fails where that memory is refused. No device call takes longer where the record is longer.
 /// `pending`, `image` and `crash` take time linear in the blocks and in the writes since the last
 /// barrier, and `crash` also drops the record.
 #[derive(Drop)]
@@ -24,7 +24,7 @@ pub struct MemDisk {
     alloc: Global,
     // The blocks as they read at first.
     first: Vec<Block>,
-    // What the device had of them then.
+    // The content that the device had of them then.
     device: Vec<Block>,
     events: Record,
     // Which device call from now on fails, or 0.
@@ -48,9 +48,10 @@ impl Model for MemDisk {
 }
 
 impl MemDisk {
-    /// A disk of so many blocks, all zeros.
+    /// A disk of `blocks` blocks, all zeros.
     ///
-    /// Answers J1 `NoMemory`, and nothing else, where memory for it is refused.
+    /// # Errors
+    /// - `J1 NoMemory`: the memory for it is refused. Nothing was made.
     pub fn new<C>(alloc: Global, blocks: u64) -> Result<MemDisk, Refusal<C>>
         ensures disk { IfOk result (λ disk. disk ≡ disk_from blocks (replicate blocks (zeros_of Kind.Block))) }
         ensures zeros { IfOk result (λ disk. (b : ℕ) → b < blocks → read_of disk.past b ≡ zeros_of Kind.Block) }
@@ -78,8 +79,8 @@ impl MemDisk {
         })
     }
 
-    /// Makes the `call`-th device call from now on fail, be it a read, a write or a barrier, and no
-    /// other, whatever an earlier `fail_in` said. At 0 none fails.
+    /// Makes the `call`-th device call from now on fail, be it a read, a write or a barrier. No
+    /// other call fails, whatever an earlier `fail_in` said. At 0 none fails.
     pub fn fail_in(&mut self, call: u64)
         ensures { self.new ≡ record self.old { fails_in = call } }
     {
@@ -88,7 +89,8 @@ impl MemDisk {
 
     /// Each block that has pending writes and their number, blocks ascending.
     ///
-    /// Answers J1 `NoMemory`, and nothing else, where memory for the list is refused.
+    /// # Errors
+    /// - `J1 NoMemory`: the memory for the list is refused. The disk is as it was.
     pub fn pending<C>(&self) -> Result<Vec<(u64, u64)>, Refusal<C>>
         ensures blocks { IfOk result (λ pending. pending.items ≡ pending_blocks self.now.past) }
         ensures refusal { IsOkUnless result Refusal.NoMemory }
@@ -111,10 +113,10 @@ impl MemDisk {
         into.copy_from(self.current(block));
     }
 
-    /// The disk that a crash leaves, with a record of its own. It takes no memory.
+    /// The disk that a crash leaves, with a record of its own. The call takes no memory.
     ///
     /// The j-th number of the choice is for the j-th block of `pending`: 0 leaves the stable block,
-    /// k its k-th pending write. A number that is missing is 0, and one that is too great means the
+    /// k its k-th pending write. A missing number counts as 0, and one that is too great means the
     /// last write.
     pub fn crash(self, choice: &[u32]) -> MemDisk
         ensures disk { result ≡ disk_from self.past.size (image_of self.past choice.now) }
@@ -141,8 +143,8 @@ impl MemDisk {
         }
     }
 
-    /// The disk that a barrier that fails leaves to who opens it next: it reads as before, the device
-    /// has the image that the choice names, and nothing is pending. It takes no memory.
+    /// The disk that a failed barrier leaves to the next opening: it reads as before, the device
+    /// has the image that the choice names, and nothing is pending. The call takes no memory.
     pub fn lose_writes(self, choice: &[u32]) -> MemDisk
         ensures loses { LosesWrites self.past result.past }
         ensures device { result.past.device ≡ image_of self.past choice.now }
@@ -170,7 +172,8 @@ impl MemDisk {
 
     /// A copy of the disk that a crash would leave now, by a choice as of `crash`.
     ///
-    /// Answers J1 `NoMemory`, and nothing else, where memory for it is refused.
+    /// # Errors
+    /// - `J1 NoMemory`: the memory for it is refused. The disk is as it was.
     pub fn image<C>(&self, choice: &[u32]) -> Result<MemDisk, Refusal<C>>
         ensures disk { IfOk result (λ disk.
             disk ≡ disk_from self.now.past.size (image_of self.now.past choice.now)) }
@@ -213,7 +216,7 @@ impl MemDisk {
         Ok(())
     }
 
-    // Counts a device call. Whether it is the one that is to fail.
+    // Counts a device call. True if it is the one that is to fail.
     fn count_call(&mut self) -> bool
         ensures fails { IsTrue result ↔ (self.old.fails_in ≡ 1) }
         ensures counted { self.new ≡ called self.old }
@@ -269,7 +272,7 @@ impl BlockDisk for MemDisk {
         ensures fails { self.old.fails_in ≡ 1 → IsErr result }
         ensures called { OnOk result (self.new ≡ with_event (write block from.now) (called self.old)) }
 
-        // The write of the call that is to fail is pending, unless memory is refused too.
+        // If the failing call is a write, its write is pending, unless memory is refused too.
         ensures failed { OnErr result ((self.new ≡ failed self.old)
             ⊎ (self.new ≡ with_event (write block from.now) (failed self.old))) }
         ensures refused { OnErr result (self.old.fails_in ≢ 1 → self.new ≡ failed self.old) }
@@ -356,7 +359,7 @@ fn copy_blocks(blocks: &mut Vec<Block>, from: &[Block])
     }
 }
 
-// A number of a choice, 0 where it is missing.
+// A number of a choice, or 0 where it is missing.
 fn number_at(choice: &[u32], at: usize) -> u64
     ensures { result ≡ slice_index_or choice.now at 0 }
 {

@@ -1,4 +1,4 @@
-// How what a failed barrier lost is written again.
+// How the writes that a failed barrier lost are written again.
 ghost use Rattle.std.specs.Prelude.{ℕ, ◌≡◌, ◌<◌, ◌≤◌, IsTrue, OnOk, OnErr, IfOk};
 ghost use Rattle.journal_disk.specs.Disks.{Past, write, barrier, read_of, IsKeptAt, past_after, MayHaveHappened, Keeps, HasFailed};
 ghost use Rattle.journal_disk.specs.Images.{IsRewritten};
@@ -6,8 +6,11 @@ ghost use Rattle.journal_disk.specs.Images.{IsRewritten};
 use crate::{BlockDisk, DiskFault};
 use journal_block::Block;
 
-/// Writes a block as it reads. No image is added, and reads give what they gave. What was lost of
-/// the block the next barrier makes stable.
+/// Writes a block as it reads. It adds no image, and reads give the same as before. The next
+/// barrier makes the block's lost writes stable.
+///
+/// # Errors
+/// - `DiskFault`: the device failed to read or write it. The write may be pending or not.
 pub fn rewrite<D: BlockDisk>(disk: &mut D, block: u64, scratch: &mut Block) -> Result<(), DiskFault>
     requires { block < (D.state disk.old).past.size }
     ensures keeps { Keeps (D.state disk.old) (D.state disk.new) }
@@ -21,6 +24,9 @@ pub fn rewrite<D: BlockDisk>(disk: &mut D, block: u64, scratch: &mut Block) -> R
 }
 
 /// Writes the first blocks of a disk as they read.
+///
+/// # Errors
+/// - `DiskFault`: the device failed. Some of the writes may be pending.
 pub fn rewrite_first<D: BlockDisk>(
     disk: &mut D,
     blocks: u64,

@@ -14,7 +14,10 @@ const COUNTER: Addr = Addr { block: 515, off: 0 };
 
 const INODE_BYTES: usize = 128;
 
-/// What the counter is.
+/// The value of the counter.
+///
+/// # Errors
+/// - The journal refuses. Nothing changed.
 pub fn look<'b, D: BlockDisk, J: Naming, W: Wait>(
     rt: &W,
     alloc: Global,
@@ -23,14 +26,17 @@ pub fn look<'b, D: BlockDisk, J: Naming, W: Wait>(
 ) -> Result<u64, JournalRefusal<'b, J, AnyMap>> {
     let mut txn = journal.begin(alloc, session);
     let found = read(rt, &mut txn);
-    // A transaction has to be ended: one that is let go does not compile.
+    // A transaction has to be ended. Code that drops one does not compile.
     txn.abort(rt);
     found
 }
 
 /// Adds 1 to the counter, in a transaction: no other thread's comes between its read and its
-/// overwrite. It stands in the history at the place that the receipt names, and no crash loses it
-/// then.
+/// overwrite. The receipt has its place in the history, and no crash loses it then.
+///
+/// # Errors
+/// - `Refused`: the journal refuses, and nothing was added.
+/// - `Unsure`: 1 was added, and a crash may lose it.
 pub fn add_one<'b, D: BlockDisk, J: Naming, W: Wait>(
     rt: &W,
     alloc: Global,
@@ -47,8 +53,8 @@ pub fn add_one<'b, D: BlockDisk, J: Naming, W: Wait>(
     }
 }
 
-// Takes the counter's slot, which the transaction holds to its end, and remembers what is to be
-// written.
+// Takes the counter's slot, which the transaction holds to its end, and remembers the value to
+// write.
 fn read_and_add<'j, 'b, D: BlockDisk, J: Naming, W: Wait>(
     rt: &W,
     txn: &mut Txn<'j, 'b, D, AnyMap, J>,
@@ -59,7 +65,7 @@ fn read_and_add<'j, 'b, D: BlockDisk, J: Naming, W: Wait>(
     txn.overwrite(rt, COUNTER, &inode)
 }
 
-// What the counter is to the transaction.
+// The value of the counter in the transaction.
 fn read<'j, 'b, D: BlockDisk, J: Naming, W: Wait>(
     rt: &W,
     txn: &mut Txn<'j, 'b, D, AnyMap, J>,

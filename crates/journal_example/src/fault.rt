@@ -5,7 +5,8 @@ use journal_program::OpenFault;
 use std::alloc::AllocError;
 use std::{fmt, io};
 
-/// Why the program ends before it has counted. A server tells by it what to do; this program ends.
+/// Why the program ends before it has counted. A server decides by it how to go on. This program
+/// ends.
 #[derive(Debug, Drop)]
 pub enum Fault {
     /// The disk was not opened.

@@ -5,18 +5,20 @@ use std::alloc::Global;
 use std::fs::{File, Files};
 use std::io::ErrorKind;
 
-// How many blocks a new disk has. The log takes 513 of them, the bits one, the inodes 16, and each
-// other is an object.
+// The number of blocks of a new disk. The log takes 513 of them, the bits one, the inodes 16, and
+// each other is an object.
 const BLOCKS: u64 = 600;
 
-/// Opens the disk in the file at a path, which is made where it is not there: a file of zeros is a
+/// Opens the disk in the file at a path. If there is no file it makes one: a file of zeros is a
 /// disk whose objects are all zero.
 ///
 /// No other program uses it as long as it is open: of two that write to one disk each would ruin
-/// what the other was told to be stable. Nothing is pending on it: what a program that was killed
-/// left with the system is made stable, and what one left whose sync failed is written again.
+/// commits that the other had answered as stable. Nothing is pending on it: writes that a killed
+/// program left with the system are made stable, and those of a failed sync are written again.
 ///
-/// Refused as `open_settled` refuses the file, and as the system refuses a new one.
+/// # Errors
+/// - The file is refused, as by `open_settled`. It is as it was.
+/// - The system refuses a new file.
 pub fn open_or_make<R: Files<File = File>>(
     rt: &R,
     alloc: Global,

@@ -15,14 +15,17 @@ use std::rt::Clock;
 use std::sync::Wait;
 use std::thread::{Threads, join};
 
-/// The journal refused. A server tells by the refusal what to do; this program ends.
+/// The journal refused. A server decides by the refusal how to go on. This program ends.
 #[derive(Clone, Copy, Debug)]
 pub struct Refused;
 
 type Counters<'b, J> = Journal<'b, SizedDisk, AnyMap, J>;
 
-/// Opens a journal over the disk, adds 1 so often in each of four threads, and gives the disk up.
-/// What the counter was before, and what it is then, all of it stable.
+/// Opens a journal over the disk, adds 1 `times` times in each of four threads, and gives the disk
+/// up. Answers the counter before, and the counter then, all of it stable.
+///
+/// # Errors
+/// - The journal refused, in the opening or in a thread. The disk is closed.
 pub fn count_in<R: Threads + Wait + Clock + Sync>(
     rt: &R,
     alloc: Global,
@@ -109,8 +112,8 @@ fn in_two<J: Naming + Send + Sync, R: Threads + Wait + Sync>(
     )
 }
 
-// Adds 1 so often in a session of this thread's. Each waits until no crash loses it; a program that
-// makes many commits by `Txn::commit` waits once for all of them, by `Journal::flush`.
+// Adds 1 `times` times in a session of this thread's. Each waits until no crash loses it. A program
+// that makes many commits by `Txn::commit` waits once for all of them, by `Journal::flush`.
 fn add_often<J: Naming, W: Wait>(rt: &W, alloc: Global, journal: &Counters<J>, times: u32) -> bool {
     match journal.session(rt) {
         Ok(mut session) => { (0..times).all(|_| add_one(rt, alloc, journal, &mut session).is_ok()) }
@@ -118,7 +121,7 @@ fn add_often<J: Naming, W: Wait>(rt: &W, alloc: Global, journal: &Counters<J>, t
     }
 }
 
-// What the counter is.
+// The value of the counter.
 fn found<J: Naming, W: Wait>(rt: &W, alloc: Global, journal: &Counters<J>) -> Result<u64, Refused> {
     let Ok(mut session) = journal.session(rt) else {
         return Err(Refused);

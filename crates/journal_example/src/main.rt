@@ -1,10 +1,10 @@
 //! A program over the journal: a counter in a file, to which four threads add, each in transactions
 //! of its own.
 //!
-//! It is what an author of a server starts from. A disk in a file, opened as each program opens it
-//! that writes to one (`file`); a journal over it, with the logger and the installer beside the threads that commit
-//! (`journal`); a session and transactions for each thread (`counter`). It prints what the counter
-//! was and what it is, and once more what it is after the disk was given up and opened again.
+//! An author of a server starts from it. A disk in a file, opened as each program opens it that
+//! writes to one (`file`); a journal over it, with the logger and the installer beside the threads
+//! that commit (`journal`); a session and transactions for each thread (`counter`). It prints the
+//! counter before and after, and once more after the disk was given up and opened again.
 #![tactic(auto)]
 
 mod counter;
@@ -41,8 +41,8 @@ fn run<R: Files<File = File> + Threads + Wait + Clock + Sync, O: Write>(
     Ok(())
 }
 
-/// Opens the disk, and adds 1 so often in each of four threads. What the counter was, and what it
-/// is.
+/// Opens the disk, and adds 1 `TIMES` times in each of four threads. Answers the counter before and
+/// after.
 fn count<R: Files<File = File> + Threads + Wait + Clock + Sync>(
     rt: &R,
     alloc: Global,
@@ -54,7 +54,7 @@ fn count<R: Files<File = File> + Threads + Wait + Clock + Sync>(
     Ok(counted)
 }
 
-/// Does that where the program was given one word, the path.
+/// Does that if the program was given one word, the path.
 fn start<R: Env + AllocGlobal + Files<File = File> + Threads + Wait + Clock + Sync, O: Write>(
     rt: &R,
     output: &mut O,

@@ -1,4 +1,4 @@
--- What becomes of a file, and of the numbers of its blocks.
+-- The change of a file, and of the numbers of its blocks.
 use Rattle.std.specs.Prelude.{ℕ, ◌≡◌, ◌<◌, ◌+◌, ◌-◌, true, List, ◌++◌, length, take, replicate, Option, Some, None}
 use Rattle.journal_world.specs.Addresses.{Shape}
 use Rattle.journal_world.specs.Maps.{Map}
@@ -18,8 +18,8 @@ use Rattle.journal_filestore.specs.Doing.{LearnsThat, Puts, Makes}
 abbrev pub extra_blocks_of : List ℕ → List ℕ → List ℕ
 extra_blocks_of kept fresh = kept ++ fresh ++ replicate (MORE_BLOCKS - (length kept + length fresh)) 0
 
--- the inode of a file with another size and time, so many of its further blocks, and new ones after
--- them
+-- the inode of a file with another size and time: it keeps this many of its further blocks, and
+-- gets new ones after them
 abbrev pub with_blocks : FileNode → ℕ → List ℕ → ℕ → Time → FileNode
 with_blocks f kept fresh size mtime = record f { size = size; more = extra_blocks_of (take kept f.more) fresh; mtime = mtime }
 
@@ -40,7 +40,7 @@ pub record HasChanged (version : FormatVersion) (layout : Shape) (old new : TxnS
   pub generation : g.generation ≡ f.generation
   pub makes : Makes version layout old new (λ m n. FileBecomes version m n i f (bytes m) mtime)
 
--- What becomes of a file that is to have this size, time and bytes
+-- The change of a file that gets this size, time and bytes
 abbrev pub ChangesFile : FormatVersion → Shape → TxnState → TxnState → ℕ → FileNode → ℕ → Time → (Map → List ℕ) → Option FileNode → Type 0
 ChangesFile version layout old new i f size mtime bytes None = LacksBlocks version layout old new f.size size
 ChangesFile version layout old new i f size mtime bytes (Some g) = HasChanged version layout old new i f size mtime bytes g

@@ -1,4 +1,4 @@
--- What a transaction learns of the files, and what it does to them.
+-- A transaction's knowledge of the files, and its effects on them.
 use Rattle.std.specs.Prelude.{ℕ, ◌≡◌, ◌≢◌, ◌<◌, ◌≤◌, ◌+◌, ◌-◌, false, List, [], ◌∷◌, ◌++◌, length, take, drop, AllPairs, Some, None, Result}
 use Rattle.std.specs.List.{AllByRecursion}
 use Rattle.journal_world.specs.declared.layout.TheConstants.{FIRST_DATA, BLOCK_BITS, BLOCK_BYTES}
@@ -23,8 +23,8 @@ use Rattle.journal_filestore.specs.Operations.{Outcome}
 abbrev pub GivesPairs : Map → List Pair → Type 0
 GivesPairs m ps = (a : Addr) (v : Value) → value_among ps a ≡ Some v → value_at m a ≡ v
 
--- A map that the transaction may have read: sound, on a disk of so many blocks, and with the values
--- that were read
+-- A map that the transaction may have read: sound, on a disk of this many blocks, and with the
+-- values that were read
 pub record MayBeRead (version : FormatVersion) (layout : Shape) (reads : List Pair) (m : Map) : Type 0 where
   pub on_disk : m.layout ≡ layout
   pub sound : HasSoundFiles version m
@@ -54,7 +54,7 @@ HasBit b = (FIRST_DATA ≤ b) × (b < FIRST_DATA + BLOCK_BITS)
 abbrev pub AreClear : Map → List ℕ → Type 0
 AreClear m bs = AllByRecursion (λ b. object m (bit (b - FIRST_DATA)) ≡ 0 ∷ []) bs
 
--- so many blocks, no two of which are one, each with a bit
+-- n different blocks, each with a bit
 pub record AreFresh (n : ℕ) (bs : List ℕ) : Type 0 where
   pub count : length bs ≡ n
   pub distinct : AllPairs ◌≢◌ bs

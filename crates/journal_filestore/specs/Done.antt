@@ -1,4 +1,4 @@
--- What an operation is in the history, and what is left where it has no answer.
+-- An operation in the history, and the state after one that has no answer.
 use Rattle.std.specs.Prelude.{ℕ, ◌≡◌, ◌≤◌, ◌+◌, Bool, true, false, IsTrue, List, [], ◌∷◌, ◌++◌, length, take, Some, slice_get, Result, Ok, Err, OnOk}
 use mathlib.Core.List.{IsPrefix}
 use Rattle.journal_world.specs.Addresses.{Shape}
@@ -20,7 +20,7 @@ use Rattle.journal_filestore.specs.declared.pending_wait.Committed.{Committed}
 use Rattle.journal_filestore.specs.declared.status.Status.{Status}
 use Rattle.journal_filestore.specs.Files.{Files, files_of}
 
--- The session has one more commit, which stands at this place in the history that it has then seen
+-- The session has one more commit, which is at this place in the history that it has then seen
 pub record IsMadeAt {A : Type 0} (version : FormatVersion) (case : Files → Result A Status → Files → Type 0) (old new : SessionState) (answer : Result A Status) (place : ℕ) : Type 0 where
   pub made : Transaction
   pub stands : slice_get new.seen place ≡ Some (commit made)
@@ -41,7 +41,7 @@ pub record IsDone {A : Type 0} (version : FormatVersion) (waits : Bool) (case : 
   pub made : IsMadeAt version case old new answer place
   -- the session has no other commits
   pub exact : IsExact new
-  -- what waits is marked as stable, with all commits before it, where it is answered Ok
+  -- an operation that waits is marked as stable, with all commits before it, if it is answered Ok
   pub stable : IsTrue waits → OnOk answer (count (take (place + 1) new.seen) ≤ floor new.seen)
 
 -- Refused, it was not done. In doubt, it was done with some answer that the case gives, and is not
@@ -50,7 +50,7 @@ abbrev pub IsOperationFault : {A : Type 0} → FormatVersion → Bool → (Files
 IsOperationFault version waits case old new (Refused why) = OnlyExtends old new
 IsOperationFault {A} version waits case old new (Unsure why) = IsTrue waits × ((answer : Result A Status) × (place : ℕ) × IsMadeAt version case old new answer place)
 
--- What an operation comes to
+-- The result of an operation
 abbrev pub IsAnswered : {A : Type 0} → FormatVersion → Bool → (Files → Result A Status → Files → Type 0) → SessionState → SessionState → Result (Result A Status) (Fault CauseState) → Type 0
 IsAnswered version waits case old new (Ok answer) = IsDone version waits case old new answer
 IsAnswered version waits case old new (Err fault) = IsOperationFault version waits case old new fault
@@ -61,13 +61,13 @@ pub record IsReceiptOf (history : List Entry) (index : ℕ) (receipt : CommitPla
   pub place : receipt.place ≡ index
   pub counted : receipt.count ≡ count (take (index + 1) history)
 
--- What is owed for an answer whose commit stands at this place: a success that waits is owed the
--- wait for its receipt, and else nothing is
+-- The pending wait of an answer whose commit is at this place: a success that waits has the wait
+-- for its receipt, and all else has none
 abbrev pub IsWaitOf : {A : Type 0} → Bool → Result A Status → List Entry → ℕ → PendingWait CommitPlace → Type 0
 IsWaitOf waits answer history place Nothing = IsTrue waits → OnOk answer ⊥
 IsWaitOf waits answer history place (Wait receipt) = IsTrue waits × IsReceiptOf history place receipt
 
--- The operation is committed, and answered. What waits is not waited for yet
+-- The operation is committed, and answered. Its wait is still pending
 pub record IsCommittedBy {A : Type 0} (version : FormatVersion) (waits : Bool) (case : Files → Result A Status → Files → Type 0) (old new : SessionState) (done : Committed A CommitPlace) : Type 0 where
   pub place : ℕ
   pub made : IsMadeAt version case old new done.answer place
@@ -75,7 +75,7 @@ pub record IsCommittedBy {A : Type 0} (version : FormatVersion) (waits : Bool) (
   pub exact : IsExact new
   pub wait : IsWaitOf waits done.answer new.seen place done.wait
 
--- What an operation comes to that is not waited for. Refused, it was not done
+-- The result of an operation that is not waited for. If it is refused, it was not done
 abbrev pub IsAnsweredNoWait : {A : Type 0} → FormatVersion → Bool → (Files → Result A Status → Files → Type 0) → SessionState → SessionState → Result (Committed A CommitPlace) (Refusal CauseState) → Type 0
 IsAnsweredNoWait version waits case old new (Ok done) = IsCommittedBy version waits case old new done
 IsAnsweredNoWait version waits case old new (Err why) = OnlyExtends old new
@@ -90,7 +90,7 @@ abbrev pub IsWait : PendingWait CommitPlace → Type 0
 IsWait Nothing = ⊥
 IsWait (Wait receipt) = Unit {0}
 
--- what is owed for a commit, where it waits or not
+-- the pending wait of a commit, by whether it waits
 abbrev pub pending_wait_for : {P : Type 0} → Bool → P → PendingWait P
 pending_wait_for true receipt = Wait receipt
 pending_wait_for false receipt = Nothing

@@ -9,12 +9,12 @@ use Rattle.journal_inode.specs.declared.place.TheConstants.{INODES}
 use Rattle.journal_inode.specs.Nodes.{no_time}
 use Rattle.journal_inode.specs.Sound.{node_at, content}
 
--- what a file is: its bytes, and when they were last changed
+-- a file: its bytes, and the time of their last change
 pub record FileData : Type 0 where
   pub bytes : List ℕ
   pub mtime : Time
 
--- what a number has: the generation of its last file, and that file if it is there
+-- the entry of a number: the generation of its last file, and that file if it is there
 pub record FileEntry : Type 0 where
   pub generation : ℕ
   pub file : Option FileData
@@ -35,7 +35,7 @@ no_entry = record { generation = 0; file = None }
 abbrev pub with_entry : Files → ℕ → FileEntry → Files
 with_entry F i e = record { root = F.root; at = λ j. if j == i then e else F.at j }
 
--- what an inode of the map makes of its number
+-- the entry of an inode's number, by the inode and the map
 abbrev pub entry_of : FormatVersion → Map → Node → FileEntry
 entry_of version m (File f) = record { generation = f.generation; file = Some (record { bytes = content version m f; mtime = f.mtime }) }
 entry_of version m (Free generation) = record { generation = generation; file = None }

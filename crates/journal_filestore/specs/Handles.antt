@@ -1,4 +1,4 @@
--- What a handle names, on the disk and among the files.
+-- The target of a handle, on the disk and among the files.
 use Rattle.std.specs.Prelude.{ℕ, ◌≡◌, ◌≤◌, ◌==◌, ◌&&◌, Bool, true, false, Option, Some, None, if◌then◌else◌}
 use Rattle.journal_world.specs.declared.moment.Moment.{Moment}
 use Rattle.journal_world.specs.Maps.{Map}
@@ -28,7 +28,7 @@ time_of now = record { secs = now.secs; nanos = now.nanos }
 abbrev pub data_of : FormatVersion → Map → FileNode → FileData
 data_of version m f = record { bytes = content version m f; mtime = f.mtime }
 
--- what is asked for of a file that is created, and whether it may not be there yet
+-- the settings of a file that is created, and whether it must not be there yet
 abbrev pub asked : CreateMode → Option (Settings × Bool)
 asked (Unchecked s) = Some (s, false)
 asked (Guarded s) = Some (s, true)
@@ -38,7 +38,7 @@ asked Exclusive = None
 abbrev pub found_node : ℕ → FileNode → Time → Found
 found_node i f mtime = record { generation = f.generation; file = attributes_of_node i f; root = of_root mtime }
 
--- what an inode is to a handle of this number and generation
+-- the target of a handle of this number and generation, by the inode
 abbrev pub target_of : Node → ℕ → ℕ → Target
 target_of (Free g) i generation = Gone
 target_of (Root t) i generation = if i == 1 && generation == 1 then Directory t else Gone

@@ -22,7 +22,7 @@ use Rattle.journal_filestore.specs.declared.settings.Stability.{Stability}
 use Rattle.journal_filestore.specs.declared.settings.Stability.TheVariants.{Unstable, Stable}
 use Rattle.journal_filestore.specs.Files.{FileData, FileEntry, Files, is_file_number, with_entry}
 
--- What an operation comes to: its answer, and the files after it
+-- The result of an operation: its answer, and the files after it
 abbrev pub Outcome : Type 0 → Type 0
 Outcome A = Result A Status × Files
 
@@ -30,7 +30,7 @@ Outcome A = Result A Status × Files
 abbrev pub refused : {A : Type 0} → Status → Files → Outcome A
 refused status F = (Err status, F)
 
--- What a handle names: nothing any more, the root, or the file of a number
+-- The target of a handle: nothing any more, the root, or the file of a number
 pub data FileTarget : Type 0 where
   gone : FileTarget
   root : FileTarget
@@ -188,7 +188,7 @@ with_data block offset bs = take offset block ++ bs ++ drop (offset + length bs)
 abbrev pub placed : List ℕ → ℕ → List ℕ → List ℕ
 placed bytes offset bs = take offset (bytes ++ replicate offset 0) ++ bs ++ drop (offset + length bs) bytes
 
--- whether it waits until it is stable
+-- it waits until it is stable
 abbrev pub is_waiting : Stability → Bool
 is_waiting Unstable = false
 is_waiting Stable = true

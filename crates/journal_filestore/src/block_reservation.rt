@@ -6,7 +6,7 @@ use journal_alloc::Alloc;
 use std::alloc::{AllocError, Global};
 use std::sync::{Mutex, Wait};
 
-// What an attempt took of the free blocks, and what it frees once it is committed.
+// The free blocks that an attempt took, and those that it frees once it is committed.
 #[derive(Drop)]
 pub struct BlockReservation<'a> {
     free: &'a Mutex<Alloc>,
@@ -27,8 +27,8 @@ impl<'a> BlockReservation<'a> {
         }
     }
 
-    // Takes the lowest free numbers, so many or none, to be given back where the attempt comes to
-    // nothing. Memory for them comes first, so that none is lost for want of it.
+    // Takes the lowest `count` free numbers, or none. They are given back if the attempt is undone.
+    // Memory for them comes first, so that none is lost for want of it.
     pub(crate) fn take<W: Wait>(&mut self, rt: &W, count: usize) -> Result<bool, AllocError>
         requires { self.old.taken.items ≡ [] }
         ensures count { IfOk result (λ took. IsTrue took → length self.new.taken.items ≡ count) }
@@ -38,7 +38,7 @@ impl<'a> BlockReservation<'a> {
         Ok(self.free.lock(rt).take_many(count, &mut self.taken))
     }
 
-    // The attempt frees these numbers, to be given back once it is committed.
+    // The attempt frees these numbers. They are given back once it is committed.
     pub(crate) fn give_up(&mut self, numbers: &[u64]) -> Result<(), AllocError>
         ensures { self.new.taken ≡ self.old.taken }
     {
@@ -50,7 +50,7 @@ impl<'a> BlockReservation<'a> {
         give(rt, self.free, &self.freed);
     }
 
-    // It came to nothing.
+    // The attempt was undone.
     pub(crate) fn undone<W: Wait>(self, rt: &W) {
         give(rt, self.free, &self.taken);
     }

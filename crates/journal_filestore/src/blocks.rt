@@ -24,7 +24,7 @@ use journal_world::{BLOCK_BYTES, Refusal};
 use std::alloc::Global;
 use std::sync::Wait;
 
-// Reads data blocks: what they hold, one after another.
+// The content of data blocks, one after another.
 pub(crate) fn read_blocks<'j, 'b, D: BlockDisk, J: Naming, V: Version, W: Wait>(
     rt: &W,
     txn: &mut FileTxn<'j, 'b, D, J, V>,
@@ -50,7 +50,7 @@ pub(crate) fn read_blocks<'j, 'b, D: BlockDisk, J: Naming, V: Version, W: Wait>(
     Ok(bytes)
 }
 
-// Whether the bits of these blocks, which rise, are clear.
+// True if the bits of these blocks are clear. The numbers rise.
 fn are_clear<'j, 'b, D: BlockDisk, J: Naming, V: Version, W: Wait>(
     rt: &W,
     txn: &mut FileTxn<'j, 'b, D, J, V>,
@@ -117,7 +117,7 @@ pub(crate) fn write_bits<'j, 'b, D: BlockDisk, J: Naming, V: Version, W: Wait>(
     Ok(())
 }
 
-// Overwrites data blocks by bytes that lie one after another.
+// Overwrites data blocks by consecutive bytes.
 fn write_blocks<'j, 'b, D: BlockDisk, J: Naming, V: Version, W: Wait>(
     rt: &W,
     txn: &mut FileTxn<'j, 'b, D, J, V>,
@@ -136,8 +136,7 @@ fn write_blocks<'j, 'b, D: BlockDisk, J: Naming, V: Version, W: Wait>(
     Ok(())
 }
 
-// Overwrites a file's inode, the bits of its new blocks, and those of its blocks that get these
-// bytes.
+// Overwrites a file's inode, the bits of its new blocks, and the blocks that get these bytes.
 pub(crate) fn write_file<'j, 'b, D: BlockDisk, J: Naming, V: Version, W: Wait>(
     rt: &W,
     txn: &mut FileTxn<'j, 'b, D, J, V>,
@@ -158,7 +157,7 @@ pub(crate) fn write_file<'j, 'b, D: BlockDisk, J: Naming, V: Version, W: Wait>(
     write_node(rt, txn, number, &Node::File(file))
 }
 
-// Reads data blocks that come first of so many, of which the others are zeros.
+// The content of `count` blocks in a row: first these data blocks, then zeros.
 pub(crate) fn read_span<'j, 'b, D: BlockDisk, J: Naming, V: Version, W: Wait>(
     rt: &W,
     txn: &mut FileTxn<'j, 'b, D, J, V>,
@@ -184,8 +183,8 @@ pub(crate) fn read_span<'j, 'b, D: BlockDisk, J: Naming, V: Version, W: Wait>(
     Ok(bytes)
 }
 
-// The inode of a file with another size and time, so many of its further blocks, and new ones after
-// them.
+// The inode of a file with another size and time: it keeps some of its further blocks, and gets new
+// ones after them.
 pub(crate) fn with_blocks(
     file: FileNode,
     kept: usize,
@@ -206,7 +205,7 @@ pub(crate) fn with_blocks(
     }
 }
 
-// The numbers of further blocks that an inode has: these, and then new ones.
+// The further blocks of an inode: these numbers, and then the new ones.
 pub(crate) fn extra_blocks_of(kept: &[u64], fresh: &[u64]) -> [u64; MORE_BLOCKS]
     requires { length kept.now + length fresh.now ≤ MORE_BLOCKS }
     ensures numbers { result ≡ extra_blocks_of kept.now fresh.now }

@@ -51,11 +51,16 @@ impl<J: Naming, V: Version> Operation<J, V> for Commit {
 
 impl<'b, D: BlockDisk, J: Naming, V: Version> FileStore<'b, D, J, V> {
     /// COMMIT (RFC 1813, 3.3.21): the attributes of a file, once all that the session had seen is
-    /// stable, with all that was written before. Its own transaction changes nothing, and waits
-    /// until it is stable: a mark of it is a mark of all commits before it.
+    /// stable, with all writes before. Its own transaction changes nothing, and waits until it is
+    /// stable: a mark of it is a mark of all commits before it.
     ///
-    /// The first that holds is answered: `Stale` where the handle's file was removed, `Invalid` on
-    /// the root.
+    /// # Errors
+    /// - `Refused`: the journal refused its transaction. It has no commit, and changed nothing.
+    /// - `Unsure`: it is committed, and the wait until it is stable was refused.
+    ///
+    /// The other answers are committed too. The first that holds:
+    /// - `Stale`: the handle's file was removed.
+    /// - `Invalid`: the handle is the root's.
     pub fn commit<W: Wait>(
         &self,
         rt: &W,
@@ -68,9 +73,12 @@ impl<'b, D: BlockDisk, J: Naming, V: Version> FileStore<'b, D, J, V> {
         self.run(rt, session, &Commit { handle })
     }
 
-    /// COMMIT up to its commit: as `commit` does it, and answered before it is stable. Where that
-    /// waits, what is pending is the wait for its receipt, by `Journal::wait_stable`: the answer
-    /// stands in the history, and a crash before may lose it.
+    /// COMMIT up to its commit: as `commit` does it, and answered before it is stable. If `commit`
+    /// would wait, the wait for its receipt is pending (`Journal::wait_stable`): the history has
+    /// the answer, and a crash before the mark may lose it.
+    ///
+    /// # Errors
+    /// Those of `commit`, but for `Unsure`.
     pub fn commit_no_wait<W: Wait>(
         &self,
         rt: &W,

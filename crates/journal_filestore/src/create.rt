@@ -78,7 +78,7 @@ impl<'a, J: Naming, V: Version> Operation<J, V> for Create<'a> {
     }
 }
 
-// What is asked for, and whether the file may not be there yet.
+// The settings of the file, and whether it must not be there yet.
 fn asked(how: CreateMode) -> Option<(Settings, bool)>
     ensures { result ≡ asked how }
 {
@@ -90,7 +90,7 @@ fn asked(how: CreateMode) -> Option<(Settings, bool)>
 }
 
 impl<'a> Create<'a> {
-    // The file is there, and is set, where it may be there.
+    // Sets the file that is there, if it may be there.
     fn set<'j, 'b, D: BlockDisk, J: Naming, V: Version, W: Wait>(
         &self,
         rt: &W,
@@ -126,7 +126,7 @@ impl<'a> Create<'a> {
         }
     }
 
-    // The number is free, and gets a file, in blocks that are free.
+    // The number is free, and gets a file, in free blocks.
     fn make<'j, 'b, D: BlockDisk, J: Naming, V: Version, W: Wait>(
         &self,
         rt: &W,
@@ -184,16 +184,23 @@ fn found(number: u32, file: FileNode, root: Time) -> Found
 
 impl<'b, D: BlockDisk, J: Naming, V: Version> FileStore<'b, D, J, V> {
     /// CREATE (RFC 1813, 3.3.8): makes a file of a name in the root, of the size given or none and
-    /// all zeros, with a generation that no file of its number had; or sets the file, where it is
-    /// there and `how` allows it. It waits until it is stable.
+    /// all zeros, with a generation that no file of its number had. If the file is there and `how`
+    /// allows it, sets the file instead. It waits until it is stable.
     ///
-    /// The first that holds is answered: `Stale` where the handle's file was removed;
-    /// `NotDirectory` where it is a file's; `NotSupported` for `Exclusive`; `Invalid` where the
-    /// name is not `f` and three digits, from `f002` to `f511`, or a time is given that is none;
-    /// `Exists` where the file is there and `how` is `Guarded`; `TooBig` where the size is above
-    /// what a file of the version has; `NoSpace` where its blocks are not handed out, or the
-    /// number's generation is at its greatest. Blocks that calls at work hold are not handed out,
-    /// so `NoSpace` may come while one is free.
+    /// # Errors
+    /// - `Refused`: the journal refused its transaction. It has no commit, and changed nothing.
+    /// - `Unsure`: it is committed, and the wait until it is stable was refused.
+    ///
+    /// The other answers are committed too, and leave the files as they were. The first that holds:
+    /// - `Stale`: the handle's file was removed.
+    /// - `NotDirectory`: the handle is a file's.
+    /// - `NotSupported`: `how` is `Exclusive`.
+    /// - `Invalid`: the name is not `f` and three digits, from `f002` to `f511`, or the given time
+    ///   is none.
+    /// - `Exists`: the file is there and `how` is `Guarded`.
+    /// - `TooBig`: the size is above that of any file of the version.
+    /// - `NoSpace`: too few blocks are free, or the number's generation is at its greatest. Calls
+    ///   at work hold blocks, so this may come while a block is free.
     pub fn create<W: Wait>(
         &self,
         rt: &W,
@@ -215,9 +222,12 @@ impl<'b, D: BlockDisk, J: Naming, V: Version> FileStore<'b, D, J, V> {
         self.run(rt, session, &create)
     }
 
-    /// CREATE up to its commit: as `create` does it, and answered before it is stable. Where that
-    /// waits, what is pending is the wait for its receipt, by `Journal::wait_stable`: the answer
-    /// stands in the history, and a crash before may lose it.
+    /// CREATE up to its commit: as `create` does it, and answered before it is stable. If `create`
+    /// would wait, the wait for its receipt is pending (`Journal::wait_stable`): the history has
+    /// the answer, and a crash before the mark may lose it.
+    ///
+    /// # Errors
+    /// Those of `create`, but for `Unsure`.
     pub fn create_no_wait<W: Wait>(
         &self,
         rt: &W,

@@ -1,4 +1,4 @@
-// What a handle names.
+// The target of a handle.
 ghost use Rattle.std.specs.Prelude.{◌≡◌, [], IfOk, IfErr, OnOk};
 ghost use Rattle.journal_inode.specs.Places.{HasFiles};
 ghost use Rattle.journal_inode.specs.Places.Object.{inode};
@@ -15,10 +15,10 @@ use journal_history::Naming;
 use journal_inode::{FileNode, Node, Time, Version};
 use std::sync::Wait;
 
-// What a handle names.
+// The target of a handle.
 #[derive(Clone, Copy, Debug, PartialEq, Eq)]
 pub enum Target {
-    // Nothing any more.
+    // Nothing: its file was removed.
     Gone,
     // The root.
     Directory(Time),
@@ -26,7 +26,7 @@ pub enum Target {
     Regular(FileNode),
 }
 
-// Finds what a handle names, as a transaction's first step.
+// Finds the target of a handle, as a transaction's first step.
 pub(crate) fn find<'j, 'b, D: BlockDisk, J: Naming, V: Version, W: Wait>(
     rt: &W,
     txn: &mut FileTxn<'j, 'b, D, J, V>,

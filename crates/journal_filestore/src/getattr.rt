@@ -18,7 +18,7 @@ use journal_history::{Naming, Session};
 use journal_inode::{SoundFiles, Version};
 use std::sync::Wait;
 
-// The attributes of what a handle names.
+// The attributes of a handle's target.
 #[derive(Drop)]
 pub(crate) struct GetAttr {
     handle: Handle,
@@ -50,9 +50,14 @@ impl<J: Naming, V: Version> Operation<J, V> for GetAttr {
 }
 
 impl<'b, D: BlockDisk, J: Naming, V: Version> FileStore<'b, D, J, V> {
-    /// GETATTR (RFC 1813, 3.3.1): the attributes of a file or of the root.
+    /// GETATTR (RFC 1813, 3.3.1): the attributes of a file or of the root. It does not wait until
+    /// it is stable.
     ///
-    /// Answers `Stale` where the handle's file was removed. It does not wait until it is stable.
+    /// # Errors
+    /// - `Refused`: the journal refused its transaction. It has no commit, and changed nothing.
+    ///
+    /// The other answer is committed too:
+    /// - `Stale`: the handle's file was removed.
     pub fn getattr<W: Wait>(
         &self,
         rt: &W,

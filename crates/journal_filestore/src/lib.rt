@@ -2,18 +2,18 @@
 //!
 //! A file store is a journal under the rule of sound files, and the numbers of the blocks that no
 //! file has. Each operation is one transaction: it reads the inodes that it needs, answers the
-//! first case that holds, and overwrites what changes. Its answer and what it makes of the files
-//! are those of that case, between the map before its commit and the map after it, whatever other
+//! first case that holds, and overwrites what changes. That case determines its answer and its
+//! change of the files, between the map before its commit and the map after it, whatever other
 //! threads commit meanwhile.
 //!
-//! An attempt that finds a slot held is given up, and made again once that slot is free. Blocks are
-//! handed out by `journal_alloc`, under a lock of its own; a block that an attempt took and did not
-//! use comes back, and a block that a commit freed is handed out again after it. No proof rests on
-//! these numbers: a file takes a block only where the block's bit, read in the same transaction, is
+//! If an attempt finds a slot held, it is undone, and made again once that slot is free.
+//! `journal_alloc` hands out blocks, under a lock of its own. A block that an attempt took and did
+//! not use comes back, and a block that a commit freed is handed out again after it. No proof rests
+//! on these numbers: a file takes a block only if the block's bit, read in the same transaction, is
 //! clear.
 //!
-//! `specs/Files.antt` says what the files of a map are, `specs/Operations.antt` has the cases of
-//! each operation, and `specs/Done.antt` what an operation is in the history.
+//! `specs/Files.antt` defines the files of a map, `specs/Operations.antt` has the cases of each
+//! operation, and `specs/Done.antt` says how the history has an operation.
 #![tactic(auto)]
 
 mod block_reservation;

@@ -64,11 +64,16 @@ impl<'a, J: Naming, V: Version> Operation<J, V> for Lookup<'a> {
 }
 
 impl<'b, D: BlockDisk, J: Naming, V: Version> FileStore<'b, D, J, V> {
-    /// LOOKUP (RFC 1813, 3.3.3): the file of a name in the root.
+    /// LOOKUP (RFC 1813, 3.3.3): the file of a name in the root. It does not wait until it is
+    /// stable.
     ///
-    /// The first that holds is answered: `Stale` where the handle's file was removed,
-    /// `NotDirectory` where it is a file's, `NoEntry` where there is no file of the name. It does
-    /// not wait until it is stable.
+    /// # Errors
+    /// - `Refused`: the journal refused its transaction. It has no commit, and changed nothing.
+    ///
+    /// The other answers are committed too. The first that holds:
+    /// - `Stale`: the handle's file was removed.
+    /// - `NotDirectory`: the handle is a file's.
+    /// - `NoEntry`: there is no file of the name.
     pub fn lookup<W: Wait>(
         &self,
         rt: &W,

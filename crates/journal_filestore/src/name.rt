@@ -25,7 +25,7 @@ pub(crate) fn number_of(name: &[u8]) -> Option<u32>
     Some(number)
 }
 
-// The number that a digit stands for.
+// The number of a digit.
 fn digit(byte: u8) -> u32
     requires low { 48 ≤ byte }
     requires high { byte ≤ 57 }

@@ -83,7 +83,7 @@ pub(crate) fn read_node<'j, 'b, D: BlockDisk, J: Naming, V: Version, W: Wait>(
     Ok(node)
 }
 
-// Whether a file has no more bytes than its inode has blocks for.
+// True if a file has no more bytes than its inode has blocks for.
 fn is_small(version: FormatVersion, node: Node) -> bool
     ensures { IsTrue result ↔ IsSmall version node }
 {
@@ -114,7 +114,7 @@ pub(crate) fn read_block<'j, 'b, D: BlockDisk, J: Naming, V: Version, W: Wait>(
     read(rt, txn, block_addr(number))
 }
 
-// Reads the bit of a data block: whether it is set.
+// True if the bit of a data block is set.
 pub(crate) fn read_bit<'j, 'b, D: BlockDisk, J: Naming, V: Version, W: Wait>(
     rt: &W,
     txn: &mut FileTxn<'j, 'b, D, J, V>,
@@ -202,14 +202,14 @@ pub(crate) fn write_bit<'j, 'b, D: BlockDisk, J: Naming, V: Version, W: Wait>(
     overwrite(rt, txn, bit_addr(number), &[u8::from(is_set)])
 }
 
-// Whether a bit of the bitmap may belong to the block.
+// True if the block may have a bit in the bitmap.
 fn has_bit(number: u64) -> bool
     ensures { IsTrue result ↔ HasBit number }
 {
     FIRST_DATA <= number && number < FIRST_DATA + u64::from(BLOCK_BITS)
 }
 
-// Whether a bit's value is 1.
+// True if a bit's value is 1.
 fn is_one(bytes: &[u8]) -> bool
     requires { IsTrue (is_value_of Bit bytes.now) }
     ensures { bytes.now ≡ (if result then 1 else 0) ∷ [] }

@@ -1,4 +1,4 @@
-// An operation on files, as one transaction, and why an attempt at it is given up.
+// An operation on files, as one transaction, and why an attempt at it is undone.
 ghost use Rattle.std.specs.Prelude.{◌≡◌, [], Bool, IfOk, IfErr, Result};
 ghost use Rattle.journal_inode.specs.Places.{HasFiles};
 ghost use Rattle.journal_filestore.specs.declared.status.Status.{Status};
@@ -16,20 +16,20 @@ use journal_world::{Addr, Refusal};
 use std::alloc::AllocError;
 use std::sync::Wait;
 
-// Why an attempt is given up.
+// Why an attempt is undone.
 #[derive(Debug, Drop)]
 pub enum AttemptFault<C> {
-    // Another holds the slot of this address, below one that the attempt holds.
+    // Another transaction holds the slot of this address, below one that the attempt holds.
     Held(Addr),
     // The journal refuses.
     Refused(Refusal<C>),
 }
 
-// Why an attempt at an operation on files is given up.
+// Why an attempt at an operation on files is undone.
 pub(crate) type AttemptEnd<'b, J, V> = AttemptFault<Cause<'b, J, SoundFiles<V>>>;
 
 impl<C> AttemptFault<C> {
-    // What a call that asked for the address was refused by.
+    // The reason of a call that asked for the address.
     pub(crate) fn at(addr: Addr, refusal: Refusal<C>) -> AttemptFault<C>
         ensures { result ≡ fault_at addr refusal }
     {
@@ -51,21 +51,21 @@ impl<C> From<AllocError> for AttemptFault<C> {
     }
 }
 
-// An operation: what one attempt at it reads and overwrites, and which case it then answers.
+// An operation: the reads and overwrites of one attempt at it, and the case that it then answers.
 pub(crate) trait Operation<J: Naming, V: Version> {
     type Reply: Drop;
 
     // The answer fits the files before and after.
     ghost case: { Self → Files → Result Self.Reply Status → Files → Type 0 };
 
-    // Whether it waits, where it is answered Ok, until it is stable.
+    // True if it waits, after an Ok, until it is stable.
     ghost is_waiting: { Self → Bool };
 
     fn waits(&self) -> bool
         ensures { result ≡ is_waiting self.now };
 
-    // One attempt. Its transaction, which has done nothing yet, is then to be committed, or where
-    // the attempt is given up to be aborted.
+    // One attempt. Its transaction, which has done nothing yet, is then committed, or aborted if
+    // the attempt is undone.
     fn attempt<'j, 'b, D: BlockDisk, W: Wait>(
         &self,
         rt: &W,

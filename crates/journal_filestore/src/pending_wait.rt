@@ -17,13 +17,13 @@ pub enum PendingWait<P> {
 /// An operation that is committed: its answer, and the wait before it.
 #[derive(Drop)]
 pub struct Committed<A, P> {
-    /// What it answers.
+    /// Its answer.
     pub answer: Answer<A>,
     /// The wait before the answer may be sent.
     pub wait: PendingWait<P>,
 }
 
-/// What an operation comes to that is not waited for: committed, or refused by the journal, without
+/// The result of an operation that is not waited for: committed, or refused by the journal, without
 /// a commit.
 pub type CommitResult<'b, J, A, V = VersionOne> = Result<
     Committed<A, Receipt<'b, J, SoundFiles<V>>>,

@@ -1,12 +1,12 @@
-// What READ answers.
+// The answer of READ.
 ghost use Rattle.std.specs.Prelude.{◌≡◌, ◌≤◌, ◌-◌, length, slice_range};
 ghost use Rattle.journal_filestore.specs.declared.read.TheConstants.{READ_BYTES};
 
 use crate::Attributes;
 use std::marker::Model;
 
-/// A portion of a file, with the file's attributes. It holds blocks of the file, and lends what was
-/// asked for.
+/// A portion of a file, with the file's attributes. It holds blocks of the file, and lends the
+/// bytes that were asked for.
 #[derive(Debug, Drop)]
 pub struct Portion {
     file: Attributes,
@@ -66,7 +66,7 @@ impl Portion {
         &self.blocks[self.from..self.to]
     }
 
-    /// Whether they reach the file's end.
+    /// True if they reach the file's end.
     pub fn is_end(&self) -> bool
         ensures { result ≡ self.now.is_end }
     {

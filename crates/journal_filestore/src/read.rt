@@ -73,8 +73,8 @@ impl<J: Naming, V: Version> Operation<J, V> for Read {
     }
 }
 
-// How many bytes are read: what lies from the offset to the file's end, and no more than were asked
-// for, or than one call reads.
+// The number of bytes that are read: those from the offset to the file's end, at most as many as
+// were asked for, and at most as many as one call reads.
 fn length_read(version: FormatVersion, size: u64, offset: u64, count: u32) -> u64
     requires small { size ≤ most_bytes version }
     ensures value { result ≡ portion_length version count (size - offset) }
@@ -88,10 +88,15 @@ fn length_read(version: FormatVersion, size: u64, offset: u64, count: u32) -> u6
 
 impl<'b, D: BlockDisk, J: Naming, V: Version> FileStore<'b, D, J, V> {
     /// READ (RFC 1813, 3.3.6): the bytes of a file from an offset on, `count` of them or as many as
-    /// there are, at most `READ_BYTES`, and whether they reach its end. It changes no time.
+    /// there are, at most `READ_BYTES`, and whether they reach its end. It changes no time, and
+    /// does not wait until it is stable.
     ///
-    /// The first that holds is answered: `Stale` where the handle's file was removed, `Invalid` on
-    /// the root. It does not wait until it is stable.
+    /// # Errors
+    /// - `Refused`: the journal refused its transaction. It has no commit, and changed nothing.
+    ///
+    /// The other answers are committed too. The first that holds:
+    /// - `Stale`: the handle's file was removed.
+    /// - `Invalid`: the handle is the root's.
     pub fn read<W: Wait>(
         &self,
         rt: &W,

@@ -70,8 +70,14 @@ impl<'b, D: BlockDisk, J: Naming, V: Version> FileStore<'b, D, J, V> {
     /// answered. The number keeps its generation, so that no handle of the file names a later one.
     /// It waits until it is stable.
     ///
-    /// The first that holds is answered: `Stale` where the handle's file was removed,
-    /// `NotDirectory` where it is a file's, `NoEntry` where there is no file of the name.
+    /// # Errors
+    /// - `Refused`: the journal refused its transaction. It has no commit, and changed nothing.
+    /// - `Unsure`: it is committed, and the wait until it is stable was refused.
+    ///
+    /// The other answers are committed too, and leave the files as they were. The first that holds:
+    /// - `Stale`: the handle's file was removed.
+    /// - `NotDirectory`: the handle is a file's.
+    /// - `NoEntry`: there is no file of the name.
     pub fn remove<W: Wait>(
         &self,
         rt: &W,
@@ -85,9 +91,12 @@ impl<'b, D: BlockDisk, J: Naming, V: Version> FileStore<'b, D, J, V> {
         self.run(rt, session, &Remove { directory, name })
     }
 
-    /// REMOVE up to its commit: as `remove` does it, and answered before it is stable. Where that
-    /// waits, what is pending is the wait for its receipt, by `Journal::wait_stable`: the answer
-    /// stands in the history, and a crash before may lose it.
+    /// REMOVE up to its commit: as `remove` does it, and answered before it is stable. If `remove`
+    /// would wait, the wait for its receipt is pending (`Journal::wait_stable`): the history has
+    /// the answer, and a crash before the mark may lose it.
+    ///
+    /// # Errors
+    /// Those of `remove`, but for `Unsure`.
     pub fn remove_no_wait<W: Wait>(
         &self,
         rt: &W,

@@ -1,4 +1,4 @@
-// What operations answer.
+// The answers of operations.
 ghost use Rattle.std.specs.Prelude.{◌≡◌};
 ghost use Rattle.journal_filestore.specs.Operations.{attributes_of_node};
 
@@ -9,9 +9,9 @@ use journal_inode::{FileNode, Time};
 pub struct Attributes {
     /// The inode's number. The root's is 1.
     pub number: u32,
-    /// How many bytes the file has. The root has 0.
+    /// The number of bytes of the file. The root has 0.
     pub size: u64,
-    /// When the file was last changed, or the root made.
+    /// The time of the file's last change, or of the root's making.
     pub mtime: Time,
 }
 

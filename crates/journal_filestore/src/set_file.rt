@@ -1,4 +1,4 @@
-// What is asked for of a file is set, as SETATTR and CREATE do.
+// How SETATTR and CREATE set a file.
 ghost use Rattle.std.specs.Prelude.{◌≡◌, ◌<◌, ◌≤◌, ◌-◌, [], ◌++◌, unwrap_or, false, take, length, replicate, IfOk, IfErr};
 ghost use Rattle.journal_inode.specs.Places.{HasFiles};
 ghost use Rattle.journal_inode.specs.declared.node.Node.TheVariants.{File};
@@ -25,8 +25,7 @@ use journal_inode::{FileNode, FormatVersion, Time, Version};
 use journal_world::{BLOCK_BYTES, MAX_NANOS, Moment};
 use std::sync::Wait;
 
-// Sets what is asked for of the file that stands at the number; `None` where it needs more blocks
-// than are handed out.
+// Applies the settings to the file of this number. `None` if it needs more blocks than are free.
 pub(crate) fn set_file<'j, 'b, D: BlockDisk, J: Naming, V: Version, W: Wait>(
     rt: &W,
     txn: &mut FileTxn<'j, 'b, D, J, V>,
@@ -57,7 +56,7 @@ pub(crate) fn set_file<'j, 'b, D: BlockDisk, J: Naming, V: Version, W: Wait>(
     }
     grow(rt, txn, space, number, file, size, mtime)
 }
-// Cuts a file off, which frees the blocks after its end.
+// Cuts a file off, and frees the blocks after its end.
 fn shrink<'j, 'b, D: BlockDisk, J: Naming, V: Version, W: Wait>(
     rt: &W,
     txn: &mut FileTxn<'j, 'b, D, J, V>,
@@ -91,8 +90,8 @@ fn shrink<'j, 'b, D: BlockDisk, J: Naming, V: Version, W: Wait>(
     Ok(after)
 }
 
-// Gives a file zeros after its bytes, as many as there may be none, and the blocks for them; `None`
-// where they are not handed out.
+// Gives a file zeros after its bytes, perhaps none, and the blocks for them. `None` if too few
+// blocks are free.
 fn grow<'j, 'b, D: BlockDisk, J: Naming, V: Version, W: Wait>(
     rt: &W,
     txn: &mut FileTxn<'j, 'b, D, J, V>,
@@ -126,7 +125,7 @@ fn grow<'j, 'b, D: BlockDisk, J: Naming, V: Version, W: Wait>(
     Ok(Some(after))
 }
 
-// The time that a file has then.
+// The time that the file then has.
 pub(crate) fn time_after(settings: Settings, now: Moment, mtime: Time) -> Time
     ensures value { result ≡ time_after settings.size settings.mtime (time_of now) mtime }
     ensures fits { IsTime result }
@@ -146,7 +145,7 @@ fn cut_off(block: &mut Vec<u8>, size: usize)
     block[size..].fill(0);
 }
 
-// Whether a time is given that is none.
+// True if the given time is none.
 pub(crate) fn is_no_time(mtime: NewTime) -> bool
     ensures { result ≡ is_no_time mtime }
 {
@@ -156,7 +155,7 @@ pub(crate) fn is_no_time(mtime: NewTime) -> bool
     }
 }
 
-// Whether a size is given that no file of this version has.
+// True if the given size is above that of any file of this version.
 pub(crate) fn is_too_big(version: FormatVersion, size: Option<u64>) -> bool
     ensures { result ≡ is_too_big version size }
 {

@@ -20,7 +20,7 @@ use journal_inode::{SoundFiles, Time, Version};
 use journal_world::Moment;
 use std::sync::Wait;
 
-// What is set of a file.
+// The settings of a file.
 #[derive(Drop)]
 pub(crate) struct SetSize {
     handle: Handle,
@@ -93,7 +93,7 @@ impl SetSize {
     }
 }
 
-// Whether the guard says another time.
+// True if the guard has another time.
 fn is_other_time(guard: Option<Time>, mtime: Time) -> bool
     ensures { result ≡ is_other_time guard mtime }
 {
@@ -106,13 +106,20 @@ fn is_other_time(guard: Option<Time>, mtime: Time) -> bool
 impl<'b, D: BlockDisk, J: Naming, V: Version> FileStore<'b, D, J, V> {
     /// SETATTR (RFC 1813, 3.3.2): sets the size of a file, its time, or both. Bytes past a smaller
     /// size become zero, and a greater one shows zeros. The time becomes the one given, or the
-    /// moment where it is asked for or where a size is given alone. It waits until it is stable.
+    /// moment of the call if that is asked for or if a size is given alone. It waits until it is
+    /// stable. The root's attributes never change.
     ///
-    /// The first that holds is answered: `Stale` where the handle's file was removed; on the root
-    /// `Invalid` where a size is given; `NotSync` where a guard is given and is not the file's
-    /// time; `Invalid` where a time is given that is none; `TooBig` where the size is above what a
-    /// file of the version has; `NoSpace` where it needs more blocks than are handed out. The
-    /// root's attributes never change.
+    /// # Errors
+    /// - `Refused`: the journal refused its transaction. It has no commit, and changed nothing.
+    /// - `Unsure`: it is committed, and the wait until it is stable was refused.
+    ///
+    /// The other answers are committed too, and leave the files as they were. The first that holds:
+    /// - `Stale`: the handle's file was removed.
+    /// - `Invalid`: a size is given, and the handle is the root's.
+    /// - `NotSync`: a guard is given and is not the file's time.
+    /// - `Invalid`: the given time is none.
+    /// - `TooBig`: the size is above that of any file of the version.
+    /// - `NoSpace`: it needs more blocks than are free.
     pub fn set_size<W: Wait>(
         &self,
         rt: &W,
@@ -134,9 +141,12 @@ impl<'b, D: BlockDisk, J: Naming, V: Version> FileStore<'b, D, J, V> {
         self.run(rt, session, &set)
     }
 
-    /// SETATTR up to its commit: as `set_size` does it, and answered before it is stable. Where
-    /// that waits, what is pending is the wait for its receipt, by `Journal::wait_stable`: the
-    /// answer stands in the history, and a crash before may lose it.
+    /// SETATTR up to its commit: as `set_size` does it, and answered before it is stable. If
+    /// `set_size` would wait, the wait for its receipt is pending (`Journal::wait_stable`): the
+    /// history has the answer, and a crash before the mark may lose it.
+    ///
+    /// # Errors
+    /// Those of `set_size`, but for `Unsure`.
     pub fn set_size_no_wait<W: Wait>(
         &self,
         rt: &W,

@@ -1,18 +1,18 @@
-// What is set of a file.
+// The settings of a file.
 use journal_inode::Time;
 
-/// What becomes of a file's time.
+/// The new time of a file.
 #[derive(Clone, Copy, Debug, PartialEq, Eq)]
 pub enum NewTime {
-    /// It is not asked for: the time stays, or is the moment of the call where a size is given.
+    /// It is not asked for: the time stays, or is the moment of the call if a size is given.
     Leave,
     /// The moment of the call.
     Server,
-    /// This time. Where its nanoseconds are a full second or more, the operation is refused.
+    /// This time. If its nanoseconds are a full second or more, the operation is refused.
     Client(Time),
 }
 
-/// What is set of a file.
+/// The settings of a file.
 #[derive(Clone, Copy, Debug, PartialEq, Eq)]
 pub struct Settings {
     /// Its size in bytes. Bytes past it become zero.
@@ -32,7 +32,7 @@ pub enum CreateMode {
     Exclusive,
 }
 
-/// Whether what is written waits until it is stable.
+/// The stability that a write waits for.
 #[derive(Clone, Copy, Debug, PartialEq, Eq)]
 pub enum Stability {
     /// It does not: a crash may take it back, until a COMMIT is answered.

@@ -1,6 +1,6 @@
-// How an operation is answered that is no success.
+// The answers of operations that are no success.
 
-/// How an operation is answered that is no success: a case of the file service, which leaves the
+/// The answer of an operation that is no success: a case of the file service, which leaves the
 /// files as they were. It is an answer like any other, and the operation's transaction is
 /// committed.
 #[derive(Clone, Copy, Debug, PartialEq, Eq)]
@@ -13,13 +13,13 @@ pub enum Status {
     NotDirectory,
     /// An argument has no meaning there.
     Invalid,
-    /// No file of the disk's version has so many bytes.
+    /// No file of the disk's version has this many bytes.
     TooBig,
     /// The blocks that are needed are not free, or the number has had all its generations.
     NoSpace,
     /// The handle's file was removed.
     Stale,
-    /// The file's time is not the one that the guard says.
+    /// The file's time is not the guard's.
     NotSync,
     /// It is not supported.
     NotSupported,

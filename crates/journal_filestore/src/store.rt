@@ -33,7 +33,7 @@ use std::alloc::Global;
 use std::marker::Model;
 use std::sync::{Mutex, Wait};
 
-/// What an operation answers: a success, or the case that is none. Either is committed.
+/// The answer of an operation: a success, or the case that is none. Either is committed.
 pub type Answer<A> = Result<A, Status>;
 
 /// Why an operation on files has no answer.
@@ -45,7 +45,7 @@ pub(crate) type FileRefusal<'b, J, V> = Refusal<Cause<'b, J, SoundFiles<V>>>;
 /// A transaction on files.
 pub(crate) type FileTxn<'j, 'b, D, J, V> = Txn<'j, 'b, D, SoundFiles<V>, J>;
 
-// How often an attempt that was refused by J5 is made again.
+// How often an attempt is made again after J5.
 const RETRIES: u32 = 8;
 
 /// The files of a disk, which threads share by `&`. Contracts see the history at the opening of its
@@ -54,8 +54,8 @@ const RETRIES: u32 = 8;
 pub struct FileStore<'b, D: BlockDisk, J: Naming, V: Version = VersionOne> {
     pub(crate) alloc: Global,
     journal: Journal<'b, D, SoundFiles<V>, J>,
-    // The numbers of the blocks that no file has. A file that is on its way has its block's number
-    // too.
+    // The numbers of the blocks that no file has. The block of a file that is being made is among
+    // the others.
     pub(crate) free: Mutex<Alloc>,
 }
 
@@ -72,10 +72,12 @@ impl<'b, D: BlockDisk, J: Naming, V: Version> Model for FileStore<'b, D, J, V> {
 
 impl<'b, D: BlockDisk, J: Naming, V: Version> FileStore<'b, D, J, V> {
     /// Mounts a disk on which nothing is pending: opens its journal under the rule of sound files,
-    /// which tells which of its blocks are free.
+    /// and finds its free blocks.
     ///
-    /// It is refused as `Journal::open` is: J8 `BadSuper` where the disk's files are not sound. A
-    /// refusal hands the disk back, with nothing written.
+    /// # Errors
+    /// A refusal gives the disk back, with nothing written.
+    /// - `J8 BadSuper`: the disk's files are not sound.
+    /// - All others: those of `Journal::open`.
     pub fn mount(
         alloc: Global,
         book: &'b Book<SoundFiles<V>>,
@@ -94,9 +96,11 @@ impl<'b, D: BlockDisk, J: Naming, V: Version> FileStore<'b, D, J, V> {
         FileStore::mount_with_cache(alloc, book, cell, disk, CACHED_BLOCKS)
     }
 
-    /// Mounts a disk as `mount` does, and is refused as it is. Copies of no more than so many
-    /// blocks that are at home are kept in memory, as `Journal::open_with_cache` keeps them, from 1
-    /// to 4096.
+    /// Mounts a disk as `mount` does. Memory keeps at most `cached` copies of blocks that are at
+    /// home, as `Journal::open_with_cache` does, from 1 to 4096.
+    ///
+    /// # Errors
+    /// Those of `mount`.
     pub fn mount_with_cache(
         alloc: Global,
         book: &'b Book<SoundFiles<V>>,
@@ -146,8 +150,9 @@ impl<'b, D: BlockDisk, J: Naming, V: Version> FileStore<'b, D, J, V> {
     /// the whole history, and each image that a crash may leave of the disk opens as the map after
     /// a front of it that has every marked commit.
     ///
-    /// Answers J9 `Stale` where the session had seen more of the history than the core, and nothing
-    /// else. The disk is then given up too.
+    /// # Errors
+    /// - `J9 Stale`: the session had seen more of the history than the core. The disk is given up
+    ///   too.
     pub fn close(
         self,
         session: &mut Session<'b, J, SoundFiles<V>>,
@@ -168,7 +173,7 @@ impl<'b, D: BlockDisk, J: Naming, V: Version> FileStore<'b, D, J, V> {
         journal.close(session)
     }
 
-    // Does an operation, and makes the pending wait before it is answered.
+    // Does an operation, and waits for its commit if it has to, before it is answered.
     pub(crate) fn run<O: Operation<J, V>, W: Wait>(
         &self,
         rt: &W,
@@ -183,7 +188,7 @@ impl<'b, D: BlockDisk, J: Naming, V: Version> FileStore<'b, D, J, V> {
             Err(why) => return Err(Fault::Refused(why)),
         };
         let waited = self.wait_for(rt, session, wait);
-        // It tells the proof what is known of all that the session has then seen.
+        // Called for its contract: the history that the session has then seen.
         let _seen = session.seen();
         match waited {
             Ok(()) => Ok(answer),
@@ -215,8 +220,8 @@ impl<'b, D: BlockDisk, J: Naming, V: Version> FileStore<'b, D, J, V> {
     }
 
     // Attempts an operation until it is committed, or refused by another number than J5, or refused
-    // by J5 once more after the last retry. Before each retry it waits for the slot that was held,
-    // so that it is refused by J5 only where others took slots in between each time.
+    // by J5 once more after the last retry. Before each retry it waits for the slot that was held.
+    // So J5 refuses it only if others took slots in between each time.
     pub(crate) fn run_no_wait<O: Operation<J, V>, W: Wait>(
         &self,
         rt: &W,
@@ -238,8 +243,8 @@ impl<'b, D: BlockDisk, J: Naming, V: Version> FileStore<'b, D, J, V> {
         }
     }
 
-    // Waits until nobody holds the slot of the address, by a transaction that only reads it: it
-    // holds no other slot, so it waits for this one. What refuses the read refuses the next attempt
+    // Waits until the slot of the address is free, by a transaction that only reads it. It holds no
+    // other slot, so it waits for this one. If the read is refused, the next attempt is refused
     // too.
     fn await_slot<W: Wait>(&self, rt: &W, session: &mut Session<'b, J, SoundFiles<V>>, held: Addr)
         ensures { OnlyExtends session.old session.new }
@@ -249,8 +254,8 @@ impl<'b, D: BlockDisk, J: Naming, V: Version> FileStore<'b, D, J, V> {
         txn.abort(rt);
     }
 
-    // One attempt: committed, or undone. Where another holds a slot that it needs, the address of
-    // that slot.
+    // One attempt: committed, or undone. If another holds a slot that it needs, the address of that
+    // slot.
     fn once<O: Operation<J, V>, W: Wait>(
         &self,
         rt: &W,
@@ -287,14 +292,14 @@ impl<'b, D: BlockDisk, J: Naming, V: Version> FileStore<'b, D, J, V> {
         }
     }
 
-    // Gives an attempt up, with its slots and with what it took.
+    // Undoes an attempt: releases its slots, and gives back the blocks that it took.
     fn undo<'j, W: Wait>(&self, rt: &W, txn: FileTxn<'j, 'b, D, J, V>, space: BlockReservation) {
         txn.abort(rt);
         space.undone(rt);
     }
 }
 
-// Whether the answer waits until it is stable: a success does, of an operation that waits.
+// True if the answer waits until it is stable: a success does, of an operation that waits.
 fn is_awaited<A>(waits: bool, answer: &Answer<A>) -> bool
     ensures success { IsTrue waits → OnOk answer.now (IsTrue result) }
     ensures waits { IsTrue result → IsTrue waits }
@@ -302,7 +307,7 @@ fn is_awaited<A>(waits: bool, answer: &Answer<A>) -> bool
     waits && answer.is_ok()
 }
 
-// Commits a transaction: its receipt is to be waited for where it waits.
+// Commits a transaction. Its receipt is pending if it waits.
 fn end<'j, 'b, D: BlockDisk, J: Naming, V: Version, W: Wait>(
     rt: &W,
     session: &mut Session<'b, J, SoundFiles<V>>,

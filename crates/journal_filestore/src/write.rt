@@ -27,7 +27,7 @@ use journal_inode::{FileNode, SoundFiles, Time, Version};
 use journal_world::{BLOCK_BYTES, Moment};
 use std::sync::Wait;
 
-// Some bytes, placed in a file.
+// Bytes, and their place in a file.
 #[derive(Drop)]
 pub(crate) struct Write<'a> {
     handle: Handle,
@@ -86,7 +86,7 @@ impl<'a, J: Naming, V: Version> Operation<J, V> for Write<'a> {
 }
 
 impl<'a> Write<'a> {
-    // Places the bytes in the file; `None` where it needs more blocks than are handed out.
+    // Places the bytes in the file. `None` if it needs more blocks than are free.
     fn put<'j, 'b, D: BlockDisk, J: Naming, V: Version, W: Wait>(
         &self,
         rt: &W,
@@ -118,8 +118,8 @@ impl<'a> Write<'a> {
         Ok(Some(written))
     }
 
-    // Overwrites what changes. What the blocks hold that the bytes do not fill is read, and new
-    // ones begin as zeros.
+    // Overwrites the changed blocks. The rest of a block that the bytes do not fill is read. New
+    // blocks begin as zeros.
     fn put_bytes<'j, 'b, D: BlockDisk, J: Naming, V: Version, W: Wait>(
         &self,
         rt: &W,
@@ -169,14 +169,19 @@ fn place(block: &mut Vec<u8>, offset: usize, bytes: &[u8])
 }
 
 impl<'b, D: BlockDisk, J: Naming, V: Version> FileStore<'b, D, J, V> {
-    /// WRITE (RFC 1813, 3.3.7): places bytes in a file from an offset on, with zeros before them
-    /// where the file was shorter. The file's time becomes the moment. It waits until it is stable
-    /// where `stability` says so.
+    /// WRITE (RFC 1813, 3.3.7): places bytes in a file from an offset on, with zeros before them if
+    /// the file was shorter. The file's time becomes the moment of the call. It waits until it is
+    /// stable if `stability` says so. Without bytes it succeeds and changes nothing.
     ///
-    /// The first that holds is answered: `Stale` where the handle's file was removed, `Invalid` on
-    /// the root and where `count` is not the number of bytes, a success that changes nothing where
-    /// there are none, `TooBig` where the file would have more bytes than one of its version has,
-    /// `NoSpace` where it needs more blocks than are handed out.
+    /// # Errors
+    /// - `Refused`: the journal refused its transaction. It has no commit, and changed nothing.
+    /// - `Unsure`: it is committed, and the wait until it is stable was refused.
+    ///
+    /// The other answers are committed too, and leave the files as they were. The first that holds:
+    /// - `Stale`: the handle's file was removed.
+    /// - `Invalid`: the handle is the root's, or `count` is not the number of bytes.
+    /// - `TooBig`: the file would have more bytes than any file of its version.
+    /// - `NoSpace`: it needs more blocks than are free.
     pub fn write<W: Wait>(
         &self,
         rt: &W,
@@ -202,9 +207,12 @@ impl<'b, D: BlockDisk, J: Naming, V: Version> FileStore<'b, D, J, V> {
         self.run(rt, session, &write)
     }
 
-    /// WRITE up to its commit: as `write` does it, and answered before it is stable. Where that
-    /// waits, what is pending is the wait for its receipt, by `Journal::wait_stable`: the answer
-    /// stands in the history, and a crash before may lose it.
+    /// WRITE up to its commit: as `write` does it, and answered before it is stable. If `write`
+    /// would wait, the wait for its receipt is pending (`Journal::wait_stable`): the history has
+    /// the answer, and a crash before the mark may lose it.
+    ///
+    /// # Errors
+    /// Those of `write`, but for `Unsure`.
     pub fn write_no_wait<W: Wait>(
         &self,
         rt: &W,

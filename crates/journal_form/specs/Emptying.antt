@@ -54,7 +54,7 @@ pub record BringsHome (old : Ring) (position : ℕ) (new : Ring) : Type 0 where
   pub homes : IsTrue old.disk.honest → HasHomesTo old position new
   pub crash : IsTrue old.disk.honest → StaysThroughout old new.disk.past
 
--- The log was opened: block 0 is as it reads, and tells the form
+-- The log was opened: block 0 is as it reads, and has the form
 pub record IsRead (r : Ring) : Type 0 where
   pub form : r.sealed ≡ is_sealed r.header
   pub header : IsTrue r.disk.honest → r.header ≡ read_of r.disk.past 0

@@ -14,12 +14,12 @@ use Rattle.journal_form.specs.declared.form.LogForm.TheVariants.{Plain, Sealed}
 abbrev pub form_by : Bool → LogForm
 form_by sealed = if sealed then Sealed else Plain
 
--- the form that block 0 tells
+-- the form of block 0
 abbrev pub form_of : Bytes → LogForm
 form_of header = form_by (is_sealed header)
 
--- What each image stood for, each image of each moment stands for: whatever a crash leaves
--- meanwhile opens with the same blocks
+-- Each image of each moment stands for the blocks that each image stood for: whatever a crash
+-- leaves meanwhile opens with the same blocks
 abbrev pub HoldsThroughout : Past → Past → Type 0
 HoldsThroughout old new = (blocks : Content) → EveryImage old (StandsFor old.size blocks) → LeavesOnly old new (StandsFor old.size blocks)
 

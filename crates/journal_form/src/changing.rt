@@ -26,13 +26,15 @@ pub struct Changed<D> {
     pub was: LogForm,
 }
 
-/// Gives the log of a disk on which nothing is pending this form. Where it has it, nothing is
-/// written. Else all updates of the log are brought home first. Whatever blocks the disk held, it
-/// holds in each image of each moment, and the label of block 1 stays.
+/// Gives the log of a disk on which nothing is pending this form. If it has the form already,
+/// nothing is written. Otherwise all updates of the log are brought home first. Each image of each
+/// moment holds the blocks that the disk held, and the label of block 1 stays.
 ///
-/// Answers J1 `NoMemory` where memory is refused, J7 `BadLog` where the log is not well formed, and
-/// J6 `DeviceFailed` where the device fails, and no other refusal. A refusal hands the disk back.
-/// Unless it is J6 nothing was written; at J6 the log has either form. It can be mended then.
+/// # Errors
+/// A refusal gives the disk back.
+/// - `J1 NoMemory`: memory is refused. Nothing was written.
+/// - `J7 BadLog`: the log is not well formed. Nothing was written.
+/// - `J6 DeviceFailed`: the device fails. The log has either form, and the disk can be mended.
 pub fn change_form<D: BlockDisk>(
     alloc: Global,
     disk: D,

@@ -10,10 +10,11 @@ use journal_disk::BlockDisk;
 use journal_world::Refusal;
 
 /// Brings all updates of a log at rest home, in the order of their positions, and frees the
-/// positions. To an empty log nothing is done. What the disk holds stays in each image of each
+/// positions. To an empty log nothing is done. The disk's content stays in each image of each
 /// moment, and so does the label.
 ///
-/// Answers J6 `DeviceFailed`, and nothing else, where the device failed.
+/// # Errors
+/// - `J6 DeviceFailed`: the device failed. Each image holds the same blocks as before.
 pub(crate) fn empty<D: BlockDisk>(
     circ: &mut Circ<D>,
     installer: HomesPut,

@@ -12,7 +12,7 @@ pub enum LogForm {
 }
 
 impl LogForm {
-    /// The form of a log that is sealed, or not.
+    /// The sealed form if the flag is true, else the plain one.
     pub(crate) fn of(is_sealed: bool) -> LogForm
         ensures { result ≡ form_by is_sealed }
     {

@@ -1,4 +1,4 @@
-// What the blocks of a disk tell of it.
+// The form of a disk's log, and the format of its first home block.
 ghost use Rattle.std.specs.Prelude.{◌≡◌, ◌≤◌, ◌↔◌, take, IsTrue, IfOk, IfErr, MatchResult};
 ghost use Rattle.journal_world.specs.declared.layout.TheConstants.{MIN_BLOCKS};
 ghost use Rattle.journal_block.specs.Updates.{Content};
@@ -17,28 +17,31 @@ use journal_wal::Wal;
 use journal_world::{Refusal, Refused};
 use std::alloc::Global;
 
-/// What the first home block of a disk of the file service begins with, in each version of its
+/// The first bytes of the first home block of a disk of the file service, in each version of its
 /// format.
 pub const FILES_MAGIC: [u8; 8] = *b"GJNLDSK1";
 
-/// A disk, and what its blocks tell of it.
+/// A disk, and the facts that its blocks show.
 #[derive(Drop)]
 pub struct Inspected<D> {
     /// The disk, as it was.
     pub disk: D,
     /// The form of its log.
     pub form: LogForm,
-    /// Whether it is a disk of the file service: its first home block begins with the format's
+    /// True if it is a disk of the file service: its first home block begins with the format's
     /// name.
     pub has_files: bool,
 }
 
-/// Tells the form of the log of a disk on which nothing is pending, and whether it is a disk of the
+/// Reads the form of the log of a disk on which nothing is pending, and whether it is a disk of the
 /// file service. The first home block is read with the updates that the log has of it. Nothing is
 /// written.
 ///
-/// Answers J1 `NoMemory` where memory is refused, J7 `BadLog` where the log is not well formed, and
-/// J6 `DeviceFailed` where the device fails, and no other refusal. A refusal hands the disk back.
+/// # Errors
+/// A refusal gives the disk back, and nothing was written.
+/// - `J1 NoMemory`: memory is refused.
+/// - `J7 BadLog`: the log is not well formed.
+/// - `J6 DeviceFailed`: the device fails.
 pub fn inspect<D: BlockDisk>(alloc: Global, disk: D) -> Result<Inspected<D>, Refused<D, ()>>
     requires in_range { MIN_BLOCKS ≤ (D.state disk).past.size }
     requires settled { IsTrue (D.state disk).honest → IsSettled (D.state disk).past }
@@ -73,7 +76,7 @@ pub fn inspect<D: BlockDisk>(alloc: Global, disk: D) -> Result<Inspected<D>, Ref
     }
 }
 
-// Whether a block begins as that of a disk of the file service.
+// True if a block begins as that of a disk of the file service.
 fn begins_with_magic(block: &Block) -> bool
     ensures { IsTrue result ↔ (take 8 block.now ≡ FILES_MAGIC) }
 {

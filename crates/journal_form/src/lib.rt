@@ -1,12 +1,12 @@
-//! The form of the log of a disk: it is told, and it is changed.
+//! The form of the log of a disk: how it is read, and how it is changed.
 //!
 //! A log is plain or sealed. Of a plain log a group takes two barriers, and of a sealed one a
 //! single barrier. `change_form` brings all updates of a disk's log home, frees their positions,
-//! and changes the form of the log, which is then empty, by one write and a barrier. Whatever a
-//! crash leaves meanwhile holds the same blocks. `inspect` tells the form, and whether the disk is
-//! one of the file service.
+//! and changes the form of the log, which is then empty, by one write and a barrier. Every image of
+//! every moment holds the same blocks. `inspect` reads the form, and whether the disk is one of the
+//! file service.
 //!
-//! `specs/Forms.antt` has what the contracts say.
+//! `specs/Forms.antt` has the definitions of the contracts.
 #![tactic(auto)]
 
 mod changing;

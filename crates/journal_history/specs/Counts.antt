@@ -29,7 +29,7 @@ nobody = view false [] false 0 0
 abbrev pub first : View
 first = keeper []
 
--- What the rule says of one view
+-- The rule, of one view
 pub record KeepsRule (seat : ℕ) (counts : List ℕ) (by : ℕ) (v : View) : Type 0 where
   pub keeps : v.keeps ≡ true → (by ≡ seat) × (v.counts ≡ counts)
   pub agrees : v.has ≡ true → v.count ≡ slice_index counts v.number
@@ -45,7 +45,7 @@ pub record IsKept (seat : ℕ) (counts : List ℕ) (views : List View) : Type 0 
 abbrev pub Kept : List ℕ → List View → Type 0
 Kept words views = (seat : ℕ) × (counts : List ℕ) × IsKept seat counts views
 
--- a look tells that the token agrees
+-- a look shows that the token agrees
 abbrev pub Verifies : View → List ℕ → List ℕ → View → Type 0
 Verifies v before after w = (w ≡ v) × (v.keeps ≡ true → v.has ≡ true → (v.count ≡ slice_index v.counts v.number) × (v.number < length v.counts))
 
@@ -53,7 +53,7 @@ Verifies v before after w = (w ≡ v) × (v.keeps ≡ true → v.has ≡ true �
 abbrev pub Touches : View → List ℕ → List ℕ → View → Type 0
 Touches v before after w = w ≡ holder (slice_set v.counts v.number (v.count + 1)) v.number (v.count + 1)
 
--- so many numbers are given, some of them to no session
+-- the numbers below a bound are given, some of them to no session
 abbrev pub raised : List ℕ → ℕ → List ℕ
 raised counts bound = counts ++ replicate (bound - length counts) 0
 
@@ -61,7 +61,7 @@ raised counts bound = counts ++ replicate (bound - length counts) 0
 abbrev pub Raises : View → List ℕ → List ℕ → View → Type 0
 Raises v before after w = w ≡ keeper (raised v.counts (slice_index after 0))
 
--- What a session's token is: its number, and how many commits the session has
+-- The state of a session's token: its number, and how many commits the session has
 pub record TokenState : Type 0 where
   pub number : ℕ
   pub count : ℕ

@@ -1,4 +1,5 @@
--- What holds of every beginning of the history that anyone has seen, and what may be added to one.
+-- The facts of every beginning of the history that anyone has seen, and the entries that may be
+-- added to one.
 use Rattle.std.specs.Prelude.{ℕ, ◌<◌, IsTrue, List, [], ◌∷◌, ◌++◌, length}
 use mathlib.Core.List.{IsPrefix}
 use Rattle.journal_world.specs.Maps.{Map}

@@ -1,4 +1,4 @@
--- What the book keeps of its two words and its history, and what each of the four steps tells.
+-- The invariant of the book's two words and its history, and the result of each of the four steps.
 use Rattle.std.specs.Prelude.{ℕ, ◌≡◌, ◌≤◌, ◌==◌, true, List, [], ◌∷◌, ◌++◌, length, MatchBool}
 use Rattle.logbook.specs.Pages.{Cell, Step, View, Book, Named}
 use Rattle.journal_world.specs.Maps.{Map}

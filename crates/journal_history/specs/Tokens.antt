@@ -30,7 +30,7 @@ pub record OnlyExtends (old new : SessionState) : Type 0 where
 abbrev pub next_transaction : SessionState → List Pair → List Pair → Transaction
 next_transaction s reads writes = record { session = s.number; number = made s; reads = reads; writes = writes }
 
--- What each session keeps, on a disk of a layout, with its number of commits
+-- The invariant of each session, on a disk of a layout, with its number of commits
 pub record IsSession (layout : Shape) (commits : ℕ) (s : SessionState) : Type 0 where
   pub counted : commits ≡ made s
   pub own : IsPrefix s.mine s.seen
@@ -43,11 +43,11 @@ pub record CommitPlace : Type 0 where
   pub place : ℕ
   pub count : ℕ
 
--- some commit stands at the place
+-- the entry at the place is a commit
 abbrev pub IsCommitAt : List Entry → ℕ → Type 0
 IsCommitAt history place = (t : Transaction) × (slice_get history place ≡ Some (commit t))
 
--- a commit stands at the receipt's place, and its count is the commits up to there
+-- the entry at the receipt's place is a commit, and its count is the commits up to there
 pub record IsReceipt (r : CommitPlace) : Type 0 where
   pub stands : IsCommitAt r.front r.place
   pub counted : r.count ≡ count (take (r.place + 1) r.front)
@@ -60,7 +60,7 @@ pub record Commits (t : Transaction) (old new : SessionState) (before after : Li
   pub later : IsPrefix old.seen before
   pub one_more : commits_of old.number after ≡ commits_of old.number old.mine ++ t ∷ []
 
--- the receipt is for the transaction, which stands last in the history
+-- the receipt is for the transaction, which is last in the history
 pub record IsReceiptFor (t : Transaction) (history : List Entry) (place : ℕ) (r : CommitPlace) : Type 0 where
   pub told : r ≡ record { front = history; place = place; count = count history }
   pub stands : slice_get history place ≡ Some (commit t)
@@ -70,7 +70,7 @@ pub record StableCount : Type 0 where
   pub front : List Entry
   pub count : ℕ
 
--- What a writer knows of the whole history on a disk of a layout: how many commits it has, its
+-- The writer's knowledge of the whole history on a disk of a layout: how many commits it has, its
 -- greatest mark, and the mark that FLOOR has
 pub record IsWhole (layout : Shape) (history : List Entry) (commits mark published : ℕ) : Type 0 where
   pub begun : history ≢ []

@@ -4,13 +4,13 @@ use crossbeam_utils::atomic::seq_cell::{Pass, RuledSeqCell};
 use crossbeam_utils::rule::{Outcome, Protocol};
 use std::collections::LinkedList;
 
-/// What a pass knows: the keeper how many commits each session has, a token that of its own. No
-/// value of it is made.
+/// The knowledge of a pass. The keeper knows how many commits each session has, and a token knows
+/// that of its own session. No value of this type is made.
 pub struct View {
-    /// Whether it is the keeper: its `counts` are the sessions' numbers of commits.
+    /// True if it is the keeper: its `counts` are the sessions' numbers of commits.
     pub keeps: bool,
     pub counts: LinkedList<u64>,
-    /// Whether it has a token: that of the session of this `number`, which has `count` commits.
+    /// True if it has a token: that of the session of this `number`, which has `count` commits.
     pub has: bool,
     pub number: u64,
     pub count: u64,
@@ -97,7 +97,7 @@ impl Join<View> for Off {
     ghost spent = { nobody };
 }
 
-/// The cell. Its one word says nothing: all that is known of sessions stands in the passes' views.
+/// The cell. Its one word has no meaning: the passes' views have all that is known of sessions.
 pub type Cell = RuledSeqCell<[u64; 1], View, Counted, 1>;
 
 /// A pass of the cell.

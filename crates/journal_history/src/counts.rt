@@ -15,7 +15,7 @@ use std::marker::{Model, PhantomData};
 use std::sync::Wait;
 
 /// The cell of the sessions of a journal that has no name yet. Contracts see which cell it is, so
-/// that whoever opens the journal can name it by the cell.
+/// whoever opens the journal can name it by the cell.
 #[derive(Drop)]
 pub struct SessionCell {
     cell: Cell,
@@ -36,7 +36,10 @@ impl Model for SessionCell {
 }
 
 impl SessionCell {
-    /// A new cell. Where memory is refused nothing was made.
+    /// A new cell.
+    ///
+    /// # Errors
+    /// - Memory is refused. Nothing was made.
     pub fn open(alloc: Global) -> Result<SessionCell, AllocError> {
         let (cell, first) = Cell::ruled(alloc, [0])?;
         Ok(SessionCell { cell, first })
@@ -46,9 +49,9 @@ impl SessionCell {
 /// How many commits each session has, by the sessions' numbers, all of which were given. Contracts
 /// see them in that order.
 ///
-/// They stand in proofs alone, as what one pass of the cell, the keeper, knows; a session's token
-/// knows that of its own. No number has two tokens, so that the session alone commits under it: its
-/// own count is the history's. So it takes the same memory however many sessions there were.
+/// The counts exist in proofs alone: one pass of the cell, the keeper, knows them, and a session's
+/// token knows its own. No number has two tokens, so only the session commits under it, and its own
+/// count is the history's. The memory does not grow with the number of sessions.
 #[derive(Drop)]
 pub struct SessionCounts<J: Naming> {
     cell: Cell,
@@ -69,7 +72,7 @@ impl<J: Naming> Model for SessionCounts<J> {
 }
 
 impl<J: Naming> SessionCounts<J> {
-    /// Those of the journal that has this cell: there is no session.
+    /// The counts of the journal that has this cell: there is no session.
     pub fn begin(cell: SessionCell) -> SessionCounts<J>
         requires { cell ≡ J.cell.sessions }
         ensures { result ≡ [] }
@@ -92,7 +95,7 @@ impl<J: Naming> SessionCounts<J> {
         Token::new(number, pass)
     }
 
-    /// Gives all numbers below the bound, to no session. Those that were given stay.
+    /// Gives all numbers below the bound, to no session. The numbers that were given before stay.
     pub fn raise<W: Wait>(&mut self, rt: &W, bound: u64)
         ensures { self.new ≡ raised self.old bound }
     {
@@ -100,7 +103,7 @@ impl<J: Naming> SessionCounts<J> {
     }
 
     /// Shows that the session made all commits that are counted under its number. Nothing changes,
-    /// and it waits for nobody.
+    /// and the call does not block.
     pub fn verify_session<'b, R: MapRule, W: Wait>(
         &mut self,
         rt: &W,

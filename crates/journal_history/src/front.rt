@@ -17,8 +17,8 @@ use std::marker::{Model, PhantomData};
 
 /// A beginning of the history that was seen. Contracts see it as its entries.
 ///
-/// It is a length beside a token without bytes, so it does not grow with the history. Whatever
-/// other threads do, it stays a beginning of the history for good.
+/// It is a length beside a token without bytes, so it does not grow with the history. It stays a
+/// beginning of the history for good, whatever other threads do.
 #[derive(Drop)]
 pub struct Front<'b, J: Naming, R: MapRule> {
     book: &'b Book<R>,
@@ -40,7 +40,7 @@ impl<'b, J: Naming, R: MapRule> Model for Front<'b, J, R> {
 }
 
 impl<'b, J: Naming, R: MapRule> Front<'b, J, R> {
-    // What the token has seen, with its length.
+    // The front of this length that the token has seen.
     fn new(book: &'b Book<R>, len: u64, seen: Seen<LogEntry, u64, Law<R>>) -> Front<'b, J, R>
         requires { IsFront R.statement J.book book.now seen.book seen.log len }
         ensures { result ≡ seen.log }
@@ -61,7 +61,8 @@ impl<'b, J: Naming, R: MapRule> Front<'b, J, R> {
         Front::new(book, 0, book.empty.again())
     }
 
-    /// How many entries it has. They are sound, and legal where the disk was honest and settled.
+    /// The number of its entries. They are sound. They are legal if the disk was honest and
+    /// settled.
     pub fn len(&self) -> u64
         ensures length { result ≡ length self.now }
         ensures sound { IsSound R.statement self.now }
@@ -70,14 +71,14 @@ impl<'b, J: Naming, R: MapRule> Front<'b, J, R> {
         self.len
     }
 
-    /// Whether it has no entry.
+    /// True if it has no entry.
     pub fn is_empty(&self) -> bool
         ensures { IsTrue result ↔ (self.now ≡ []) }
     {
         self.len == 0
     }
 
-    /// A copy. It takes no memory.
+    /// A copy. The call takes no memory.
     pub fn again(&self) -> Front<'b, J, R>
         ensures { result ≡ self.now }
     {
@@ -98,7 +99,7 @@ impl<'b, J: Naming, R: MapRule> Front<'b, J, R> {
         }
     }
 
-    // The history as it is, after what the token has seen, by one load of HEAD.
+    // The history as it is now, by one load of HEAD. The entries that the token has seen begin it.
     fn at_head(book: &'b Book<R>, seen: Seen<LogEntry, u64, Law<R>>) -> Front<'b, J, R>
         requires book { book.now ≡ J.book }
         requires token { seen.book ≡ J.book }
@@ -119,8 +120,8 @@ impl<'b, J: Naming, R: MapRule> Front<'b, J, R> {
         *self = Front::at_head(self.book, self.seen.again());
     }
 
-    // A number that is at most the greatest mark of the history, which it has then seen, by one
-    // load of FLOOR. That step does not load the history's length, so a load of HEAD follows.
+    // A number that is at most the greatest mark of the history, which this front has then seen, by
+    // one load of FLOOR. That step does not load the history's length, so a load of HEAD follows.
     pub(crate) fn load_floor(&mut self) -> CommitCount
         ensures marked { result ≤ floor self.new }
         ensures seen { IsPrefix self.old self.new }
@@ -137,9 +138,9 @@ impl<'b, J: Naming, R: MapRule> Front<'b, J, R> {
         CommitCount::new(floor)
     }
 
-    // The history with an entry added, by one exchange of HEAD, where the front is the whole
-    // history. All that `other` has seen then stands before the entry. At `Err` the history is
-    // longer, and is seen.
+    // The history with an entry added, by one exchange of HEAD, if the front is the whole history.
+    // Then all that `other` has seen comes before the entry. At `Err` the history is longer, and
+    // the returned front has seen it.
     pub(crate) fn add_after<X, M: Plain<X, LogEntry, u64>>(
         &self,
         other: &Front<'b, J, R>,
@@ -174,7 +175,7 @@ impl<'b, J: Naming, R: MapRule> Front<'b, J, R> {
         }
     }
 
-    // Exchanges FLOOR from one number to another, and says whether it did. No clause says so: other
+    // Exchanges FLOOR from one number to another. True if it did. No clause says so, because other
     // threads may change the word at any time.
     pub(crate) fn exchange_floor(&self, old: u64, new: u64) -> bool
         requires { new ≤ floor self.now }

@@ -1,4 +1,4 @@
-// What a caller is told of the history, and can keep.
+// Facts of the history that a caller is given and can keep.
 ghost use Rattle.std.specs.Prelude.{◌≡◌, ◌+◌, ◌≤◌, take};
 ghost use Rattle.journal_world.specs.Histories.{count, floor};
 ghost use Rattle.journal_history.specs.Tokens.{IsCommitAt};
@@ -10,7 +10,7 @@ use std::fmt;
 use std::fmt::Debug;
 use std::marker::Model;
 
-/// Where a commit stands in the history. Contracts see a front, the place in it, and the count of
+/// The place of a commit in the history. Contracts see a front, the place in it, and the count of
 /// commits.
 #[derive(Drop)]
 pub struct Receipt<'b, J: Naming, R: MapRule> {
@@ -30,7 +30,7 @@ impl<'b, J: Naming, R: MapRule> Model for Receipt<'b, J, R> {
 }
 
 impl<'b, J: Naming, R: MapRule> Receipt<'b, J, R> {
-    // The receipt of a commit that stands there, after all others but so many.
+    // The receipt of a commit at the end of this front, with this many commits up to it.
     pub(crate) fn new(
         front: &Front<'b, J, R>,
         place: u64,
@@ -55,7 +55,7 @@ impl<'b, J: Naming, R: MapRule> Receipt<'b, J, R> {
         self.place
     }
 
-    /// How many commits there are up to it, with itself.
+    /// The number of commits up to it, itself included.
     pub fn count(&self) -> CommitCount
         ensures count { result ≡ self.now.count }
         ensures commits { result ≡ count (take (self.now.place + 1) self.now.front) }
@@ -63,7 +63,7 @@ impl<'b, J: Naming, R: MapRule> Receipt<'b, J, R> {
         self.commits
     }
 
-    /// The history that it stands in.
+    /// The history that it is in.
     pub fn front(&self) -> Front<'b, J, R>
         ensures { result ≡ self.now.front }
     {
@@ -71,8 +71,8 @@ impl<'b, J: Naming, R: MapRule> Receipt<'b, J, R> {
     }
 }
 
-/// That so many commits are stable. Contracts see a front and the count, which its greatest mark
-/// covers.
+/// A note that the first n commits are stable. Contracts see a front and the count n, which its
+/// greatest mark covers.
 #[derive(Drop)]
 pub struct StableNote<'b, J: Naming, R: MapRule> {
     seen: Front<'b, J, R>,
@@ -92,7 +92,7 @@ impl<'b, J: Naming, R: MapRule> Model for StableNote<'b, J, R> {
 }
 
 impl<'b, J: Naming, R: MapRule> StableNote<'b, J, R> {
-    /// A note of what the front's greatest mark covers.
+    /// A note of how many commits the front's greatest mark covers.
     pub fn new(front: &Front<'b, J, R>, commits: CommitCount) -> StableNote<'b, J, R>
         requires { commits ≤ floor front.now }
         ensures { result ≡ record { front = front.now; count = commits } }

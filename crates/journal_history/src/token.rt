@@ -33,8 +33,8 @@ impl<J: Naming> Model for Token<J> {
 }
 
 impl<J: Naming> Token<J> {
-    // The token of a session without commits. It is a pass that was split off: only such a one can
-    // be joined again.
+    // The token of a session without commits. The pass was split off, and only such a pass can be
+    // joined again.
     pub(crate) fn new(number: u64, pass: SessionPass) -> Token<J>
         requires cell { pass.table_id ≡ J.cell.sessions }
         requires fresh { pass.me.1 ≡ [] }
@@ -56,15 +56,15 @@ impl<J: Naming> Token<J> {
         self.number
     }
 
-    // How many commits the session has.
+    // The number of the session's commits.
     pub(crate) fn count(&self) -> u64
         ensures { result ≡ self.now.count }
     {
         self.count
     }
 
-    // Shows that it agrees with the keeper. Nothing changes. A pass that knows nothing takes its
-    // place meanwhile, since one can be joined by value alone.
+    // Shows that it agrees with the keeper. Nothing changes. `join` takes a pass by value, so an
+    // empty pass is here during the call.
     pub(crate) fn verify<W: Wait>(&mut self, rt: &W, cell: &Cell, all: &mut SessionPass)
         requires cell { cell.now.table.shared.table_id ≡ J.cell.sessions }
         requires pass { all.old.table_id ≡ J.cell.sessions }

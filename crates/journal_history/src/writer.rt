@@ -1,4 +1,4 @@
-// The one that adds to the history.
+// The one value that adds to the history.
 ghost use Rattle.std.specs.Prelude.{false, ◌≡◌, ◌≢◌, ◌<◌, ◌≤◌, ◌+◌, ◌^◌, ◌++◌, ◌∷◌, [], length, slice_set, IsTrue, IfOk, IfErr, OnOk, OnErr};
 ghost use mathlib.Core.List.{IsPrefix};
 ghost use Rattle.journal_world.specs.Maps.{Agrees, are_objects, overwritten};
@@ -20,12 +20,12 @@ use std::fmt::Debug;
 use std::marker::Model;
 use std::sync::Wait;
 
-/// The right to add entries to the history, with all of it that was added. Contracts see the
+/// The right to add entries to the history, with all entries that were added. Contracts see the
 /// history.
 ///
 /// Beginning a book's history makes its one writer, which cannot be copied. So its owner alone
-/// decides which sessions there are, and adds commits and marks. Each call is safe all the same
-/// where the book has more entries: it is refused, and gives the longer history as a front.
+/// decides which sessions there are, and adds commits and marks. If the book has more entries than
+/// the writer, each call is refused all the same, and gives the longer history as a front.
 #[derive(Drop)]
 pub struct Writer<'b, J: Naming, R: MapRule> {
     front: Front<'b, J, R>,
@@ -49,7 +49,8 @@ impl<'b, J: Naming, R: MapRule> Model for Writer<'b, J, R> {
 impl<'b, J: Naming, R: MapRule> Writer<'b, J, R> {
     /// Begins the history of a book with a map.
     ///
-    /// At `Err` the book has a history already, and the front has seen it.
+    /// # Errors
+    /// - The book has a history already, and the front has seen it. The book is as it was.
     pub fn begin<O: Opened>(
         book: &'b Book<R>,
         objects: &O,
@@ -70,8 +71,8 @@ impl<'b, J: Naming, R: MapRule> Writer<'b, J, R> {
         })
     }
 
-    /// How many entries the history has. They are sound, and legal where the disk was honest and
-    /// settled.
+    /// The number of entries of the history. They are sound. They are legal if the disk was honest
+    /// and settled.
     pub fn len(&self) -> u64
         ensures length { result ≡ length self.now }
         ensures begun { self.now ≢ [] }
@@ -82,14 +83,14 @@ impl<'b, J: Naming, R: MapRule> Writer<'b, J, R> {
         self.front.len()
     }
 
-    /// How many commits the history has.
+    /// The number of commits of the history.
     pub fn count(&self) -> CommitCount
         ensures { result ≡ count self.now }
     {
         self.commits
     }
 
-    /// The greatest mark of the history: so many commits are stable.
+    /// The greatest mark of the history: the first n commits are stable.
     pub fn floor(&self) -> CommitCount
         ensures { result ≡ floor self.now }
     {
@@ -116,7 +117,9 @@ impl<'b, J: Naming, R: MapRule> Writer<'b, J, R> {
 
     /// Shows the session the whole history.
     ///
-    /// At `Err` the session had seen more than the writer, as the front has.
+    /// # Errors
+    /// - The session has seen more than the writer, and the front is its history. The writer is as
+    ///   it was.
     pub fn show(&self, session: &mut Session<'b, J, R>) -> Result<(), Front<'b, J, R>>
         ensures extends { OnlyExtends session.old session.new }
         ensures shown { OnOk result (session.new.seen ≡ self.now) }
@@ -132,10 +135,11 @@ impl<'b, J: Naming, R: MapRule> Writer<'b, J, R> {
     }
 
     /// Commits the session's next transaction: adds it to the history, which the session has then
-    /// seen. The receipt says where it stands.
+    /// seen. The receipt has its place.
     ///
-    /// At `Err` the history is longer than the writer's, and the front has seen it. The writer, the
-    /// numbers of commits and the session stay as they were.
+    /// # Errors
+    /// - The history is longer than the writer's, and the front has seen it. The writer, the
+    ///   numbers of commits and the session are as they were.
     pub fn commit<T: Recorded, W: Wait>(
         &mut self,
         rt: &W,
@@ -169,10 +173,11 @@ impl<'b, J: Naming, R: MapRule> Writer<'b, J, R> {
         Ok(Receipt::new(&self.front, place, self.commits))
     }
 
-    /// Marks that so many commits are stable, by an entry of the history.
+    /// Marks the first n commits as stable, by an entry of the history.
     ///
-    /// At `Err` the history is longer than the writer's, and the front has seen it. The writer
-    /// stays as it was.
+    /// # Errors
+    /// - The history is longer than the writer's, and the front has seen it. The writer is as it
+    ///   was.
     pub fn mark(&mut self, n: CommitCount) -> Result<(), Front<'b, J, R>>
         requires room { length self.old < 2 ^ 62 }
         requires rises { floor self.old ≤ n }
@@ -191,8 +196,9 @@ impl<'b, J: Naming, R: MapRule> Writer<'b, J, R> {
 
     /// Fences a session: no commit of that number is added from then on.
     ///
-    /// At `Err` the history is longer than the writer's, and the front has seen it. The writer
-    /// stays as it was.
+    /// # Errors
+    /// - The history is longer than the writer's, and the front has seen it. The writer is as it
+    ///   was.
     pub fn fence(&mut self, session: u64) -> Result<(), Front<'b, J, R>>
         requires room { length self.old < 2 ^ 62 }
         ensures added { OnOk result (self.new ≡ self.old ++ fence session ∷ []) }
@@ -208,7 +214,7 @@ impl<'b, J: Naming, R: MapRule> Writer<'b, J, R> {
     }
 
     /// Publishes the greatest mark in FLOOR, so that `Session::is_stable` finds it. The history
-    /// stays. Nothing is promised of the word, which other threads read at any time.
+    /// stays. No clause speaks of the word, because other threads read it at any time.
     pub fn publish_floor(&mut self)
         ensures { self.new ≡ self.old }
     {

@@ -18,14 +18,13 @@ use Rattle.journal_inode.specs.Versions.{most_bytes}
 abbrev pub AllZero : List ℕ → Type 0
 AllZero bytes = All (λ byte. byte ≡ 0) bytes
 
--- What the rule says of one inode alone
+-- The rule, of one inode alone
 pub record IsSoundInode (version : FormatVersion) (m : Map) (i : ℕ) : Type 0 where
   pub written : object m (inode i) ≡ inode_bytes (node_at m i)
   pub placed : IsInPlace i (node_at m i)
   pub file : (f : FileNode) → node_at m i ≡ File f → IsSoundFile version m f
 
--- What the rule says of the first inodes: each is sound, no two have one block, and none has one
--- twice
+-- The rule, of the first inodes: each is sound, no two have one block, and none has one twice
 pub record AreSoundBelow (version : FormatVersion) (m : Map) (n : ℕ) : Type 0 where
   pub each : (i : ℕ) → i < n → IsSoundInode version m i
   pub apart : (i j b : ℕ) → i < n → j < n → HasBlock version (node_at m i) b → HasBlock version (node_at m j) b → i ≡ j
@@ -38,7 +37,7 @@ IsOwnedBelow version m n b = (i : ℕ) × (i < n) × HasBlock version (node_at m
 abbrev pub AreOwners : FormatVersion → Map → ℕ → List Bool → Type 0
 AreOwners version m n owners = (k : ℕ) → (slice_get owners k ≡ Some true) ↔ IsOwnedBelow version m n (FIRST_DATA + k)
 
--- The blocks of the inode are as many as it has room for, and data blocks of a disk of so many
+-- The blocks of the inode are as many as it has room for, and data blocks of a disk of this many
 -- blocks
 abbrev pub HasDataBlocks : FormatVersion → ℕ → Node → Type 0
 HasDataBlocks version blocks (File f) = (f.size ≤ most_bytes version) × AllByRecursion (IsDataBlock blocks) (file_blocks version f)
@@ -71,13 +70,13 @@ pub record IsSoundBlock (m : Map) (size b : ℕ) : Type 0 where
   pub sized : length (object m (block b)) ≡ BLOCK_BYTES
   pub padded : AllZero (drop size (object m (block b)))
 
--- so are blocks that lie one behind another
+-- so are blocks one after another
 abbrev pub AreSoundBlocks : Map → ℕ → List ℕ → Type 0
 AreSoundBlocks m size [] = Unit {0}
 AreSoundBlocks m size (b ∷ bs) = IsSoundBlock m size b × AreSoundBlocks m (size - BLOCK_BYTES) bs
 
--- What is known once the first blocks of a file were looked at, and so many bytes are left: the
--- map, the trust and the failure as for inodes
+-- The state of a scan of a file's first blocks, with this many bytes left: the map, the trust and
+-- the failure as for inodes
 pub record AreBlocksScanned (before now : Map) (trusted still failed fails : Bool) (size left : ℕ) (bs rest : List ℕ) : Type 0 where
   pub same_map : now ≡ before
   pub same_trust : still ≡ trusted
@@ -85,9 +84,8 @@ pub record AreBlocksScanned (before now : Map) (trusted still failed fails : Boo
   pub in_range : AllByRecursion (IsDataBlock before.layout.blocks) rest → AllByRecursion (IsDataBlock before.layout.blocks) bs
   pub so_far : IsTrue trusted → AreSoundBlocks before left rest ↔ AreSoundBlocks before size bs
 
--- What is known once the first inodes were looked at: the map and the trust in the reader are as
--- before, and where it is trusted, these inodes are sound and the table says whose blocks are
--- theirs
+-- The state of a scan of the first inodes: the map and the trust in the reader are as before, and
+-- if it is trusted, these inodes are sound and the table says whose blocks are theirs
 pub record IsScanned (version : FormatVersion) (before now : Map) (trusted still failed fails : Bool) (n : ℕ) (owners : List Bool) : Type 0 where
   pub same_map : now ≡ before
   pub same_trust : still ≡ trusted
@@ -108,7 +106,7 @@ AreBitsBelow m owners n = (k : ℕ) → k < n → object m (bit k) ≡ bit_asked
 abbrev pub AreAsked : List Bool → ℕ → ℕ → ℕ → Type 0
 AreAsked owners first n bits = (i : ℕ) → i < n → bit_at bits i ∷ [] ≡ bit_asked owners (first + i)
 
--- What is known once the first bits were looked at
+-- The state of a scan of the first bits
 pub record AreBitsScanned (before now : Map) (trusted still failed fails : Bool) (owners : List Bool) (n : ℕ) : Type 0 where
   pub same_map : now ≡ before
   pub same_trust : still ≡ trusted

@@ -14,7 +14,7 @@ use Rattle.journal_inode.specs.declared.place.TheConstants.{INODES}
 use Rattle.journal_inode.specs.Nodes.{inode_bytes}
 use Rattle.journal_inode.specs.Sound.{superblock_of}
 
--- each of so many blocks is all zeros
+-- each of the first blocks is all zeros
 abbrev pub AreZeros : ℕ → (ℕ → Bytes) → Type 0
 AreZeros blocks read = (b : ℕ) → b < blocks → read b ≡ zeros_of Block
 
@@ -22,7 +22,7 @@ AreZeros blocks read = (b : ℕ) → b < blocks → read b ≡ zeros_of Block
 abbrev pub inode_in : (ℕ → Bytes) → ℕ → Bytes
 inode_in read i = slice_range (read (FIRST_INODES + i / 32)) (i % 32 * 128) (i % 32 * 128 + 128)
 
--- What the blocks of a disk of this version without files read as. The log is empty, since its
+-- The blocks of a disk of this version without files, as they read. The log is empty, because its
 -- headers are zeros
 pub record IsFormatted (version : FormatVersion) (blocks : ℕ) (made : Time) (read : ℕ → Bytes) : Type 0 where
   pub superblock : read SUPERBLOCK ≡ superblock_of version blocks

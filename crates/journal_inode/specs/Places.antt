@@ -21,7 +21,7 @@ addr_of (bit i) = record { block = BITMAP; off = i }
 addr_of (inode i) = record { block = FIRST_INODES + i / 32; off = i % 32 * 1024 }
 addr_of (block b) = record { block = b; off = 0 }
 
--- a disk of so many blocks has the object
+-- a disk of this many blocks has the object
 abbrev pub IsOnDisk : ℕ → Object → Type 0
 IsOnDisk blocks superblock = Unit {0}
 IsOnDisk blocks (bit i) = i < BLOCK_BITS

@@ -1,4 +1,4 @@
--- The rule tells no equal maps apart.
+-- The rule holds of both of two equal maps, or of neither.
 use Rattle.std.proofs.Common.{ℕ, ◌≡◌, ◌<◌, ◌≤◌, ◌+◌, ◌-◌, inl, inr, List, [], ◌∷◌, ◌++◌, length, take, replicate, refl, sym, ap, subst, ◌∙◌}
 use Rattle.journal_world.specs.declared.layout.TheConstants.{MIN_BLOCKS, BLOCK_BYTES, FIRST_DATA, BLOCK_BITS}
 use Rattle.std.specs.Prelude.{IsTrue}

@@ -34,13 +34,13 @@ node_at m i = node_of (object m (inode i))
 abbrev pub file_blocks : FormatVersion → FileNode → List ℕ
 file_blocks version f = f.block ∷ take (extra_count version f.size) f.more
 
--- what blocks hold, one behind another
+-- the content of blocks, one after another
 abbrev pub held : Map → List ℕ → Value
 held m [] = []
 held m (b ∷ []) = object m (block b)
 held m (b ∷ c ∷ bs) = object m (block b) ++ held m (c ∷ bs)
 
--- what the blocks of a file hold
+-- the content of the blocks of a file
 abbrev pub stored : FormatVersion → Map → FileNode → Value
 stored version m f = held m (file_blocks version f)
 
@@ -63,7 +63,7 @@ HasBlock version _ b = ⊥
 abbrev pub IsTaken : FormatVersion → Map → ℕ → Type 0
 IsTaken version m b = (m.layout.blocks ≤ b) ⊎ ((i : ℕ) × (i < INODES) × HasBlock version (node_at m i) b)
 
--- the block is a data block of a disk of so many blocks
+-- the block is a data block of a disk of this many blocks
 abbrev pub IsDataBlock : ℕ → ℕ → Type 0
 IsDataBlock blocks b = (FIRST_DATA ≤ b) × (b < blocks)
 
@@ -101,7 +101,7 @@ IsBit v P = ((v ≡ 1 ∷ []) × P) ⊎ ((v ≡ 0 ∷ []) × (P → ⊥))
 pub record HasSoundFiles (version : FormatVersion) (m : Map) : Type 0 where
   -- the disk is cut as one with files
   pub cut : HasFiles m.layout
-  -- the superblock is that of a disk of so many blocks
+  -- the superblock is that of a disk of this many blocks
   pub begins : object m superblock ≡ superblock_of version m.layout.blocks
   -- the bytes of each inode are those of some inode, so what its kind has not is zero
   pub written : (i : ℕ) → i < INODES → object m (inode i) ≡ inode_bytes (node_at m i)

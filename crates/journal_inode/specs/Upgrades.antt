@@ -1,4 +1,4 @@
--- What becomes of a map of version 1 when its superblock says version 2.
+-- A map of version 1 whose superblock says version 2.
 use Rattle.std.specs.Prelude.{◌≡◌, false}
 use Rattle.journal_world.specs.Maps.{Map}
 use Rattle.journal_inode.specs.declared.version.FormatVersion.TheVariants.{Two}

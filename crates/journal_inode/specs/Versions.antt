@@ -14,7 +14,7 @@ abbrev pub most_bytes : FormatVersion → ℕ
 most_bytes One = 4096
 most_bytes Two = 49152
 
--- how many blocks a file of so many bytes has beside its first: block j > 0 is there where the size
+-- the number of blocks of a file of this size beside its first: block j > 0 is there if the size
 -- exceeds 4096 * j
 abbrev pub extra_count : FormatVersion → ℕ → ℕ
 extra_count One size = 0

@@ -1,4 +1,4 @@
-// What holds of the rule's definitions.
+// Laws of the rule's definitions.
 ghost use Rattle.std.specs.Prelude.{ℕ, ◌≡◌, ◌<◌, ◌+◌, ◌*◌, length, slice_index, slice_range};
 ghost use Rattle.journal_world.specs.Maps.{Map};
 ghost use Rattle.journal_inode.specs.Places.{object};
@@ -14,8 +14,8 @@ pub fn blocks_hold_the_bytes_in_order()
         → slice_range (stored version m f) (4096 * j) (4096 * j + 4096) ≡ object m (block (slice_index (file_blocks version f) j)) }
 {}
 
-/// A map of sound files of version 1 is, with the superblock of version 2 in place of its own, one
-/// of sound files of version 2.
+/// A map of sound files of version 1 becomes one of version 2, once the superblock is replaced by
+/// that of version 2.
 pub fn upgraded_files_are_sound()
     ensures { (m n : Map) → HasSoundFiles FormatVersion.One m → IsUpgraded m n → HasSoundFiles FormatVersion.Two n }
 {}

@@ -1,17 +1,17 @@
-//! What files are on a disk: inodes and their bytes, where each object of a file lies, the rule of
-//! sound files, and a disk without files.
+//! Files on a disk: inodes and their bytes, the place of each object of a file, the rule of sound
+//! files, and a disk without files.
 //!
 //! The superblock says how many blocks the disk has, and which version of the format it is of. Of
 //! the inodes 0 to 511 the first is never used, the second is the root directory's, and each other
-//! is free or a file's. A file's inode names the blocks that hold its bytes, of which there is one
-//! in version 1 and are up to twelve in version 2, and the bitmap says which data blocks are taken.
+//! is free or a file's. A file's inode names the blocks that hold its bytes. There is one in
+//! version 1, and there are up to twelve in version 2. The bitmap says which data blocks are taken.
 //!
-//! Contracts see the bytes of an inode as a `Node`, and what is written of a `Node` is read as it
-//! again. `specs/Sound.antt` has the rule of sound files. `SoundFiles` decides it in one pass: over
-//! the inodes, which fills a table of the blocks that files have, and then over the bitmap, which
-//! that table foretells. `format` makes a disk without files, whose map the rule holds of. What is
-//! sound in version 1 is sound in version 2 too, once the superblock says so
-//! (`upgraded_files_are_sound`).
+//! Contracts see the bytes of an inode as a `Node`, and the bytes that are written of a `Node` are
+//! read as it again. `specs/Sound.antt` has the rule of sound files. `SoundFiles` decides it in one
+//! pass: over the inodes, which fills a table of the blocks that files have, and then over the
+//! bitmap, which has to agree with that table. `format` makes a disk without files, whose map meets
+//! the rule. A map that is sound in version 1 is sound in version 2 too, once the superblock says
+//! so (`upgraded_files_are_sound`).
 #![tactic(auto)]
 
 mod law;

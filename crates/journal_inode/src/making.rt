@@ -23,11 +23,13 @@ use std::alloc::Global;
 
 /// Makes a disk of this version without files of a disk of zeros: writes its superblock, the bitmap
 /// of its data blocks, and the root directory's inode, with this moment as its time. The log is
-/// empty, since its headers are zeros. Nothing is pending then. Where no write of the disk was lost
-/// by a failed barrier before, none is.
+/// empty, because its headers are zeros. Nothing is pending then. If no failed barrier lost a write
+/// of the disk before, none is lost.
 ///
-/// Answers J1 `NoMemory` where memory for a block is refused, and J6 `DeviceFailed` where the
-/// device failed meanwhile. The disk is handed back then, and what its blocks hold is not said.
+/// # Errors
+/// The disk is given back, and the content of its blocks is not specified.
+/// - `J1 NoMemory`: memory for a block is refused.
+/// - `J6 DeviceFailed`: the device failed meanwhile.
 pub fn format<D: BlockDisk>(
     alloc: Global,
     disk: D,
@@ -59,7 +61,7 @@ pub fn format<D: BlockDisk>(
     }
 }
 
-// Writes what is not left as zeros, and makes it stable.
+// Writes the blocks that are not all zeros, and makes them stable.
 fn write_all<D: BlockDisk>(
     alloc: Global,
     disk: &mut D,
@@ -86,7 +88,7 @@ fn write_all<D: BlockDisk>(
     sync(disk)
 }
 
-// The superblock of a disk of this version and so many blocks.
+// The superblock of a disk of this version with `blocks` blocks.
 fn super_block(alloc: Global, version: FormatVersion, blocks: u64) -> Result<Block, Refusal<()>>
     ensures bytes { IfOk result (λ block. block ≡ superblock_of version blocks) }
     ensures refusal { IsOkUnless result Refusal.NoMemory }
@@ -124,7 +126,7 @@ fn first_inodes(alloc: Global, made: Time) -> Result<Block, Refusal<()>>
     Ok(block)
 }
 
-// Writes a block. It may be pending or not where that is refused.
+// Writes a block. If that is refused the write may be pending or not.
 fn write<D: BlockDisk>(disk: &mut D, block: u64, bytes: &Block) -> Result<(), Refusal<()>>
     requires { block < (D.state disk.old).past.size }
     ensures keeps { Keeps (D.state disk.old) (D.state disk.new) }
@@ -138,7 +140,7 @@ fn write<D: BlockDisk>(disk: &mut D, block: u64, bytes: &Block) -> Result<(), Re
     }
 }
 
-// Makes what was written stable.
+// Makes the pending writes stable.
 fn sync<D: BlockDisk>(disk: &mut D) -> Result<(), Refusal<()>>
     ensures keeps { Keeps (D.state disk.old) (D.state disk.new) }
     ensures synced { IsTrue (D.state disk.old).honest → OnOk result

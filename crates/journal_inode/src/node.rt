@@ -7,7 +7,7 @@ use journal_world::Moment;
 
 /// The most bytes that a file of version 1 has.
 pub const FILE_BYTES: u64 = 4096;
-/// How many numbers of blocks an inode has room for beside the first.
+/// The number of blocks that an inode has room for beside the first.
 pub const MORE_BLOCKS: usize = 11;
 /// The bytes of an inode.
 pub const NODE_BYTES: usize = 128;
@@ -19,7 +19,7 @@ const ROOT: u32 = 1;
 
 const FILE: u32 = 2;
 
-// Where the fields lie.
+// The places of the fields.
 const KIND_AT: usize = 0;
 
 const GENERATION_AT: usize = 4;
@@ -42,7 +42,7 @@ const ROOT_GENERATION: u32 = 1;
 pub struct Time {
     /// Seconds, modulo 2^32.
     pub secs: u32,
-    /// Nanoseconds of the second that has begun.
+    /// Nanoseconds of the current second.
     pub nanos: u32,
 }
 
@@ -61,18 +61,18 @@ impl Time {
     }
 }
 
-/// What the inode of a file has.
+/// The fields of a file's inode.
 #[derive(Clone, Copy, Debug, PartialEq, Eq)]
 pub struct FileNode {
-    /// How many files had this inode so far, this one included.
+    /// The number of files that had this inode so far, this one included.
     pub generation: u32,
-    /// How many bytes the file has.
+    /// The number of bytes of the file.
     pub size: u64,
     /// The block that holds the first 4096 of them.
     pub block: u64,
-    /// The blocks that hold those behind them, 4096 each. Where there is none, its number is 0.
+    /// The blocks of the bytes after them, 4096 each. If there is none, its number is 0.
     pub more: [u64; MORE_BLOCKS],
-    /// When they were last changed.
+    /// The time of their last change.
     pub mtime: Time,
 }
 
@@ -105,7 +105,7 @@ impl Node {
         ensures read { result ≡ node_of bytes.now }
         ensures fits { Fits result }
 
-        // What was written is read again, and writes the same bytes.
+        // Bytes that were written of an inode are read as it again, and it writes the same bytes.
         ensures read_back { (node : Node) → Fits node → bytes.now ≡ inode_bytes node → result ≡ node }
         ensures writes_back { (node : Node) → Fits node → bytes.now ≡ inode_bytes node
             → inode_bytes result ≡ bytes.now }

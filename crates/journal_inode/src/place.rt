@@ -1,14 +1,14 @@
-// Where the objects of the files lie.
+// The addresses of the files' objects.
 ghost use Rattle.std.specs.Prelude.{◌≡◌, ◌<◌, ◌≤◌, ◌+◌, ◌-◌};
 ghost use Rattle.journal_inode.specs.Places.{addr_of};
 ghost use Rattle.journal_inode.specs.Places.Object.{bit, inode, block};
 
 use journal_world::{Addr, BITMAP, BLOCK_BITS, FIRST_DATA, FIRST_INODES};
 
-/// How many inodes there are.
+/// The number of inodes.
 pub const INODES: u32 = 512;
 
-/// Where inode `i` lies.
+/// The address of inode `i`.
 pub fn inode_addr(i: u32) -> Addr
     requires { i < INODES }
     ensures { result ≡ addr_of (inode i) }
@@ -19,7 +19,7 @@ pub fn inode_addr(i: u32) -> Addr
     }
 }
 
-/// Where the bit of a data block lies.
+/// The address of a data block's bit.
 pub fn bit_addr(number: u64) -> Addr
     requires from { FIRST_DATA ≤ number }
     requires to { number < FIRST_DATA + BLOCK_BITS }
@@ -31,7 +31,7 @@ pub fn bit_addr(number: u64) -> Addr
     }
 }
 
-/// Where a data block lies.
+/// The address of a data block.
 pub fn block_addr(number: u64) -> Addr
     ensures { result ≡ addr_of (block number) }
 {

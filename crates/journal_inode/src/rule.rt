@@ -1,4 +1,4 @@
-// Whether the files of a map are sound.
+// The rule of sound files.
 ghost use Rattle.std.specs.Prelude.{ℕ, ◌≡◌, ◌<◌, ◌≤◌, ◌+◌, ◌↔◌, length, unwrap_or, slice_get, true, IsTrue, IfOk, IfErr, IfSome, MatchOption};
 ghost use Rattle.std.specs.List.{AllByRecursion};
 ghost use Rattle.journal_inode.specs.Sound.{superblock_of, node_at, IsDataBlock, IsInPlace, IsSoundFile};
@@ -19,7 +19,7 @@ use std::alloc::Global;
 use std::marker::PhantomData;
 use std::sync::OnceLock;
 
-// How many bits are read at once.
+// The number of bits that are read at once.
 const WORD_BITS: u32 = 64;
 
 /// The rule of sound files of a version: the disk has the layout of files, the superblock is the
@@ -46,7 +46,7 @@ impl<V: Version> SoundFiles<V> {
     }
 
     /// The table that `admit` made of the first map whose inodes were sound: for each data block,
-    /// whether a file has it. It is a hint, of which nothing is promised.
+    /// whether a file has it. It is a hint, and no clause speaks of it.
     pub fn into_owners(self) -> Option<Vec<bool>> {
         let SoundFiles {
             alloc: _,
@@ -86,7 +86,7 @@ impl<V: Version> MapRule for SoundFiles<V> {
     }
 }
 
-// Whether the superblock is that of the disk. The map stays.
+// True if the superblock is that of the disk. The map stays.
 fn has_superblock<O: ObjectReader>(
     reader: &mut O,
     version: FormatVersion,
@@ -108,7 +108,7 @@ fn has_superblock<O: ObjectReader>(
     Ok(is_superblock(value.bytes(), version, blocks))
 }
 
-// Whether the inode may have the number i.
+// True if the inode may have the number i.
 fn is_in_place(i: u32, node: Node) -> bool
     ensures { IsTrue result ↔ IsInPlace i node }
 {
@@ -119,7 +119,7 @@ fn is_in_place(i: u32, node: Node) -> bool
     }
 }
 
-// Whether a file is sound by itself. The map stays.
+// True if a file is sound by itself. The map stays.
 fn is_file_sound<O: ObjectReader>(
     reader: &mut O,
     version: FormatVersion,
@@ -145,14 +145,14 @@ fn is_file_sound<O: ObjectReader>(
     are_blocks_sound(reader, &file.numbers()[..=more], size)
 }
 
-// Whether all numbers are 0.
+// True if all numbers are 0.
 fn are_absent(numbers: &[u64]) -> bool
     ensures { IsTrue result ↔ AllZero numbers.now }
 {
     numbers.iter().all(|number| *number == 0)
 }
 
-// Whether these are data blocks, and their bytes from a size on are zero. The map stays.
+// True if these are data blocks, and their bytes from a size on are zero. The map stays.
 fn are_blocks_sound<O: ObjectReader>(
     reader: &mut O,
     blocks: &[u64],
@@ -178,7 +178,7 @@ fn are_blocks_sound<O: ObjectReader>(
     Ok(true)
 }
 
-// Whether this is a data block, and its bytes from a size on are zero. The block is read only where
+// True if this is a data block, and its bytes from a size on are zero. The block is read only if
 // there are such bytes. The map stays.
 fn is_block_sound<O: ObjectReader>(
     reader: &mut O,
@@ -199,14 +199,14 @@ fn is_block_sound<O: ObjectReader>(
         return Ok(false);
     }
     if size >= BLOCK_BYTES as u64 {
-        // The file goes on past the block, so none of its bytes has to be zero.
+        // The file goes on after the block, so none of its bytes has to be zero.
         return Ok(true);
     }
     let value = reader.read(block_addr(block))?;
     Ok(are_zero(&value.bytes()[size as usize..]))
 }
 
-// The inode of a number, or `None` where it is not sound. The map stays.
+// The inode of a number, or `None` if it is not sound. The map stays.
 fn sound_inode<O: ObjectReader>(
     reader: &mut O,
     version: FormatVersion,
@@ -236,8 +236,8 @@ fn sound_inode<O: ObjectReader>(
     Ok(Some(node))
 }
 
-// The table of owners, which says of each data block whether a file has it; `None` where an inode
-// is not sound, or two files have one block. The map stays.
+// The table of owners, which says of each data block whether a file has it. `None` if an inode is
+// not sound, or two files have one block. The map stays.
 fn owners<O: ObjectReader>(
     reader: &mut O,
     version: FormatVersion,
@@ -267,7 +267,7 @@ fn owners<O: ObjectReader>(
     Ok(Some(owners))
 }
 
-// Notes the blocks of an inode as owned; no where one of them is owned already.
+// Notes the blocks of an inode as owned. False if one of them is owned already.
 fn claim(owners: &mut Vec<bool>, version: FormatVersion, node: Node) -> bool
     requires { HasDataBlocks version (FIRST_DATA + length owners.old.items) node }
     ensures claims { Claims version node owners.old.items owners.new.items result }
@@ -282,7 +282,7 @@ fn claim(owners: &mut Vec<bool>, version: FormatVersion, node: Node) -> bool
     }
 }
 
-// Notes blocks as owned; no where one of them is owned already.
+// Notes blocks as owned. False if one of them is owned already.
 fn mark(owners: &mut Vec<bool>, blocks: &[u64]) -> bool
     requires { AllByRecursion (IsDataBlock (FIRST_DATA + length owners.old.items)) blocks.now }
     ensures marks { MarksOrMeets blocks.now owners.old.items owners.new.items result }
@@ -298,7 +298,7 @@ fn mark(owners: &mut Vec<bool>, blocks: &[u64]) -> bool
     true
 }
 
-// Whether each bit of the bitmap is as the table says, and set past its end. The map stays.
+// True if each bit of the bitmap is as the table says, and set past its end. The map stays.
 fn are_bits_sound<O: ObjectReader>(
     reader: &mut O,
     owners: &[bool],
@@ -321,7 +321,7 @@ fn are_bits_sound<O: ObjectReader>(
     Ok(true)
 }
 
-// Whether the bits of a number are those that the table asks for, from a place of it on.
+// True if the bits of a number are those that the table asks for, from a place of it on.
 fn are_bits_asked(bits: u64, owners: &[bool], first: usize) -> bool
     requires { first ≤ BLOCK_BITS }
     ensures { IsTrue result ↔ AreAsked owners.now first WORD_BITS bits }
@@ -335,7 +335,7 @@ fn are_bits_asked(bits: u64, owners: &[bool], first: usize) -> bool
     true
 }
 
-// Whether the bit of a place is to be set: its block has an owner, or is not there.
+// True if the bit of a place has to be set: its block has an owner, or is not there.
 fn is_taken(owners: &[bool], k: usize) -> bool
     ensures { result ≡ unwrap_or (slice_get owners.now k) true }
 {

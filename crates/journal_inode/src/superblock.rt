@@ -7,13 +7,13 @@ ghost use Rattle.journal_inode.specs.Admitting.{AllZero};
 use crate::FormatVersion;
 use crate::node::put;
 
-/// What a superblock begins with.
+/// The first bytes of a superblock.
 const MAGIC: &[u8; 8] = b"GJNLDSK1";
-/// Where the version lies.
+/// The byte of the version.
 const VERSION_AT: usize = 8;
-/// Where the number of blocks lies.
+/// The byte of the number of blocks.
 const BLOCKS_AT: usize = 16;
-/// How many bytes of a superblock are not all zero.
+/// The number of bytes of a superblock that are not all zero.
 pub(crate) const FRONT_BYTES: usize = 24;
 
 // The name of the format, its version and the number of blocks.
@@ -27,7 +27,7 @@ pub(crate) fn front(version: FormatVersion, blocks: u64) -> [u8; FRONT_BYTES]
     front
 }
 
-// Whether these are the bytes of the superblock.
+// True if these are the bytes of the superblock.
 pub(crate) fn is_superblock(bytes: &[u8], version: FormatVersion, blocks: u64) -> bool
     requires { length bytes.now ≡ BLOCK_BYTES }
     ensures { IsTrue result ↔ (bytes.now ≡ superblock_of version blocks) }
@@ -45,7 +45,7 @@ fn are_same(left: &[u8], right: &[u8]) -> bool
     left == right
 }
 
-// Whether all bytes are zero.
+// True if all bytes are zero.
 pub(crate) fn are_zero(bytes: &[u8]) -> bool
     ensures { IsTrue result ↔ AllZero bytes.now }
 {

@@ -35,7 +35,7 @@ impl FormatVersion {
         }
     }
 
-    /// How many blocks a file of so many bytes has beside its first.
+    /// The number of blocks of a file of `size` bytes beside its first.
     pub fn extra_count(self, size: u64) -> usize
         ensures { result ≡ extra_count self size }
     {

@@ -1,4 +1,4 @@
--- What contracts see of the slots' numbers, and of a slot that is held.
+-- The slots' numbers, and a held slot, as contracts see them.
 use Rattle.std.specs.Prelude.{ℕ, ◌≡◌, ◌<◌, ◌+◌, ◌==◌, if◌then◌else◌, Bool, false, IsTrue, List, length, map, All, slice_index, slice_index_or}
 use Rattle.std.specs.List.{list_any}
 use Rattle.atomic_table.specs.Seated.{TableId}
@@ -12,15 +12,15 @@ pub record HeldState : Type 0 where
   pub slot : ℕ
   pub count : ℕ
 
--- A pass of the journal's cell that knows the number of this slot alone, one of so many
+-- A pass of the journal's cell that knows the number of this slot alone
 pub record IsToken (journal : TableId) (slots slot : ℕ) (of : TableId) (holds : Type 0) (v : View) : Type 0 where
   pub cell : of ≡ journal
   pub fresh : holds
   pub view : v ≡ token slot v.count
   pub small : slot < slots
 
--- A cell of the journal, with the pass that knows the numbers of all its slots, of which there are
--- so many and each has a token
+-- A cell of the journal, with the pass that knows the numbers of all its slots, each of which has a
+-- token
 pub record IsKeeper (journal : TableId) (slots : ℕ) (cell of : TableId) (v : View) : Type 0 where
   pub cell_is : cell ≡ journal
   pub pass_is : of ≡ journal
@@ -31,7 +31,7 @@ pub record IsKeeper (journal : TableId) (slots : ℕ) (cell of : TableId) (v : V
 abbrev pub HasNumber : List ℕ → HeldState → Type 0
 HasNumber counts h = (h.slot < length counts) × (h.count ≡ slice_index counts h.slot)
 
--- what is held agrees with the numbers
+-- the held slots agree with the numbers
 abbrev pub Agree : List ℕ → List HeldState → Type 0
 Agree counts held = All (HasNumber counts) held
 
@@ -43,7 +43,7 @@ slots_of held = map (λ h. h.slot) held
 abbrev pub is_written : Shape → List Pair → ℕ → Bool
 is_written layout writes slot = list_any (λ p. slot_of layout p.0 == slot) writes
 
--- some slots, as a flag for each: whether this one is one of them
+-- the slot is one of some slots, which have a flag each
 abbrev pub is_in : List Bool → ℕ → Bool
 is_in flags slot = slice_index_or flags slot false
 

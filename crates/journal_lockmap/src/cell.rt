@@ -4,15 +4,15 @@ use crossbeam_utils::atomic::seq_cell::{Pass, RuledSeqCell};
 use crossbeam_utils::rule::{Outcome, Protocol};
 use std::collections::LinkedList;
 
-/// What a pass knows: the keeper the number of every slot, a token that of its own. No value of it
-/// is made.
+/// The knowledge of a pass. The keeper knows the number of every slot, and a token knows that of
+/// its own slot. No value of this type is made.
 pub struct View {
-    /// Whether it is the keeper: its `counts` are the slots' numbers, and the first `made` slots
+    /// True if it is the keeper: its `counts` are the slots' numbers, and the first `made` slots
     /// have tokens.
     pub keeps: bool,
     pub counts: LinkedList<u64>,
     pub made: u64,
-    /// Whether it has a token: that of `slot`, which `count` commits touched.
+    /// True if it has a token: that of `slot`, which `count` commits touched.
     pub has: bool,
     pub slot: u64,
     pub count: u64,
@@ -89,7 +89,7 @@ impl Join<View> for Off {
     ghost spent = { nobody };
 }
 
-/// The cell. Its one word says nothing: all that is known of slots stands in the passes' views.
+/// The cell. Its one word has no meaning: the passes' views have all that is known of slots.
 pub type Cell = RuledSeqCell<[u64; 1], View, Counted, 1>;
 
 /// A pass of the cell.

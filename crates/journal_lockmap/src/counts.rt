@@ -19,7 +19,7 @@ use std::marker::Model;
 use std::sync::Wait;
 
 /// The cells of a journal that has no name yet: that of its slots, and that of its sessions.
-/// Contracts see which cells they are, so that whoever opens the journal can name it by them.
+/// Contracts see which cells they are, so whoever opens the journal can name it by them.
 #[derive(Drop)]
 pub struct SlotCell {
     cell: Cell,
@@ -41,7 +41,10 @@ impl Model for SlotCell {
 }
 
 impl SlotCell {
-    /// New cells. Where memory is refused nothing was made.
+    /// New cells.
+    ///
+    /// # Errors
+    /// - Memory is refused. Nothing was made.
     pub fn open(alloc: Global) -> Result<SlotCell, AllocError> {
         let (cell, first) = Cell::ruled(alloc, [0])?;
         let sessions = SessionCell::open(alloc)?;
@@ -54,15 +57,15 @@ impl SlotCell {
 }
 
 /// The numbers of commits that touched each slot. Contracts see them in the slots' order. They
-/// stand in proofs alone, as what one pass of the cell, the keeper, knows; a token knows that of
+/// exist in proofs alone: one pass of the cell, the keeper, knows them, and a token knows that of
 /// its slot.
 #[derive(Drop)]
 pub struct SlotCounts<J: Naming> {
     keeper: Keeper<J>,
     layout: Layout,
-    // A flag for each slot, which marks those that a commit writes while it is counted. They are
-    // kept from one commit to the next, so that none has to make them, however many slots there
-    // are. There are none where a commit has them on its stack.
+    // A flag for each slot. A commit marks those that it writes while it is counted. The flags are
+    // kept from one commit to the next, so that no commit has to make them, however many slots
+    // there are. There are none where a commit has its flags on the stack.
     written: Vec<bool>,
 }
 
@@ -81,8 +84,11 @@ impl<J: Naming> Model for SlotCounts<J> {
 
 impl<J: Naming> SlotCounts<J> {
     /// The numbers of the journal that has these cells, and its slots, as many as its layout has,
-    /// with a token for each. No commit touched any, and all are free. With them come the numbers
-    /// of commits of its sessions: there is none. Where memory is refused the cells are gone.
+    /// with a token for each. No commit touched any, and all are free. The numbers of commits of
+    /// its sessions are returned too: there is no session.
+    ///
+    /// # Errors
+    /// - Memory is refused. The cells are dropped.
     pub fn begin(
         alloc: Global,
         cell: SlotCell,
@@ -116,8 +122,8 @@ impl<J: Naming> SlotCounts<J> {
         Ok((counts, slots, SessionCounts::begin(sessions)))
     }
 
-    /// Shows that the numbers of what is held are those that are kept here. Nothing changes, and it
-    /// waits for nobody.
+    /// Shows that the numbers of the held slots are those that are kept here. Nothing changes, and
+    /// the call does not block.
     pub fn verify_tokens<W: Wait>(&mut self, rt: &W, held: &mut [Held<J>])
         ensures same { self.new ≡ self.old }
         ensures held { held.new ≡ held.old }
@@ -128,10 +134,10 @@ impl<J: Naming> SlotCounts<J> {
         }
     }
 
-    /// Counts one more commit, which writes these addresses, of slots that are held: a slot once,
-    /// however many addresses of it the commit writes. What is held agrees then, and holds the same
-    /// slots. It takes no memory, waits for nobody, and goes over the writes once and over what is
-    /// held once.
+    /// Counts one more commit, which writes these addresses, of slots that are held. A slot counts
+    /// once, however many of its addresses the commit writes. Then the held slots are the same and
+    /// agree. The call takes no memory and does not block. It goes over the writes once and over
+    /// the held slots once.
     pub fn count_writes<W: Wait>(&mut self, rt: &W, held: &mut [Held<J>], writes: &Objects)
         requires apart { AreApart held.old }
         requires covered { HoldsSlots J.layout held.old writes.now }
@@ -145,8 +151,8 @@ impl<J: Naming> SlotCounts<J> {
             written,
         } = self;
         if layout.slots == SLOTS {
-            // On the thread's own stack: flags that all threads share wander from one processor to
-            // the next. Most layouts have so few slots.
+            // On the thread's own stack, because flags that all threads share move from one
+            // processor to the next. Most layouts have no more slots than this.
             let mut flags = [false; SLOTS as usize];
             count_marked(rt, keeper, layout, &mut flags, held, writes);
         } else {
@@ -155,8 +161,8 @@ impl<J: Naming> SlotCounts<J> {
     }
 }
 
-// Counts one more commit, by a flag for each slot. None is marked before it, and none after it. In
-// between those are that the commit writes and whose turn among what is held has not come.
+// Counts one more commit, by a flag for each slot. No flag is set before it, and none after it. In
+// between, a flag is set if the commit writes the slot and the loop has not reached it yet.
 fn count_marked<J: Naming, W: Wait>(
     rt: &W,
     keeper: &mut Keeper<J>,

@@ -12,7 +12,7 @@ use std::marker::Model;
 /// A slot that its holder took, with the slot's token. Contracts see which slot, and how many
 /// commits touched it.
 ///
-/// A `LockMap` gives it, and `LockMap::release` alone spends it: a `Held` that is let go does not
+/// A `LockMap` gives it, and only `LockMap::release` consumes it. Code that drops a `Held` does not
 /// compile. The token takes no memory.
 pub struct Held<J: Naming> {
     pub(crate) token: Token<J>,
@@ -38,7 +38,7 @@ impl<J: Naming> Held<J> {
         self.token.slot()
     }
 
-    // Takes the slot if its token lies in the place.
+    // Takes the slot if its token is in the place.
     pub(crate) fn take(place: &mut Place<J>, slot: u16) -> Option<Held<J>>
         requires in_range { slot < J.layout.slots }
         ensures free { IsSome result ↔ (is_taken place.old slot ≡ false) }
@@ -56,7 +56,7 @@ impl<J: Naming> Held<J> {
         }
     }
 
-    // Frees the slot: its token lies in the place.
+    // Frees the slot: its token goes back to the place.
     pub(crate) fn give_back(self, place: &mut Place<J>)
         requires empty { place.old ≡ none_free J.layout.slots }
         ensures free { is_taken place.new self.slot ≡ false }

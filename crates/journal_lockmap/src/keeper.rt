@@ -1,4 +1,4 @@
-// What one pass of the cell knows: how many commits touched each slot.
+// How many commits touched each slot, as one pass of the cell knows it.
 ghost use Rattle.std.specs.Prelude.{◌≡◌, ◌+◌, length, slice_index, slice_set};
 ghost use Rattle.crossbeam_utils.specs.Seq.{cell_view};
 ghost use Rattle.journal_lockmap.specs.Tokens.{keeper};
@@ -47,7 +47,7 @@ impl<J: Naming> Keeper<J> {
         }
     }
 
-    // Shows that what is held agrees with the numbers. Nothing changes.
+    // Shows that the held slot agrees with the numbers. Nothing changes.
     pub(crate) fn verify_token<W: Wait>(&mut self, rt: &W, held: &mut Held<J>)
         ensures same { self.new ≡ self.old }
         ensures held { held.new ≡ held.old }

@@ -15,18 +15,18 @@ use std::fmt::Debug;
 use std::hint::spin_loop;
 use std::sync::{Condvar, Mutex, Wait};
 
-// How often a slot is looked at before whoever waits for it sleeps.
+// How often a thread looks at a taken slot before it sleeps.
 const SPIN_TURNS: u32 = 32;
 
-// How long it waits between two looks: so many of the processor's pauses, each of some tens of
-// nanoseconds.
+// How long a thread waits between two looks: this many of the processor's pauses, each of some tens
+// of nanoseconds.
 const SPIN_PAUSES: u32 = 16;
 
-// The most slots whose locks lie on lines of their own. With more of them two threads seldom meet
+// The most slots whose locks have cache lines of their own. With more slots two threads seldom meet
 // on a line by chance, and lines of their own would take 150 bytes and more a slot.
 const MAX_PADDED: u16 = 1024;
 
-// What belongs to one slot: its place, and the condition variable on which those sleep who wait for
+// The parts of one slot: its place, and the condition variable on which threads sleep that wait for
 // the slot.
 #[derive(Drop)]
 struct SlotLock<J: Naming> {
@@ -35,7 +35,7 @@ struct SlotLock<J: Naming> {
 }
 
 impl<J: Naming> SlotLock<J> {
-    // The lock of a slot whose token is still to come.
+    // The lock of a slot whose token is put in later.
     fn new() -> SlotLock<J> {
         SlotLock {
             place: Mutex::new(Place::new(None)),
@@ -43,7 +43,7 @@ impl<J: Naming> SlotLock<J> {
         }
     }
 
-    // Takes the slot if its token lies here. The lock is let go before anything else is done.
+    // Takes the slot if its token is here. The lock is released before anything else is done.
     fn take<R: Wait>(&self, rt: &R, slot: u16) -> Option<Held<J>>
         requires in_range { slot < J.layout.slots }
         ensures { IfSome result (λ held. held.slot ≡ slot) }
@@ -52,23 +52,26 @@ impl<J: Naming> SlotLock<J> {
     }
 }
 
-/// A lock and a condition variable for each slot, for those who wait for it, with the place in
-/// which its token is to lie: all the memory that a lock map needs beside its slots.
+/// All the memory that a lock map needs beside its slots: for each slot a lock, a condition
+/// variable for the threads that wait for it, and the place of its token.
 ///
 /// It is made before the slots are, so that nothing can be refused between the making of a
 /// journal's slots and their lock map.
 #[derive(Drop)]
 pub struct SlotLocks<J: Naming> {
-    // Each on lines of its own, so that threads that take different slots write no line in common.
-    // None where there are more slots than `MAX_PADDED`.
+    // Each on cache lines of its own, so that threads that take different slots write no line in
+    // common. Empty if there are more slots than `MAX_PADDED`.
     padded: Vec<CachePadded<SlotLock<J>>>,
-    // Those of the slots after them, side by side.
+    // The locks of the slots after those, side by side.
     packed: Vec<SlotLock<J>>,
     ghost one_each: { vec_len padded + vec_len packed ≡ J.layout.slots },
 }
 
 impl<J: Naming> SlotLocks<J> {
-    /// A lock for each slot of the layout. Where memory is refused nothing was made.
+    /// A lock for each slot of the layout.
+    ///
+    /// # Errors
+    /// - Memory is refused. Nothing was made.
     pub fn new(alloc: Global, layout: Layout) -> Result<SlotLocks<J>, AllocError>
         requires layout { shape layout ≡ J.layout }
     {
@@ -113,7 +116,7 @@ impl<J: Naming> SlotLocks<J> {
     }
 }
 
-// So many locks, each on lines of its own.
+// Locks for this many slots, each on cache lines of its own.
 fn padded_locks<J: Naming>(
     alloc: Global,
     slots: u16,
@@ -127,7 +130,7 @@ fn padded_locks<J: Naming>(
     Ok(locks)
 }
 
-// So many locks, side by side.
+// Locks for this many slots, side by side.
 fn packed_locks<J: Naming>(alloc: Global, slots: u16) -> Result<Vec<SlotLock<J>>, AllocError>
     ensures { IfOk result (λ locks. vec_len locks ≡ slots) }
 {
@@ -138,14 +141,14 @@ fn packed_locks<J: Naming>(alloc: Global, slots: u16) -> Result<Vec<SlotLock<J>>
     Ok(locks)
 }
 
-// Lays the tokens into their places.
+// Puts the tokens into their places.
 fn put_padded<J: Naming>(locks: &mut [CachePadded<SlotLock<J>>], tokens: Vec<Option<Token<J>>>) {
     for (slot_lock, token) in locks.iter_mut().zip(tokens) {
         *slot_lock.place.get_mut() = Place::new(token);
     }
 }
 
-// Lays the tokens into their places.
+// Puts the tokens into their places.
 fn put_packed<J: Naming>(locks: &mut [SlotLock<J>], tokens: Vec<Option<Token<J>>>) {
     for (slot_lock, token) in locks.iter_mut().zip(tokens) {
         *slot_lock.place.get_mut() = Place::new(token);
@@ -162,24 +165,24 @@ impl<J: Naming> Debug for SlotLocks<J> {
 /// number of slots.
 ///
 /// Each slot has a lock of its own, so threads that take different slots do not meet. Each slot has
-/// a condition variable of its own, on which those sleep who wait for it. So a release wakes no one
-/// in vain who waits for another slot, and it need wake only one: that one takes the slot, or finds
-/// it taken by someone whose release wakes the next.
+/// a condition variable of its own for the threads that wait for it. So a release wakes no thread
+/// that waits for another slot, and it need wake only one. That thread takes the slot, or finds it
+/// taken by a holder whose release wakes the next.
 #[derive(Drop)]
 pub struct LockMap<J: Naming> {
     slot_locks: SlotLocks<J>,
 }
 
 impl<J: Naming> LockMap<J> {
-    /// A lock map of these slots. It takes no memory, and neither does any later call.
+    /// A lock map of these slots. The call takes no memory, and neither does any later call.
     pub fn new(slot_locks: SlotLocks<J>, slots: Slots<J>) -> LockMap<J> {
         LockMap {
             slot_locks: slot_locks.with_tokens(slots.free),
         }
     }
 
-    /// Takes the slot, and waits for it as long as someone holds it: for ever where that is the
-    /// caller.
+    /// Takes the slot. It waits as long as someone holds the slot: for ever if the caller itself
+    /// does.
     pub fn acquire<R: Wait>(&self, rt: &R, slot: u16) -> Held<J>
         requires in_range { slot < J.layout.slots }
         ensures { result.slot ≡ slot }
@@ -195,8 +198,8 @@ impl<J: Naming> LockMap<J> {
         Held::take(&mut place, slot).unwrap()
     }
 
-    // Takes the slot if it is free within some microseconds: most are held for less time than a
-    // sleep and a wake take.
+    // Takes the slot if it is free within some microseconds: most slots are held for less time than
+    // a sleep and a wake take.
     fn spin_for<R: Wait>(&self, rt: &R, slot: u16) -> Option<Held<J>>
         requires in_range { slot < J.layout.slots }
         ensures { IfSome result (λ held. held.slot ≡ slot) }
@@ -210,9 +213,10 @@ impl<J: Naming> LockMap<J> {
         None
     }
 
-    /// Takes the slot if it is free. It waits for no slot.
+    /// Takes the slot if it is free. The call does not wait for the slot.
     ///
-    /// Answers J5 `Busy`, and nothing else, where someone holds the slot; it changes nothing then.
+    /// # Errors
+    /// - `J5 Busy`: someone holds the slot. Nothing changed.
     pub fn try_acquire<C, R: Wait>(&self, rt: &R, slot: u16) -> Result<Held<J>, Refusal<C>>
         requires in_range { slot < J.layout.slots }
         ensures held { IfOk result (λ held. held.slot ≡ slot) }
@@ -224,13 +228,14 @@ impl<J: Naming> LockMap<J> {
             .ok_or_else(|| Refusal::Busy)
     }
 
-    /// Frees the slot, and wakes one of those who wait for it. It waits for no slot.
+    /// Frees the slot, and wakes one of the threads that wait for it. The call does not wait for a
+    /// slot.
     ///
     /// The caller gives a `Held` to the lock map that it came from.
     pub fn release<R: Wait>(&self, rt: &R, held: Held<J>) {
         let slot_lock = self.slot_locks.of(held.slot());
         let place = slot_lock.place.lock(rt);
-        // Each slot has one token, so none lies there, and this waits for nothing.
+        // Each slot has one token, so the place is empty, and this does not block.
         let mut place = slot_lock
             .freed
             .wait_while(rt, place, |place| !place.is_empty());
@@ -246,7 +251,7 @@ impl<J: Naming> Debug for LockMap<J> {
     }
 }
 
-// Lets some time go by.
+// Passes a short time.
 fn pause() {
     for _ in 0..SPIN_PAUSES {
         spin_loop();

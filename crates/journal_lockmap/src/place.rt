@@ -6,8 +6,8 @@ use crate::token::Token;
 use journal_history::Naming;
 use std::marker::Model;
 
-/// The place in which the token of one slot lies while the slot is free. Contracts see the table of
-/// all slots, in which each slot reads as taken whose token does not lie here.
+/// The place of one slot's token while the slot is free. Contracts see the table of all slots, in
+/// which a slot is taken if its token is not here.
 #[derive(Drop)]
 pub(crate) struct Place<J: Naming> {
     token: Option<Token<J>>,
@@ -22,21 +22,21 @@ impl<J: Naming> Model for Place<J> {
 }
 
 impl<J: Naming> Place<J> {
-    // A place in which this token lies, or none.
+    // A place with this token, or an empty one.
     pub(crate) fn new(token: Option<Token<J>>) -> Place<J>
         ensures { result ≡ table_with J.layout.slots token }
     {
         Place { token }
     }
 
-    // Whether no token lies here.
+    // True if no token is here.
     pub(crate) fn is_empty(&self) -> bool
         ensures { IsTrue result → self.now ≡ none_free J.layout.slots }
     {
         self.token.is_none()
     }
 
-    // Whether the slot's token does not lie here.
+    // True if the slot's token is not here.
     pub(crate) fn is_taken(&self, slot: u16) -> bool
         requires in_range { slot < J.layout.slots }
         ensures { result ≡ is_taken self.now slot }
@@ -47,7 +47,7 @@ impl<J: Naming> Place<J> {
         }
     }
 
-    // Takes the slot's token, if it lies here. If it does not, nothing changes.
+    // Takes the slot's token, if it is here. Otherwise nothing changes.
     pub(crate) fn mark(&mut self, slot: u16) -> Option<Token<J>>
         requires in_range { slot < J.layout.slots }
         ensures free { IsSome result ↔ (is_taken self.old slot ≡ false) }

@@ -1,5 +1,5 @@
-// Some of the slots, as a flag for each. To mark one, and to ask for one, takes the same time
-// however many there are.
+// Some of the slots, as a flag for each. To mark one, and to ask for one, takes the same time for
+// any number of slots.
 ghost use Rattle.std.specs.Prelude.{◌≡◌, ◌≢◌, ◌<◌, ◌==◌, ◌||◌, ◌&&◌, not, ℕ, IfOk, length};
 ghost use Rattle.journal_world.specs.declared.layout.TheConstants.{SLOTS};
 ghost use Rattle.journal_world.specs.Addresses.{slot_of};
@@ -9,8 +9,8 @@ ghost use Rattle.journal_lockmap.specs.Numbers.{is_in, AreNone, MarksWrites};
 use journal_world::{Layout, Objects, SLOTS};
 use std::alloc::{AllocError, Global};
 
-// The flags that are kept for so many slots, of which none is marked. Where there are `SLOTS`, no
-// flag is kept: a commit has them on its stack.
+// The flags that are kept for this many slots, none of which is marked. For `SLOTS` slots no flag
+// is kept: a commit has them on its stack.
 pub(crate) fn kept_flags(alloc: Global, slots: u16) -> Result<Vec<bool>, AllocError>
     ensures none { IfOk result (λ flags. AreNone flags.items) }
     ensures room { IfOk result (λ flags. slots ≢ SLOTS → length flags.items ≡ slots) }
@@ -40,7 +40,7 @@ fn mark(flags: &mut [bool], slot: u16)
     flags[usize::from(slot)] = true;
 }
 
-// Takes the mark of a slot away, and says whether there was one.
+// Removes the mark of a slot. True if there was one.
 pub(crate) fn unmark(flags: &mut [bool], slot: u16) -> bool
     requires in_range { slot < length flags.old }
     ensures was { result ≡ is_in flags.old slot }
@@ -48,7 +48,7 @@ pub(crate) fn unmark(flags: &mut [bool], slot: u16) -> bool
     ensures room { length flags.new ≡ length flags.old }
 {
     let place = usize::from(slot);
-    // Where there is none, no flag is written: other threads may have the kept ones near them.
+    // If there is none, no flag is written: other threads may have the kept flags in their caches.
     if !flags[place] {
         return false;
     }

@@ -1,4 +1,4 @@
-// Which slots are taken.
+// The table of taken slots.
 ghost use Rattle.std.specs.Prelude.{◌≡◌, ◌<◌};
 ghost use Rattle.journal_lockmap.specs.Tables.{is_taken};
 
@@ -8,8 +8,8 @@ use std::fmt;
 use std::fmt::Debug;
 use std::marker::Model;
 
-/// The table of slots, in which the token of each that is free lies. Contracts see a list that says
-/// of each slot whether it is taken.
+/// The table of slots, with the token of each free slot. Contracts see a list that says of each
+/// slot whether it is taken.
 ///
 /// `SlotCounts::begin` makes the table of a journal, with the tokens of all its slots.
 #[derive(Drop)]
@@ -28,7 +28,7 @@ impl<J: Naming> Model for Slots<J> {
 }
 
 impl<J: Naming> Slots<J> {
-    /// Whether the slot is taken.
+    /// True if the slot is taken.
     pub fn is_taken(&self, slot: u16) -> bool
         requires in_range { slot < J.layout.slots }
         ensures { result ≡ is_taken self.now slot }

@@ -33,7 +33,7 @@ impl<J: Naming> Model for Token<J> {
 }
 
 impl<J: Naming> Token<J> {
-    // The slot's token. It is a pass that was split off: only such a one can be joined again.
+    // The slot's token. The pass was split off, and only such a pass can be joined again.
     pub(crate) fn new(slot: u16, pass: SlotPass) -> Token<J>
         requires cell { pass.table_id ≡ J.cell.slots }
         requires fresh { pass.me.1 ≡ [] }
@@ -48,7 +48,7 @@ impl<J: Naming> Token<J> {
         }
     }
 
-    // Which slot it is of, below the number of slots.
+    // The number of its slot, below the number of slots.
     pub(crate) fn slot(&self) -> u16
         ensures slot { result ≡ self.now.slot }
         ensures in_range { result < J.layout.slots }
@@ -56,8 +56,8 @@ impl<J: Naming> Token<J> {
         self.slot
     }
 
-    // Shows that it agrees with the keeper. Nothing changes. A pass that knows nothing takes its
-    // place meanwhile, since one can be joined by value alone.
+    // Shows that it agrees with the keeper. Nothing changes. `join` takes a pass by value, so an
+    // empty pass is here during the call.
     pub(crate) fn verify<W: Wait>(&mut self, rt: &W, cell: &Cell, all: &mut SlotPass)
         requires cell { cell.now.table.shared.table_id ≡ J.cell.slots }
         requires pass { all.old.table_id ≡ J.cell.slots }

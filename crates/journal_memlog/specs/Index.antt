@@ -6,7 +6,7 @@ use Rattle.journal_memlog.specs.declared.entry.TheConstants.{BUCKETS}
 use Rattle.journal_memlog.specs.Logs.{LogState, IsMemLog}
 use Rattle.journal_memlog.specs.Buckets.{bucket_of, update_at}
 
--- what contracts see of the fields
+-- the updates of the entries, as contracts see them
 abbrev pub updates_of : List Entry → List Update
 updates_of entries = map (λ entry. entry.update) entries
 

@@ -1,4 +1,4 @@
--- What follows from the definitions for every tail and every log.
+-- Laws of every tail and every log.
 use Rattle.std.proofs.Common.{◌≡◌, ℕ, ◌+◌, ◌-◌, ◌≤◌, ◌<◌, ◌^◌, eqb, ◌||◌, Bool, true, false, not, cond, List, [], ◌∷◌, ◌++◌, length, take, drop, map, refl, sym, ap, ◌∙◌, arith, append_assoc, length-append}
 use Rattle.std.specs.List.{All}
 use Rattle.std.proofs.lemmas.List.{append-nil, length-map, length-take-le, length_push, take-append-drop, take_at, drop_at}
@@ -142,7 +142,7 @@ updates_block-with_update tail u b = by_stands (updates_block tail u.block) refl
         ∙ sym (updates_block-append tail (u ∷ []) b)
     by_stands false stands = ap (λ (us : List Update). updates_block us b) (cond-false _ (map (replaced u) tail) (tail ++ u ∷ []) stands)
 
--- it takes one more place where its block does not stand there
+-- it takes one more place if its block is not there
 pub length-with_update : (tail : List Update) (u : Update)
     → length (with_update tail u) ≡ length tail + cond (not (updates_block tail u.block)) 1 0
 length-with_update tail u = by (updates_block tail u.block)
@@ -185,7 +185,7 @@ fresh_count-cons : (tail : List Update) (v : Update) (later : List Update)
     → fresh_count tail (v ∷ later) ≡ cond (not (updates_block tail v.block)) 1 0 + fresh_count tail later
 fresh_count-cons tail v later = sum_by-cons (λ w. cond (not (updates_block tail w.block)) 1 0) v later
 
--- fewer updates are of blocks that do not stand there, where more stand there
+-- fewer updates are of blocks that are not there, if more blocks are there
 fresh_count-with_update : (tail : List Update) (u : Update) (later : List Update)
     → fresh_count (with_update tail u) later ≤ fresh_count tail later
 fresh_count-with_update tail u [] = omega arith
@@ -203,7 +203,7 @@ fresh_count-with_update tail u (v ∷ later) =
         ∙ updates_block-append tail (u ∷ []) v.block
         ∙ ap (λ (w : Bool). w || updates_block (u ∷ []) v.block) stands
 
--- and at most so many more as there are updates of blocks that do not stand there
+-- and at most as many more as there are updates of blocks that are not there
 pub length-absorbed_le : (tail updates : List Update) → length (absorbed tail updates) ≤ length tail + fresh_count tail updates
 length-absorbed_le tail [] = omega arith
 length-absorbed_le tail (u ∷ later) =
@@ -211,7 +211,7 @@ length-absorbed_le tail (u ∷ later) =
 
 -- Logs
 
--- what was cut is as it was
+-- the groups are as they were
 pub head_of-appended : (log : LogState) (updates : List Update) → log.start ≤ log.cut → log.cut ≤ next_position log
     → head_of (appended log updates) ≡ head_of log
 head_of-appended log updates from to =
@@ -258,7 +258,7 @@ pub next_of-taken_le : (log : LogState) (updates : List Update) → CanTake log 
     → next_position (appended log updates) ≤ next_position log + log.room
 next_of-taken_le log updates can = omega (arith, can.room, next_of-appended log updates)
 
--- what is asked where updates are appended, by the number of the fresh ones
+-- the condition of an append, by the number of the fresh updates
 pub can_take_fresh : (log : LogState) (updates : List Update) → AreOnDisk log.blocks updates
     → fresh_count (tail_of log) updates ≤ log.room → next_position log + fresh_count (tail_of log) updates < 2 ^ 62
     → CanTake log updates

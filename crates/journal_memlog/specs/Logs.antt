@@ -1,12 +1,12 @@
--- What contracts see of the log in memory, and what its calls make of it.
+-- The log in memory as contracts see it, and after its calls.
 use Rattle.std.specs.Prelude.{ℕ, ◌≢◌, ◌+◌, ◌-◌, ◌<◌, ◌≤◌, ◌^◌, ◌==◌, List, [], ◌∷◌, ◌++◌, length, take, drop, map, not, if◌then◌else◌}
 use Rattle.std.specs.List.{All, AllPairs, count_by}
 use Rattle.journal_block.specs.declared.update.Update.{Update}
 use Rattle.journal_block.specs.Updates.{updates_block}
 use Rattle.journal_memlog.specs.declared.bounds.Bounds.{Bounds}
 
--- A log of a disk of so many blocks. Positions from `start` on each hold an update. Those before
--- `logged` are on the disk, those before `cut` in flight, and the others are the tail
+-- A log of a disk with this many blocks. Positions from `start` on each hold an update. Those
+-- before `logged` are on the disk, those before `cut` in flight, and the others are the tail
 pub record LogState : Type 0 where
   pub blocks : ℕ
   pub start : ℕ
@@ -21,7 +21,7 @@ pub record LogState : Type 0 where
 abbrev pub next_position : LogState → ℕ
 next_position log = log.start + length log.updates
 
--- where its parts begin, as callers are told
+-- the positions at which its parts begin, as callers are given them
 abbrev pub bounds_of : LogState → Bounds
 bounds_of log = record { start = log.start; logged = log.logged; cut = log.cut; next = next_position log }
 
@@ -36,7 +36,7 @@ tail_of log = drop (log.cut - log.start) log.updates
 abbrev pub HasDistinctBlocks : List Update → Type 0
 HasDistinctBlocks updates = AllPairs (λ t u. t.block ≢ u.block) updates
 
--- each of the updates is of a block of a disk that has so many
+-- each of the updates is of a block of a disk that has this many
 abbrev pub AreOnDisk : ℕ → List Update → Type 0
 AreOnDisk blocks updates = All (λ u. u.block < blocks) updates
 
@@ -47,7 +47,7 @@ pub record HasBounds (log : LogState) : Type 0 where
   pub cut_to_next : log.cut ≤ next_position log
   pub below : next_position log < 2 ^ 62
 
--- What holds of every log
+-- The invariant of every log
 pub record IsMemLog (log : LogState) : Type 0 where
   pub bounds : HasBounds log
   pub on_disk : AreOnDisk log.blocks log.updates
@@ -69,11 +69,11 @@ abbrev pub absorbed : List Update → List Update → List Update
 absorbed tail [] = tail
 absorbed tail (u ∷ later) = absorbed (with_update tail u) later
 
--- how many of the updates are of blocks that do not stand in the tail
+-- how many of the updates are of blocks that are not in the tail
 abbrev pub fresh_count : List Update → List Update → ℕ
 fresh_count tail updates = count_by (λ u. not (updates_block tail u.block)) updates
 
--- What each call makes of a log
+-- The log after each call
 
 -- one that begins at a position, and is empty
 abbrev pub empty_log : ℕ → ℕ → ℕ → LogState

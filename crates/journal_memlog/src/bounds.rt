@@ -1,4 +1,4 @@
-// What callers are told of a log's positions.
+// The positions of a log, as callers are given them.
 
 /// The positions at which the parts of a log begin, each at most the next one.
 #[derive(Clone, Copy, Debug, PartialEq, Eq)]

@@ -7,8 +7,8 @@ use journal_block::Update;
 /// The number of buckets that the blocks of a disk are divided into.
 ///
 /// A log of a journal has at most 511 updates in the disk's log and 255 in its tail, so there are
-/// more buckets than updates. The number is a prime, so that blocks at a distance of a power of two
-/// meet in no bucket early.
+/// more buckets than updates. The number is a prime, so blocks at a distance of a power of two do
+/// not meet in a bucket early.
 pub const BUCKETS: u64 = 1021;
 
 /// An update, and the link to the one before it in its bucket.

@@ -45,9 +45,10 @@ impl Model for MemLog {
 }
 
 impl MemLog {
-    /// An empty log of a disk of so many blocks, which begins at position `start`.
+    /// An empty log of a disk of `blocks` blocks, which begins at position `start`.
     ///
-    /// Answers J1 `NoMemory`, and nothing else, where memory for the index is refused.
+    /// # Errors
+    /// - `J1 NoMemory`: the memory for the index is refused. Nothing was made.
     pub fn new<C>(alloc: Global, blocks: u64, start: u64) -> Result<MemLog, Refusal<C>>
         requires { start < 2 ^ 62 }
         ensures log { IfOk result (λ log. log ≡ empty_log blocks start log.room) }
@@ -93,7 +94,7 @@ impl MemLog {
         self.next() - self.cut
     }
 
-    /// Whether the block stands in the tail.
+    /// True if the block is in the tail.
     pub fn is_in_tail(&self, block: u64) -> bool
         ensures { result ≡ updates_block (tail_of self.now) block }
     {
@@ -109,8 +110,8 @@ impl MemLog {
         &self.entries[(position - self.start) as usize].update
     }
 
-    // The position of the block's last update, if one stands at `floor` or after it. It looks at
-    // the updates of the block's bucket from the last one on.
+    // The position of the block's last update, if one is at `floor` or after it. It looks at the
+    // updates of the block's bucket, the last one first.
     fn newest(&self, block: u64, floor: u64) -> Option<u64>
         requires { self.now.start ≤ floor }
         ensures found { is_some result ≡ updates_block (updates_from self.now floor) block }
@@ -127,7 +128,7 @@ impl MemLog {
         None
     }
 
-    /// The content of the block's update in the tail, or `None` where it does not stand there.
+    /// The content of the block's update in the tail, or `None` if the block is not there.
     pub fn in_tail(&self, block: u64) -> Option<&Block>
         ensures found { is_some result ≡ updates_block (tail_of self.now) block }
         ensures content { IfSome result (λ found.
@@ -139,7 +140,7 @@ impl MemLog {
         }
     }
 
-    /// The position at which the block stands in the tail, or `None` where it does not.
+    /// The position of the block in the tail, or `None` if it is not there.
     pub fn place_in_tail(&self, block: u64) -> Option<u64>
         ensures found { is_some result ≡ updates_block (tail_of self.now) block }
         ensures place { IfSome result (IsLastOf self.now block self.now.cut) }
@@ -148,7 +149,7 @@ impl MemLog {
     }
 
     /// The content of the update at a position of the tail, lent to be overwritten. The log is then
-    /// what it is with that update appended.
+    /// as it is with that update appended.
     pub fn tail_block(&mut self, position: u64) -> &mut Block
         requires from_cut { self.old.cut ≤ position }
         requires to_next { position < next_position self.old }
@@ -174,8 +175,8 @@ impl MemLog {
     /// Adds a position that the disk's log has already, for a recovery: the log has neither tail
     /// nor group. A block that comes again gets a position of its own.
     ///
-    /// Answers J1 `NoMemory`, and nothing else, where memory for it is refused; the log is then as
-    /// it was, but may have more room.
+    /// # Errors
+    /// - `J1 NoMemory`: memory for it is refused. The log is as it was, but may have more room.
     pub fn push_logged<C>(&mut self, update: Update) -> Result<(), Refusal<C>>
         requires no_group { self.old.logged ≡ self.old.cut }
         requires no_tail { self.old.cut ≡ next_position self.old }
@@ -196,10 +197,12 @@ impl MemLog {
         Ok(())
     }
 
-    /// Makes room for `n` fresh blocks, those that do not stand in the tail.
+    /// Makes room for `n` fresh blocks, those that are not in the tail. The log is as it was, but
+    /// may have more room.
     ///
-    /// Answers J1 `NoMemory`, and nothing else, where memory for them is refused. Refused or not,
-    /// the log is as it was, but may have more room where it had too little.
+    /// # Errors
+    /// - `J1 NoMemory`: memory for them is refused. The log is as it was, but may have more room
+    ///   where it had too little.
     pub fn reserve<C>(&mut self, n: usize) -> Result<(), Refusal<C>>
         ensures room { OnOk result (n ≤ self.new.room) }
         ensures same { self.new ≡ record self.old { room = self.new.room } }
@@ -215,15 +218,15 @@ impl MemLog {
         Ok(())
     }
 
-    /// Puts updates into the tail, one after the other: each in the place of the update of its
-    /// block, or at the end. It takes no memory and moves the blocks. It takes time by these
-    /// updates, and by the log's updates of their buckets.
+    /// Puts updates into the tail, one after the other: each in place of the update of its block,
+    /// or at the end. It takes no memory and moves the blocks. Its time depends on these updates,
+    /// and on the log's updates of their buckets.
     pub fn append(&mut self, updates: Vec<Update>)
         requires { CanTake self.old updates.items }
         ensures log { self.new ≡ appended self.old updates.items }
 
-        // Nothing is lost, what was cut is as it was, and no more positions came than there was
-        // room for.
+        // No update is lost, the groups are as they were, and the tail grew by no more positions
+        // than there was room for.
         ensures content { (b : ℕ) (before : Bytes) →
             updated self.new.updates b before ≡ updated (self.old.updates ++ updates.items) b before }
         ensures head { head_of self.new ≡ head_of self.old }
@@ -269,7 +272,7 @@ impl MemLog {
         group
     }
 
-    /// Says that the disk's log has the positions before `upto`.
+    /// Notes that the disk's log has the positions before `upto`.
     pub fn logged(&mut self, upto: u64)
         requires from_logged { self.old.logged ≤ upto }
         requires to_cut { upto ≤ self.old.cut }
@@ -279,7 +282,7 @@ impl MemLog {
         self.logged = upto;
     }
 
-    /// Drops the positions before `upto`, and takes time by their number.
+    /// Drops the positions before `upto`. It takes time by their number.
     pub fn trim(&mut self, upto: u64)
         requires from_start { self.old.start ≤ upto }
         requires to_logged { upto ≤ self.old.logged }
@@ -300,7 +303,7 @@ impl MemLog {
         ensures sound { IsMemLog self.new }
     {
         let Entry { update, .. } = self.entries.pop_front().unwrap();
-        // Chains end at `start`, so no link to the position has to be looked for.
+        // Chains end at `start`, so no link to the position has to be removed.
         self.start += 1;
         update
     }

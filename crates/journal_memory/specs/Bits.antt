@@ -50,8 +50,8 @@ abbrev pub Ascend : ℕ → ℕ → List ℕ → Type 0
 Ascend first end [] = Unit {0}
 Ascend first end (n ∷ ns) = (first ≤ n) × (n < end) × Ascend (n + 1) end ns
 
--- What is answered, whatever the history: numbers of bits from the first that is asked for on,
--- ascending, and no more than are asked for
+-- The answer, whatever the history: numbers of bits from the first that is asked for on, ascending,
+-- and no more than are asked for
 pub record AreInOrder (s : BitScan) (bits : List ℕ) : Type 0 where
   pub ascend : Ascend s.first BLOCK_BITS bits
   pub few : length bits ≤ s.most

@@ -6,8 +6,8 @@ use Rattle.journal_world.specs.Histories.{Entry}
 use Rattle.journal_memory.specs.declared.refusal_number.RefusalNumber.{RefusalNumber}
 use Rattle.journal_memory.specs.declared.refusal_number.RefusalNumber.TheVariants.{J6, J9, J10, J11, J12, J13}
 
--- What a cause has: the number of the refusal that it was made for, and the history that explains
--- it, where one does
+-- The state of a cause: the number of the refusal that it was made for, and the history that
+-- explains it, if one does
 pub record CauseState : Type 0 where
   pub number : RefusalNumber
   pub story : Option (List Entry)

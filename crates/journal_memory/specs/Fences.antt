@@ -1,5 +1,5 @@
--- What a fence of a session does in memory, and why there is none. No device is asked for any of
--- it.
+-- The effect of a fence of a session in memory, and why there is none. No device call is made for
+-- any of it.
 use Rattle.std.specs.Prelude.{ℕ, ◌≡◌, ◌⊎◌, ◌≤◌, ◌+◌, ◌^◌, ◌++◌, ◌∷◌, [], max, true, false, List, length}
 use Rattle.journal_world.specs.declared.refusal.Refusal.{Refusal}
 use Rattle.journal_world.specs.declared.refusal.Refusal.TheVariants.{NoMemory, Stale, Worn}
@@ -16,7 +16,7 @@ pub record AddsFence (session : ℕ) (old new : LedgerState) : Type 0 where
   pub free : is_fenced session old.history ≡ false
   pub fenced : new ≡ record old { history = old.history ++ fence session ∷ []; next = max old.next (session + 1) }
 
--- It stands already, and nothing was done
+-- It is there already, and nothing was done
 pub record HasFence (session : ℕ) (old new : LedgerState) : Type 0 where
   pub stands : is_fenced session old.history ≡ true
   pub same : new ≡ old

@@ -17,7 +17,7 @@ pub record FetchedState : Type 0 where
 abbrev pub IsBlockAfter : Shape → List Entry → ℕ → Update → Type 0
 IsBlockAfter n front commits u = (a : Addr) → IsTrue (is_valid n a) → a.block ≡ u.block → object_or_zeros n u.bytes a ≡ value_at (at front commits) a
 
--- What holds of them for good, on a disk of a layout
+-- The lasting facts of them, on a disk of a layout
 pub record IsFetched (layout : Shape) (f : FetchedState) : Type 0 where
   pub begun : f.front ≢ []
   pub made : f.commits ≤ count f.front

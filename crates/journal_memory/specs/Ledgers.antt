@@ -1,5 +1,5 @@
--- What contracts see of the core's ledger, what its type keeps, and why it refuses. No device is
--- asked for any of it.
+-- The core's ledger as contracts see it, its invariant, and why it refuses. No device call is made
+-- for any of it.
 use Rattle.std.specs.Prelude.{ℕ, ◌≡◌, ◌<◌, ◌≤◌, ◌+◌, ◌^◌, Bool, true, false, List, [], length}
 use mathlib.Core.List.{IsPrefix}
 use Rattle.journal_world.specs.declared.refusal.Refusal.{Refusal}
@@ -26,7 +26,7 @@ pub record LedgerState : Type 0 where
   -- it was stopped
   pub closed : Bool
 
--- What it keeps: it counts the commits of each session and slot, knows which sessions are fenced
+-- Its invariant: it counts the commits of each session and slot, knows which sessions are fenced
 -- and which fronts have only marked commits, and no session of a later number has committed or is
 -- fenced
 pub record IsLedger (layout : Shape) (fenced : List Run) (sessions slots : List ℕ) (lengths : MarkedLengths) (m : LedgerState) : Type 0 where

@@ -1,5 +1,5 @@
--- What reads and commits are judged by before they are done, and why they are refused. No device is
--- asked for any of it.
+-- The facts by which reads and commits are judged before they are done, and why they are refused.
+-- No device call is made for any of it.
 use Rattle.std.specs.Prelude.{ℕ, ◌≡◌, ◌⊎◌, ◌<◌, ◌≤◌, ◌+◌, ◌^◌, Bool, true, false, IsTrue, List, length}
 use mathlib.Core.List.{IsPrefix}
 use Rattle.journal_world.specs.declared.address.Addr.{Addr}
@@ -53,7 +53,7 @@ IsCheckRefusal layout o t a other = IsEndRefusal o other
 abbrev pub IsWorn : Outset → SessionState → List Pair → Type 0
 IsWorn o s writes = (2 ^ 62 ≤ length o.history + 1) ⊎ (2 ^ 62 ≤ s.number) ⊎ (2 ^ 62 ≤ o.next + fresh_among o.tail writes)
 
--- The tail cannot take the blocks that do not stand in it
+-- The tail has no room for the blocks that are not in it
 abbrev pub IsFull : Outset → List Pair → Type 0
 IsFull o writes = MAX_TAIL < length o.tail + fresh_among o.tail writes
 

@@ -1,4 +1,4 @@
--- What a commit on a history needs, so that the mount's rule holds of the map after it.
+-- The condition of a commit on a history, so that the mount's rule holds of the map after it.
 use Rattle.std.specs.Prelude.{IsTrue, List}
 use Rattle.journal_world.specs.Maps.{Map, Agrees, overwritten}
 use Rattle.journal_world.specs.Histories.{Entry, is_trusted, latest}

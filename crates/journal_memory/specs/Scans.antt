@@ -1,4 +1,4 @@
--- What a scan of a block's bits is judged by before it is done, and why it is refused.
+-- The facts by which a scan of a block's bits is judged before it is done, and why it is refused.
 use Rattle.std.specs.Prelude.{◌≡◌, ◌⊎◌, false, IsTrue}
 use mathlib.Core.List.{IsPrefix}
 use Rattle.journal_world.specs.declared.refusal.Refusal.{Refusal}

@@ -13,14 +13,14 @@ pub record AreCounts (layout : Shape) (counts : List ℕ) (history : List Entry)
   pub slots : length counts ≡ layout.slots
   pub touched : (slot : ℕ) → slot < layout.slots → slice_index counts slot ≡ touched layout history slot
 
--- What is kept beside the history: which sessions are fenced, and each session's and each slot's
+-- The counts beside the history: which sessions are fenced, and each session's and each slot's
 -- number of commits
 pub record KeepsCounts (layout : Shape) (fenced : List Run) (sessions counts : List ℕ) (history : List Entry) : Type 0 where
   pub fences : AreFences fenced history
   pub per_session : AreSessionCounts sessions history
   pub touched : AreCounts layout counts history
 
--- what is held agrees with the history: each slot was touched by as many commits as its token says
+-- the held slots agree with the history: each slot was touched by as many commits as its token says
 abbrev pub AgreeWith : Shape → List Entry → List HeldState → Type 0
 AgreeWith layout history held = All (λ h. h.count ≡ touched layout history h.slot) held
 
@@ -28,6 +28,6 @@ AgreeWith layout history held = All (λ h. h.count ≡ touched layout history h.
 abbrev pub IsUnder : Shape → List HeldState → List Entry → Pair → Type 0
 IsUnder layout held history p = (k : ℕ) × (h : HeldState) × (slice_get held k ≡ Some h) × (h.slot ≡ slot_of layout p.0) × (h.count ≡ touched layout history (slot_of layout p.0))
 
--- what was read lies under slots that are held, which no commit touched since
+-- the slots of all reads are held, and no commit touched them since
 abbrev pub AreUnder : Shape → List HeldState → List Entry → List Pair → Type 0
 AreUnder layout held seen reads = All (IsUnder layout held seen) reads

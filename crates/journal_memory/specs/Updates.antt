@@ -1,4 +1,4 @@
--- What updates have of the objects that commits wrote.
+-- The values that updates have of the objects that commits wrote.
 use Rattle.std.specs.Prelude.{ℕ, ◌≡◌, ◌≤◌, IsTrue, List, Option, Some, None}
 use Rattle.journal_world.specs.declared.address.Addr.{Addr}
 use Rattle.journal_world.specs.Addresses.{Value, Shape, is_valid}

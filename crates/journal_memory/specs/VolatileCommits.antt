@@ -1,4 +1,4 @@
--- What a commit is in memory alone.
+-- A commit in memory alone.
 use Rattle.std.specs.Prelude.{ℕ, ◌≡◌, ◌≢◌, ◌<◌, ◌+◌, max, List, [], length, IsTrue, Result, All, IfOk, IfErr, OnOk, OnErr}
 use Rattle.journal_world.specs.declared.refusal.Refusal.{Refusal}
 use Rattle.journal_world.specs.Addresses.{Shape}
@@ -45,12 +45,12 @@ pub record IsAdded (t : Transaction) (updates : List Update) (session after : Se
     tail = new.tail;
   }
 
--- of an answer: what holds where the commit was made
+-- of an answer: the condition where the commit was made
 abbrev pub IfDone : {A : Type 0} → (A → Type 0) → CommitStep A → Type 0
 IfDone holds (Done value) = holds value
 IfDone holds (Missing blocks) = Unit {0}
 
--- of an answer: what holds where blocks have to be fetched first
+-- of an answer: the condition where blocks have to be fetched first
 abbrev pub IfMissing : {A : Type 0} → (List ℕ → Type 0) → CommitStep A → Type 0
 IfMissing holds (Done value) = Unit {0}
 IfMissing holds (Missing blocks) = holds blocks.items
@@ -59,10 +59,10 @@ IfMissing holds (Missing blocks) = holds blocks.items
 abbrev pub with_room : VolatileState → ℕ → VolatileState
 with_room v room = record v { tail = with_tail_room v.tail room }
 
--- What a commit in memory does, by its answer. Where it was made, it stands in the history at the
--- receipt's place. Where blocks are missing, these are named, and where it was refused, the reason
--- is one that holds. In both cases memory is as it was, but for its room, and the session has only
--- seen more
+-- The effect of a commit in memory, by its answer. A commit that was made is in the history at the
+-- receipt's place. If blocks are missing, these are named, and if it was refused, the reason is one
+-- that holds. In both cases memory is as it was, but for its room, and the session has only seen
+-- more
 pub record DoesCommit (layout : Shape) (old : VolatileState) (session : SessionState) (t : TransactionState) (f : FetchedState) (answer : Result (CommitStep CommitPlace) (Refusal CauseState)) (new : VolatileState) (after : SessionState) : Type 0 where
   pub committed : IfOk answer (IfDone (λ place. IsCommitted t.reads t.writes session after old new))
   pub receipt : IfOk answer (IfDone (IsReceiptFor (numbered session t.reads t.writes) new.ledger.history (length old.ledger.history)))

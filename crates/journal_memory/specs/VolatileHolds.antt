@@ -1,4 +1,4 @@
--- The holds of the memory lock alone, each as one event: what it answers and leaves.
+-- The holds of the memory lock alone, each as one event: its answer and its effect.
 use Rattle.std.specs.Prelude.{ℕ, ◌≡◌, ◌<◌, ◌≤◌, ◌+◌, Bool, true, false, IsTrue, List, [], Option, Some, None, Result, Ok, Err}
 use Rattle.journal_world.specs.declared.address.Addr.{Addr}
 use Rattle.journal_world.specs.declared.refusal.Refusal.{Refusal}
@@ -43,7 +43,7 @@ pub record RefusesRead (layout : Shape) (old : VolatileState) (t : TransactionSt
   pub refusal : IsReadRefusal layout old t a f why
   pub same : new ≡ old
 
--- what is answered, with what was fetched before, where the bytes read are these
+-- the answer, with the blocks that were fetched before, where the bytes read are these
 abbrev pub AnswersRead : Shape → VolatileState → TransactionState → Addr → FetchedState → Result (Option ReadResultState) (Refusal CauseState) → Value → VolatileState → Type 0
 AnswersRead layout old t a f (Ok (Some found)) x new = FindsInMemory layout old t a found x new
 AnswersRead layout old t a f (Ok None) x new = LacksBlock layout old t a f new
@@ -67,8 +67,8 @@ pub record RefusesScan (layout : Shape) (v : VolatileState) (session : SessionSt
   pub refusal : IsScanRefusal layout v session s f why
   pub stays : after ≡ session
 
--- what is answered, with what was fetched before, where these bytes were copied. The part stays as
--- it is
+-- the answer, with the blocks that were fetched before, where these bytes were copied. The part
+-- stays as it is
 abbrev pub AnswersScan : Shape → VolatileState → SessionState → BitScan → FetchedState → Result Bool (Refusal CauseState) → Bytes → SessionState → Type 0
 AnswersScan layout v session s f (Ok true) copy after = FindsBits layout v session s copy after
 AnswersScan layout v session s f (Ok false) copy after = LacksBits layout v session s f after
@@ -120,7 +120,7 @@ abbrev pub AnswersSession : VolatileState → Result SessionState (Refusal Cause
 AnswersSession old (Ok session) new = BeginsSession old session new
 AnswersSession old (Err why) new = RefusesSession old why new
 
--- A session is fenced, by one entry more, or by one that stands
+-- A session is fenced, by one entry more, or by one that is there
 pub record FencesSession (layout : Shape) (session : ℕ) (old new : VolatileState) : Type 0 where
   pub did : SetsFence session old.ledger new.ledger
   pub others : new ≡ record old { ledger = new.ledger }
@@ -147,18 +147,18 @@ pub record SeesWhole (v : VolatileState) (session after : SessionState) : Type 0
   pub exact : IsExact after
   pub extends : OnlyExtends session after
 
--- So many commits are not marked yet, and nothing ends the wait for them
+-- The first n commits are not marked yet, and nothing ends the wait for them
 pub record LacksMark (v : VolatileState) (n : ℕ) : Type 0 where
   pub unmarked : floor v.ledger.history < n
   pub goes_on : GoesOn (outset_of v)
 
--- whether so many commits are marked
+-- true if the first n commits are marked
 abbrev pub AnswersWait : VolatileState → SessionState → ℕ → Result Bool (Refusal CauseState) → SessionState → Type 0
 AnswersWait v session n (Ok true) after = (n ≤ floor v.ledger.history) × SeesWhole v session after
 AnswersWait v session n (Ok false) after = LacksMark v n × SeesWhole v session after
 AnswersWait v session n (Err why) after = IsWaitRefusal (outset_of v) session n why × (after ≡ session)
 
--- whether all commits are marked that the session has seen
+-- true if all commits that the session has seen are marked
 abbrev pub AnswersFlush : VolatileState → SessionState → Result Bool (Refusal CauseState) → SessionState → Type 0
 AnswersFlush v session (Ok true) after = (count session.seen ≤ floor v.ledger.history) × SeesWhole v session after
 AnswersFlush v session (Ok false) after = LacksMark v (count session.seen) × (after ≡ session)

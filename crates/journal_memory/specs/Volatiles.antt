@@ -1,5 +1,5 @@
--- What contracts see of the core's volatile part, what its type keeps by itself, and what its calls
--- do. No device is asked for any of it.
+-- The core's volatile part as contracts see it, its own invariant, and the effects of its calls. No
+-- device call is made for any of it.
 use Rattle.std.specs.Prelude.{ℕ, ◌≡◌, ◌≢◌, ◌⊎◌, ◌<◌, ◌≤◌, ◌-◌, ◌^◌, nat_le, if◌then◌else◌, Bool, IsTrue, List, [], length, All}
 use Rattle.journal_world.specs.declared.address.Addr.{Addr}
 use Rattle.journal_world.specs.declared.refusal.Refusal.{Refusal}
@@ -21,7 +21,7 @@ use Rattle.journal_memory.specs.Updates.{HaveAllSince, AreObjectsOf}
 use Rattle.journal_memory.specs.Outsets.{Outset, MayRead, IsCheckRefusal}
 use Rattle.journal_memory.specs.Fetches.{FetchedState}
 
--- What contracts see of the volatile part
+-- The state of the volatile part that contracts see
 pub record VolatileState : Type 0 where
   -- the history, and who may go on
   pub ledger : LedgerState
@@ -31,7 +31,7 @@ pub record VolatileState : Type 0 where
   -- again
   pub faulted : Bool
 
--- what its reads and commits are judged by
+-- the facts by which its reads and commits are judged
 abbrev pub outset_of : VolatileState → Outset
 outset_of v = record {
   closed = v.ledger.closed;
@@ -41,7 +41,7 @@ outset_of v = record {
   next = next_position v.tail.log;
 }
 
--- What is known of a cut: where it lies, and how many commits there were
+-- The facts of a cut: its position, and how many commits there were
 pub record IsCutOf (v : VolatileState) (c : CutPoint) : Type 0 where
   pub above : v.tail.log.start ≤ c.end
   pub below : c.end ≤ v.tail.log.cut
@@ -52,10 +52,10 @@ pub record HasUpdates (layout : Shape) (v : VolatileState) : Type 0 where
   pub since : All (λ c. HaveAllSince layout v.ledger.history c.commits (updates_from v.tail.log c.end)) (cut_points v.tail)
   pub since_last : HaveAllSince layout v.ledger.history v.ledger.cut (tail_of v.tail.log)
 
--- What it keeps by itself, on a disk of a layout. Where the history is trusted it is said of
--- values: what the updates after a cut have of an address is what the map gives it after all
--- commits, and no commit after that cut changed the value of an address of which they have nothing.
--- A commit that wrote what stood there already may so have no update
+-- Its own invariant, on a disk of a layout. If the history is trusted it speaks of values: the
+-- updates after a cut give an address the value that the map gives it after all commits, and no
+-- commit after that cut changed the value of an address of which they have nothing. So a commit
+-- that wrote the value that was there already may have no update
 pub record IsVolatile (layout : Shape) (v : VolatileState) : Type 0 where
   pub size : blocks_of v.tail ≡ layout.blocks
   pub begun : v.ledger.history ≢ []
@@ -65,17 +65,17 @@ pub record IsVolatile (layout : Shape) (v : VolatileState) : Type 0 where
   pub small : next_position v.tail.log < 2 ^ 62
   pub cuts : All (IsCutOf v) (cut_points v.tail)
   pub updates : IsTrue (is_trusted v.ledger.history) → HasUpdates layout v
-  -- what it knows of an address, by its updates or by a copy of its block alone, is what the latest
-  -- map gives it
+  -- its knowledge of an address, by its updates or by a copy of its block alone, is the value that
+  -- the latest map gives it
   pub known : IsTrue (is_trusted v.ledger.history) → AreObjectsOf layout (latest v.ledger.history) (known_blocks v.tail)
 
 -- how many positions of the log have updates up to the last cut, where it starts at this one
 abbrev pub used_positions : VolatileState → ℕ → ℕ
 used_positions v start = v.tail.log.cut - start
 
--- The logger has nothing to do, as far as memory alone can tell, where the log starts at this
--- position: the last cut is marked, and there is no tail and no commit after the mark, or there
--- are fewer free positions than the tail has blocks
+-- The logger has nothing to do, as far as memory alone can know, where the log starts at this
+-- position: the last cut is marked, and there is no tail and no commit after the mark, or there are
+-- fewer free positions than the tail has blocks
 pub record HasNothingToLog (v : VolatileState) (start : ℕ) : Type 0 where
   pub marked : v.ledger.cut ≤ floor v.ledger.history
   pub rest : ((tail_of v.tail.log ≡ []) × (count v.ledger.history ≤ floor v.ledger.history))

@@ -1,4 +1,4 @@
--- What is asked of marks, and why it is not told. No device is asked for any of it.
+-- Questions about marks, and why they are refused. No device call is made for any of it.
 use Rattle.std.specs.Prelude.{ℕ, ◌≡◌, ◌⊎◌, ◌<◌, ◌≤◌}
 use Rattle.journal_world.specs.declared.refusal.Refusal.{Refusal}
 use Rattle.journal_world.specs.declared.refusal.Refusal.TheVariants.{DeviceFailed, Closed}
@@ -8,11 +8,11 @@ use Rattle.journal_memory.specs.Causes.{CauseState}
 use Rattle.journal_memory.specs.Ledgers.{IsStrayRefusal}
 use Rattle.journal_memory.specs.Outsets.{Outset, GoesOn, IsEndRefusal}
 
--- it goes on, or the mark stands already
+-- it goes on, or the mark is there already
 abbrev pub MayWait : Outset → ℕ → Type 0
 MayWait o n = GoesOn o ⊎ (n ≤ floor o.history)
 
--- why a session is not told whether so many commits are marked: the first of these that holds
+-- why a session's question about the first n commits is refused: the first of these that holds
 abbrev pub IsWaitRefusal : Outset → SessionState → ℕ → Refusal CauseState → Type 0
 IsWaitRefusal o s n (Closed cause) = (floor o.history < n) × IsEndRefusal o (Closed cause)
 IsWaitRefusal o s n (DeviceFailed cause) = (floor o.history < n) × IsEndRefusal o (DeviceFailed cause)
@@ -25,8 +25,8 @@ pub record EndsUnmarked (o : Outset) (old new : SessionState) (why : Refusal Cau
   pub shown : new.seen ≡ o.history
   pub end : IsEndRefusal o why
 
--- why a session is not told whether all is marked that it has seen: the history is not the
--- session's, and the session stays as it was, or else a stop or a fault
+-- why a session's question about all that it has seen is refused: the history is not the session's,
+-- and the session stays as it was, or else a stop or a fault
 abbrev pub IsFlushRefusal : Outset → SessionState → SessionState → Refusal CauseState → Type 0
 IsFlushRefusal o old new (Closed cause) = EndsUnmarked o old new (Closed cause)
 IsFlushRefusal o old new (DeviceFailed cause) = EndsUnmarked o old new (DeviceFailed cause)

@@ -1,4 +1,4 @@
-// Which bits of a block are asked for, and which its bytes have.
+// The bits of a block that are asked for, and those that its bytes have.
 ghost use Rattle.std.specs.Prelude.{◌≡◌, IfOk};
 ghost use Rattle.journal_world.specs.Files.{shape};
 ghost use Rattle.journal_memory.specs.Bits.{bits_in, is_scan, AreInOrder};
@@ -16,7 +16,7 @@ pub struct BitScan {
     pub first: u32,
     /// True if set bits are asked for, else those that are clear.
     pub value: bool,
-    /// How many are answered at most.
+    /// The most bits that are answered.
     pub most: u32,
 }
 
@@ -28,11 +28,10 @@ impl BitScan {
         self.first < BLOCK_BITS && matches!(layout.kind(self.block), Some(Kind::Bit))
     }
 
-    /// The numbers of the bits that are asked for, ascending, where these are the block's bytes.
+    /// The numbers of the bits that are asked for, ascending, if these are the block's bytes.
     ///
     /// # Errors
-    ///
-    /// `AllocError` where memory for the numbers is refused.
+    /// - The memory for the numbers is refused. Nothing changed.
     pub fn bits_in(&self, alloc: Global, block: &Block) -> Result<Vec<u32>, AllocError>
         ensures bits { IfOk result (λ bits. bits.items ≡ bits_in block.now self.now) }
         ensures order { IfOk result (λ bits. AreInOrder self.now bits.items) }

@@ -1,4 +1,4 @@
-// Why a step is refused, and what it had seen.
+// Why a step is refused, and the history that it had seen.
 ghost use Rattle.std.specs.Prelude.{◌≡◌, option_copied, IsErr, IfOk, IfErr};
 ghost use Rattle.journal_memory.specs.Causes.{IsUnexplained, IsExplained, raised_of};
 
@@ -7,15 +7,15 @@ use journal_history::{Front, Naming};
 use journal_world::{MapRule, Refusal};
 use std::marker::Model;
 
-/// What the refusals hold that only a step of the core can find. Only a step of the core makes one,
-/// for the refusal of one number, and there is no copy, so that no other call answers such a
-/// refusal unless a step gave it, and none answers another refusal by it. Contracts see the number,
-/// and the history that it has, if any.
+/// The cause in those refusals that only a step of the core can find. Only a step of the core makes
+/// one, for the refusal of one number, and it cannot be copied. So no other call answers such a
+/// refusal unless a step gave it, and none answers another refusal with it. Contracts see the
+/// number, and the history that it has, if any.
 #[derive(Drop)]
 pub struct Cause<'b, J: Naming, R: MapRule> {
-    // Which refusal it was made for. Contracts alone ask for it.
+    // The refusal that it was made for. Contracts alone ask for it.
     number: RefusalNumber,
-    // At J9 the history that is longer than the core's, at J10 the one that has the strange entry.
+    // At J9 the history that is longer than the core's. At J10 the one that has the strange entry.
     front: Option<Front<'b, J, R>>,
 }
 
@@ -28,7 +28,7 @@ impl<'b, J: Naming, R: MapRule> Model for Cause<'b, J, R> {
 }
 
 impl<'b, J: Naming, R: MapRule> Cause<'b, J, R> {
-    // Of the refusal of this number, which no history explains.
+    // The cause of the refusal of this number, which no history explains.
     pub(crate) fn none(number: RefusalNumber) -> Cause<'b, J, R>
         ensures { IsUnexplained number result }
     {
@@ -38,7 +38,7 @@ impl<'b, J: Naming, R: MapRule> Cause<'b, J, R> {
         }
     }
 
-    // Of the refusal of this number, which the history explains that was seen.
+    // The cause of the refusal of this number, which the history explains that was seen.
     pub(crate) fn of(number: RefusalNumber, front: Front<'b, J, R>) -> Cause<'b, J, R>
         ensures { IsExplained number front.entry result }
     {
@@ -48,7 +48,7 @@ impl<'b, J: Naming, R: MapRule> Cause<'b, J, R> {
         }
     }
 
-    /// The history that explains the refusal, where one does: at J9 and J10.
+    /// The history that explains the refusal, if one does: at J9 and J10.
     pub fn front(&self) -> Option<&Front<'b, J, R>>
         ensures { option_copied result ≡ self.now.story }
     {

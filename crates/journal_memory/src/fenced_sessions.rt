@@ -1,4 +1,4 @@
-// Which sessions are fenced.
+// The sessions that are fenced.
 ghost use Rattle.std.specs.Prelude.{◌≡◌, ◌<◌, ◌≤◌, ◌^◌, [], OnOk};
 ghost use Rattle.journal_memory.specs.Sessions.{is_in_run, is_in_runs, HasSpareRun, TakesBelow, TakesAbove, NotesFence};
 
@@ -9,8 +9,8 @@ use std::marker::Model;
 /// The numbers of the sessions that are fenced, as runs of numbers that follow one another.
 ///
 /// Sessions get rising numbers, and one that ended is fenced. So nearly all that were ever fenced
-/// are one run: there are as many runs as sessions that are not fenced, and a few, however many
-/// sessions there were.
+/// are one run. There are about as many runs as sessions that are not fenced, however many sessions
+/// there were.
 #[derive(Drop)]
 pub(crate) struct FencedSessions {
     runs: Vec<Run>,
@@ -24,7 +24,7 @@ pub(crate) struct Run {
 }
 
 impl Run {
-    // Whether the number is one of them.
+    // True if the number is one of them.
     fn has(&self, session: SessionNumber) -> bool
         ensures { result ≡ is_in_run self.now session }
     {
@@ -43,7 +43,7 @@ impl Model for FencedSessions {
 }
 
 impl FencedSessions {
-    /// None. It takes no memory.
+    /// No session. The call takes no memory.
     pub(crate) fn new(alloc: Global) -> FencedSessions
         ensures { result.runs ≡ [] }
     {
@@ -52,7 +52,7 @@ impl FencedSessions {
         }
     }
 
-    /// Whether the session is fenced.
+    /// True if the session is fenced.
     pub(crate) fn has(&self, session: SessionNumber) -> bool
         ensures { result ≡ is_in_runs self.now.runs session }
     {
@@ -65,6 +65,9 @@ impl FencedSessions {
     }
 
     /// Makes a place, so that `insert` takes no memory.
+    ///
+    /// # Errors
+    /// - Memory is refused. All is as it was.
     pub(crate) fn reserve(&mut self) -> Result<(), AllocError>
         ensures same { self.new.runs ≡ self.old.runs }
         ensures place { OnOk result (HasSpareRun self.new) }
@@ -72,8 +75,8 @@ impl FencedSessions {
         self.runs.reserve(1)
     }
 
-    /// Keeps that the session is fenced, where `reserve` made the place. The runs beside it become
-    /// one with it.
+    /// Adds the session to the fenced ones, in the place that `reserve` made. The runs beside it
+    /// become one with it.
     pub(crate) fn insert(&mut self, session: SessionNumber)
         requires place { HasSpareRun self.old }
         requires small { session < 2 ^ 62 }
@@ -84,8 +87,8 @@ impl FencedSessions {
         self.runs.push_reserved(Run { first, end });
     }
 
-    // Takes out the run that ends just below the session, and says where it begins. Where there is
-    // none it would begin at the session.
+    // Takes out the run that ends just below the session, and returns its beginning. If there is
+    // none, returns the session.
     fn take_below(&mut self, session: SessionNumber) -> SessionNumber
         ensures first { result ≤ session }
         ensures takes { TakesBelow session result self.old.runs self.new.runs }
@@ -101,8 +104,8 @@ impl FencedSessions {
         session
     }
 
-    // Takes out the run that begins just above the session, and says where it ends. Where there is
-    // none it would end there.
+    // Takes out the run that begins just above the session, and returns its end. If there is none,
+    // returns the number after the session.
     fn take_above(&mut self, session: SessionNumber) -> SessionNumber
         requires small { session < 2 ^ 62 }
         ensures end { session < result }

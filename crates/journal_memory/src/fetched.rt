@@ -9,9 +9,9 @@ use journal_world::{CommitCount, MapRule, Refusal};
 use std::alloc::Global;
 use std::marker::Model;
 
-/// Blocks as they are logged, with how many commits they have and the history that has these. That
-/// stays true for good, so what was fetched in a hold of one lock is used in a later hold of
-/// another, unless what came since went home by then.
+/// Blocks as they are logged, with the number of commits that they have and the history that has
+/// these. That stays true for good. So blocks that were fetched in a hold of one lock are used in a
+/// later hold of another, unless memory has dropped later writes by then.
 #[derive(Drop)]
 pub struct Fetched<'b, J: Naming, R: MapRule> {
     pub(crate) front: Front<'b, J, R>,
@@ -30,8 +30,8 @@ impl<'b, J: Naming, R: MapRule> Model for Fetched<'b, J, R> {
 }
 
 impl<'b, J: Naming, R: MapRule> Fetched<'b, J, R> {
-    /// Of no blocks, with this front, so that what is not in memory is asked for. It takes no
-    /// memory.
+    /// The fetch of no blocks, with this front, so that a block that is not in memory is asked for.
+    /// The call takes no memory.
     pub fn empty(alloc: Global, front: Front<'b, J, R>) -> Fetched<'b, J, R>
         requires { front ≢ [] }
         ensures { result ≡ record { front = front.entry; commits = 0; updates = [] } }
@@ -43,8 +43,8 @@ impl<'b, J: Naming, R: MapRule> Fetched<'b, J, R> {
         }
     }
 
-    /// Blocks as the first commits of a history left them: that history, and how many commits these
-    /// are.
+    /// Blocks as the first commits of a history left them: that history, and the number of these
+    /// commits.
     pub fn new(
         front: Front<'b, J, R>,
         commits: CommitCount,
@@ -70,7 +70,7 @@ impl<'b, J: Naming, R: MapRule> Fetched<'b, J, R> {
         updates
     }
 
-    /// It keeps what its type keeps. Called for its contract.
+    /// The invariant of its type. Called for its contract.
     pub fn prove_fetched(&self)
         ensures { IsFetched J.layout self.now }
     {
@@ -78,7 +78,10 @@ impl<'b, J: Naming, R: MapRule> Fetched<'b, J, R> {
     }
 }
 
-/// Memory for these blocks, to be fetched into. Refuses by J1 `NoMemory`, and by nothing else.
+/// Memory for these blocks, to be fetched into.
+///
+/// # Errors
+/// - `J1 NoMemory`: memory is refused. Nothing was made.
 pub fn fetch_buffers<C>(alloc: Global, blocks: &[u64]) -> Result<Vec<Update>, Refusal<C>>
     ensures named { IfOk result (λ rooms. map (λ u. u.block) rooms.items ≡ blocks.now) }
     ensures refusal { IsOkUnless result Refusal.NoMemory }

@@ -3,8 +3,8 @@ ghost use Rattle.std.specs.Prelude.{◌≡◌, ◌+◌, ◌<◌, ◌^◌};
 
 use std::marker::Model;
 
-/// How many entries a front of a history has: its opening, commits, marks and fences. Contracts see
-/// the number. It is greater than the number of the front's commits.
+/// The number of entries of a front of a history: its opening, commits, marks and fences. Contracts
+/// see the number. It is greater than the number of the front's commits.
 #[derive(Clone, Copy, Debug, PartialEq, Eq, PartialOrd, Ord)]
 pub(crate) struct HistoryLength(u64);
 
@@ -19,7 +19,7 @@ impl Model for HistoryLength {
 }
 
 impl HistoryLength {
-    /// So many entries.
+    /// The length of this many entries.
     pub(crate) fn new(entries: u64) -> HistoryLength
         ensures { result ≡ entries }
     {

@@ -1,9 +1,9 @@
-// Pairs of an address and a value that stand in proofs alone.
+// Pairs of an address and a value that exist in proofs alone.
 //
 // A field takes memory, and a ghost field is a fact about the other fields. A snapshot has no bytes
-// and is of any value that there was. An offer of a logbook has no bytes either, and asks for any
-// value that a proof can name. So a snapshot of an offer knows that value. The offer is made for
-// this alone: no step of a book runs it.
+// and can have any value that there was. An offer of a logbook has no bytes either, and asks for
+// any value that a proof can name. So a snapshot of an offer knows that value. The offer is made
+// for this alone: no step of a book uses it.
 ghost use Rattle.std.specs.Prelude.{◌≡◌, [], ◌∷◌};
 
 use journal_world::{Addr, Objects, Value};
@@ -12,7 +12,7 @@ use std::marker::Model;
 use std::snapshot::Snapshot;
 
 /// Pairs that their owner knows in proofs, the last one first. Contracts see them as a list. At run
-/// time nothing of it is there: it has no bytes, and its functions do nothing.
+/// time it has no bytes, and its functions do nothing.
 #[derive(Drop)]
 pub(crate) struct KnownPairs {
     asked: Snapshot<Offer<Objects, (), Unruled, NoGain>>,
@@ -109,7 +109,7 @@ impl Rule<Objects, ()> for Unruled {
     ghost moves = { λ ask before after answer. Unit {0} };
 }
 
-// What a step would give in trade: nothing.
+// A step gives nothing in trade.
 struct NoGain;
 
 impl Gain<Objects, ()> for NoGain {

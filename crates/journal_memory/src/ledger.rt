@@ -1,4 +1,4 @@
-// The core's ledger: its history, and what is counted beside it.
+// The core's ledger: its history, and the counts beside it.
 ghost use Rattle.std.specs.Prelude.{ℕ, ◌≡◌, ◌≢◌, [], false, length, replicate, IfErr, OnOk};
 ghost use mathlib.Core.List.{IsPrefix};
 ghost use Rattle.journal_world.specs.Histories.{opened, is_fenced, commits, count, floor};
@@ -20,23 +20,24 @@ use std::alloc::Global;
 use std::marker::Model;
 use std::sync::Wait;
 
-/// What the core knows without its disk: the history, with what is counted beside it, and who may
-/// go on.
+/// The core's knowledge without its disk: the history, the counts beside it, and the sessions that
+/// may go on.
 ///
-/// It holds no device and no log, so that none of its functions waits for a device call.
+/// It holds no device and no log, so none of its functions waits for a device call.
 #[derive(Drop)]
 pub struct Ledger<'b, R: MapRule, J: Naming> {
     pub(crate) writer: Writer<'b, J, R>,
-    // How many commits there were at the last cut.
+    // The number of commits at the last cut.
     pub(crate) cut: CommitCount,
     pub(crate) lengths: MarkedLengths,
-    // How many commits each session has, which sessions are fenced, and the number of the next one.
+    // The number of commits of each session, the fenced sessions, and the number of the next
+    // session.
     pub(crate) sessions: SessionCounts<J>,
     pub(crate) fenced: FencedSessions,
     pub(crate) next: SessionNumber,
     // It was stopped.
     pub(crate) closed: bool,
-    // How many commits touched each slot.
+    // The number of commits that touched each slot.
     pub(crate) slots: SlotCounts<J>,
 }
 
@@ -51,7 +52,7 @@ impl<'b, R: MapRule, J: Naming> Model for Ledger<'b, R, J> {
 }
 
 impl<'b, R: MapRule, J: Naming> Ledger<'b, R, J> {
-    /// A history without commits and fences, and no session. It takes no memory.
+    /// A history without commits and fences, and no session. The call takes no memory.
     pub fn new(
         alloc: Global,
         writer: Writer<'b, J, R>,
@@ -81,7 +82,7 @@ impl<'b, R: MapRule, J: Naming> Ledger<'b, R, J> {
         }
     }
 
-    /// How many entries the history has.
+    /// The number of entries of the history.
     pub(crate) fn len(&self) -> u64
         ensures length { result ≡ length self.now.history }
         ensures begun { self.now.history ≢ [] }
@@ -89,7 +90,7 @@ impl<'b, R: MapRule, J: Naming> Ledger<'b, R, J> {
         self.writer.len()
     }
 
-    /// How many commits the history has.
+    /// The number of commits of the history.
     pub(crate) fn count(&self) -> CommitCount
         ensures { result ≡ count self.now.history }
     {
@@ -103,7 +104,7 @@ impl<'b, R: MapRule, J: Naming> Ledger<'b, R, J> {
         self.writer.floor()
     }
 
-    /// Whether it was stopped.
+    /// True if it was stopped.
     pub(crate) fn is_closed(&self) -> bool
         ensures { result ≡ self.now.closed }
     {
@@ -121,7 +122,7 @@ impl<'b, R: MapRule, J: Naming> Ledger<'b, R, J> {
         self.writer.front()
     }
 
-    /// Shows that what is held agrees with the history: as many commits touched each slot as its
+    /// Shows that the held slots agree with the history: as many commits touched each slot as its
     /// token says. Nothing changes.
     pub(crate) fn verify_tokens<W: Wait>(&mut self, rt: &W, held: &mut [Held<J>])
         ensures same { self.new ≡ self.old }

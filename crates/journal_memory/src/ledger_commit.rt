@@ -1,4 +1,4 @@
-// What the ledger adds to the history.
+// The entries that the ledger adds to the history.
 ghost use Rattle.std.specs.Prelude.{◌≡◌, ◌≢◌, ◌<◌, ◌≤◌, ◌+◌, ◌^◌, ◌++◌, ◌∷◌, ◌⊎◌, [], max, false, IsTrue, length, IfOk, IfErr, OnOk, OnErr};
 ghost use Rattle.journal_world.specs.Maps.{Agrees, are_objects};
 ghost use Rattle.journal_world.specs.Histories.{opened, is_trusted, is_fenced, commits_of, count, floor, latest};
@@ -24,8 +24,8 @@ use std::sync::Wait;
 
 impl<'b, R: MapRule, J: Naming> Ledger<'b, R, J> {
     /// Refuses a commit by what is known of the session and of what the transaction has seen: J9
-    /// and J14. The session has then seen the history as it is, or the longer one. No commit is
-    /// under its number that it did not make, as a check of its token shows, so that J10 never
+    /// and J14. The session has then seen the history as it is, or the longer one. A check of the
+    /// session's token shows that the session made all commits under its number, so J10 never
     /// comes.
     pub(crate) fn admit<W: Wait>(
         &mut self,
@@ -44,11 +44,11 @@ impl<'b, R: MapRule, J: Naming> Ledger<'b, R, J> {
         ensures refusal { IfErr result (IsAdmissionRefusal self.old.history session.old transaction.now) }
         ensures longer { IfErr result (ShowsLonger self.old.history session.new) }
     {
-        // Called for its contract: by which layout the history is.
+        // Called for its contract: the layout of the history.
         let _len = self.writer.len();
         self.sessions.verify_session(rt, session);
         self.catch_up(session, transaction)?;
-        // Called for its contract: what it has read.
+        // Called for its contract: the reads of the transaction.
         let _front = transaction.front();
         if self.fenced.has(SessionNumber::new(session.number())) {
             return Err(Refusal::Fenced);
@@ -56,7 +56,7 @@ impl<'b, R: MapRule, J: Naming> Ledger<'b, R, J> {
         Ok(())
     }
 
-    // Shows the session all that is known of the history. Refuses by J9 where that is more than the
+    // Shows the session all that is known of the history. Refuses by J9 if that is more than the
     // core knows.
     fn catch_up(
         &self,
@@ -74,7 +74,8 @@ impl<'b, R: MapRule, J: Naming> Ledger<'b, R, J> {
         self.show(session)
     }
 
-    /// Adds the session's next transaction to the history. Refuses by J9, and is then as it was.
+    /// Adds the session's next transaction to the history. Refuses by J9. The ledger is then as it
+    /// was.
     pub(crate) fn commit<W: Wait>(
         &mut self,
         rt: &W,
@@ -116,20 +117,20 @@ impl<'b, R: MapRule, J: Naming> Ledger<'b, R, J> {
                 return Err(Refusal::Stale(Cause::of(RefusalNumber::J9, front)));
             }
         };
-        // Nothing fails from here on.
+        // Nothing can fail from here on.
         self.slots.count_writes(rt, held, &transaction.writes);
         self.next = self.next.past(number);
         Ok(receipt)
     }
 
-    /// How many commits there were at the last cut.
+    /// The number of commits at the last cut.
     pub(crate) fn cut(&self) -> CommitCount
         ensures { result ≡ self.now.cut }
     {
         self.cut
     }
 
-    /// Notes a cut: all commits that there are.
+    /// Notes a cut of all commits that there are.
     pub(crate) fn note_cut(&mut self)
         ensures { self.new ≡ record self.old { cut = count self.old.history } }
     {
@@ -137,8 +138,8 @@ impl<'b, R: MapRule, J: Naming> Ledger<'b, R, J> {
         self.lengths.cut = HistoryLength::new(self.writer.len());
     }
 
-    /// Marks that n commits are stable, those at the last cut or all, and tells it. Refuses by J11
-    /// and J9, and is then as it was.
+    /// Marks the first n commits as stable, those at the last cut or all, and publishes the mark.
+    /// Refuses by J11 and J9. The ledger is then as it was.
     pub(crate) fn mark(&mut self, n: CommitCount) -> Result<(), Refusal<Cause<'b, J, R>>>
         requires rises { floor self.old.history ≤ n }
         requires made { n ≤ count self.old.history }

@@ -16,8 +16,9 @@ use journal_world::{MapRule, Refusal};
 use std::sync::Wait;
 
 impl<'b, R: MapRule, J: Naming> Ledger<'b, R, J> {
-    /// Fences a session, by an entry of the history, where no fence of it stands. The session that
-    /// is lent has then seen the whole history. Refuses by J9, J11 and J1, and is then as it was.
+    /// Fences a session, by an entry of the history, if it has no fence yet. The session that is
+    /// lent has then seen the whole history. Refuses by J9, J11 and J1. The ledger is then as it
+    /// was.
     pub(crate) fn fence<W: Wait>(
         &mut self,
         rt: &W,
@@ -66,7 +67,7 @@ impl<'b, R: MapRule, J: Naming> Ledger<'b, R, J> {
             session.see(&front);
             return Err(Refusal::Stale(Cause::of(RefusalNumber::J9, front)));
         }
-        // Nothing fails from here on.
+        // Nothing can fail from here on.
         self.fenced.insert(target);
         self.sessions.raise(rt, target.following().get());
         self.lengths.add_non_commit(len);

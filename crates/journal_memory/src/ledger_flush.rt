@@ -1,4 +1,4 @@
-// What a session is told of the marks of all that it has seen.
+// The marks of all that a session has seen, and how they are shown to it.
 ghost use Rattle.std.specs.Prelude.{◌≡◌, ◌≤◌, ◌↔◌, IsTrue, length};
 ghost use mathlib.Core.List.{IsPrefix};
 ghost use Rattle.journal_world.specs.Histories.{commits_of, count, floor};
@@ -10,8 +10,8 @@ use journal_history::{Naming, Session};
 use journal_world::MapRule;
 
 impl<'b, R: MapRule, J: Naming> Ledger<'b, R, J> {
-    /// Whether all commits are marked that the session has seen, which has seen no more of the
-    /// history. It takes the same time however long the history is.
+    /// True if all commits that the session has seen are marked. The session has seen no more than
+    /// the history. The call takes the same time for any length of the history.
     pub(crate) fn has_marked(&self, session: &Session<'b, J, R>) -> bool
         requires { IsPrefix session.now.seen self.now.history }
         ensures { IsTrue result ↔ (count session.now.seen ≤ floor self.now.history) }
@@ -19,8 +19,7 @@ impl<'b, R: MapRule, J: Naming> Ledger<'b, R, J> {
         HistoryLength::new(session.seen()) <= self.lengths.marked
     }
 
-    /// Shows the session the whole history, which has no commit under its number that it did not
-    /// make.
+    /// Shows the session the whole history. The session made all commits there under its number.
     pub(crate) fn show_whole(&self, session: &mut Session<'b, J, R>)
         requires seen { IsPrefix session.old.seen self.now.history }
         requires own { length (commits_of session.old.number self.now.history) ≡ made session.old }

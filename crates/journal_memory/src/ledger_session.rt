@@ -14,8 +14,8 @@ use journal_world::{MapRule, Refusal};
 use std::sync::Wait;
 
 impl<'b, R: MapRule, J: Naming> Ledger<'b, R, J> {
-    /// A session of the next number, that no session had before and that is not fenced. Refuses by
-    /// J11. It takes no memory.
+    /// A session of the next number, which no session had before and which is not fenced. Refuses
+    /// by J11. The call takes no memory.
     pub(crate) fn session(&mut self) -> Result<Session<'b, J, R>, Refusal<Cause<'b, J, R>>>
         ensures is { IfOk result (λ session. session ≡ record { number = self.old.next; mine = self.old.history; seen = self.old.history }) }
         ensures fresh { commits_of self.old.next self.old.history ≡ [] }
@@ -50,9 +50,9 @@ impl<'b, R: MapRule, J: Naming> Ledger<'b, R, J> {
         }
     }
 
-    /// Refuses by J9 where the history is longer, or the session has seen more. Nothing changes. No
-    /// commit is under the session's number that it did not make, as a check of its token shows, so
-    /// that J10 never comes.
+    /// Refuses by J9 if the history is longer, or the session has seen more. Nothing changes. A
+    /// check of the session's token shows that the session made all commits under its number, so
+    /// J10 never comes.
     pub(crate) fn check_session<W: Wait>(
         &mut self,
         rt: &W,

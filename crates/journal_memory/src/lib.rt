@@ -1,9 +1,9 @@
-//! What a mounted journal has in memory, for a lock of its own. No function here calls a device.
+//! The memory of a mounted journal, for a lock of its own. No function here calls a device.
 //!
 //!   Volatile     the ledger, the blocks that commits wrote and that are not home yet, and copies
 //!                of home blocks
 //!   Ledger       the history, with the counts of each session and slot, the marks and the fences
-//!   Transaction  what an open transaction has read and overwritten
+//!   Transaction  the reads and overwrites of an open transaction
 //!   Fetched      blocks as they are logged, which the part with the disk reads
 //!   BitScan      asks for the bits of a block that have a value
 //!

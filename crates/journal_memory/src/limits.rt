@@ -1,4 +1,4 @@
-// How far a history goes.
+// The limits of a history.
 
-/// The history's length and the sessions' numbers stay below this.
+/// The history's length and the sessions' numbers are below this.
 pub(crate) const MAX_HISTORY_LENGTH: u64 = 1 << 62;

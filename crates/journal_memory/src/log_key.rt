@@ -1,4 +1,4 @@
-// What only the part with the log may ask of memory, and refuse by.
+// The calls of memory, and the refusals, that only the part with the log may make.
 ghost use Rattle.std.specs.Prelude.{◌≡◌, IsErr, IfOk, IfErr};
 ghost use Rattle.journal_memory.specs.Causes.{IsExplained, raised_of};
 
@@ -9,9 +9,9 @@ use journal_lockmap::SlotCounts;
 use journal_world::{MapRule, Refusal};
 use std::marker::{Model, PhantomData};
 
-/// The key to what moves commits from memory to the log: a cut, a mark, a trim, and the note of a
-/// fault. It also makes the causes of the log's refusals. There is no copy of it. The part with the
-/// log keeps it private, so its holds alone do these, and no crate above makes a cause.
+/// The key to the calls that move commits from memory to the log: a cut, a mark, a trim, and the
+/// note of a fault. It also makes the causes of the log's refusals. It cannot be copied. The part
+/// with the log keeps it private, so only its holds do these, and no crate above makes a cause.
 #[derive(Drop)]
 pub struct LogKey<J: Naming> {
     journal: PhantomData<J>,
@@ -24,8 +24,8 @@ impl<J: Naming> Model for LogKey<J> {
 }
 
 impl<J: Naming> LogKey<J> {
-    /// The key of a mount that is being opened. Who has the counts of its slots is who opens it:
-    /// they are made once, and the ledger takes them then.
+    /// The key of a mount that is being opened. Only the opening has the counts of its slots: they
+    /// are made once, and the ledger takes them then.
     pub fn of(_counts: &SlotCounts<J>) -> LogKey<J> {
         LogKey {
             journal: PhantomData,
@@ -51,6 +51,9 @@ impl<J: Naming> LogKey<J> {
     }
 
     /// The answer of a lower layer, as the journal's.
+    ///
+    /// # Errors
+    /// - The refusal that the layer answered. A cause in it has its number, and no history.
     pub fn raise<'b, T, R: MapRule>(
         &self,
         answer: Result<T, Refusal<()>>,

@@ -1,12 +1,12 @@
-// Which fronts of the history have only marked commits.
+// The fronts of the history that have only marked commits.
 ghost use Rattle.std.specs.Prelude.{◌<◌, ◌^◌, ◌≡◌};
 ghost use Rattle.journal_memory.specs.MarkedLengths.{with_non_commit};
 
 use crate::history_length::HistoryLength;
 
-/// The lengths of two fronts of the history: the longest whose commits are all marked, and the
-/// longest that has no more commits than there were at the last cut. A mark is of the commits at
-/// the cut or of all, so the next mark finds the first of them without a look at the history.
+/// The lengths of two fronts of the history: the longest with marked commits alone, and the longest
+/// with no more commits than there were at the last cut. A mark is of the commits at the cut or of
+/// all, so the next mark finds the first of them without a look at the history.
 #[derive(Clone, Copy)]
 pub(crate) struct MarkedLengths {
     pub(crate) marked: HistoryLength,
@@ -14,7 +14,7 @@ pub(crate) struct MarkedLengths {
 }
 
 impl MarkedLengths {
-    /// An entry that is no commit was added after `len` entries: a front that had all of them is
+    /// An entry that is no commit was added after `len` entries. A front that had all of them is
     /// longer by one.
     pub(crate) fn add_non_commit(&mut self, len: HistoryLength)
         requires { len < 2 ^ 62 }
@@ -25,7 +25,7 @@ impl MarkedLengths {
     }
 }
 
-// The length of a front of so many entries with one entry more.
+// The length of a front with one entry more.
 fn one_longer(entries: HistoryLength, len: HistoryLength) -> HistoryLength
     requires { len < 2 ^ 62 }
     ensures { result ≡ with_non_commit len entries }

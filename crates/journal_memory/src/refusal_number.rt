@@ -1,4 +1,4 @@
-// Which refusal a cause was made for.
+// The refusal that a cause was made for.
 
 /// The number of a refusal that holds a cause.
 #[derive(Clone, Copy, Debug, PartialEq, Eq)]

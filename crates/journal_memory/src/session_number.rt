@@ -3,10 +3,10 @@ ghost use Rattle.std.specs.Prelude.{◌≡◌, ◌+◌, ◌<◌, ◌^◌, max};
 
 use std::marker::Model;
 
-/// Which session: sessions are numbered in the order in which they begin. Contracts see the number.
+/// The number of a session: sessions are numbered in the order in which they begin. Contracts see
+/// the number.
 ///
-/// How many commits there are, and how long the history is, are numbers too, and are not meant
-/// here.
+/// Not a count of commits, not a length of the history.
 #[derive(Clone, Copy, Debug, PartialEq, Eq, PartialOrd, Ord)]
 pub struct SessionNumber(u64);
 
@@ -43,7 +43,7 @@ impl SessionNumber {
         SessionNumber(self.0 + 1)
     }
 
-    /// This number, where it follows the other one, else the number that follows that.
+    /// This number if it is above the other one, else the number after the other one.
     pub(crate) fn past(self, taken: SessionNumber) -> SessionNumber
         requires { taken < 2 ^ 62 }
         ensures { result ≡ max self (taken + 1) }

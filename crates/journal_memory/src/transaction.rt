@@ -1,4 +1,4 @@
-// What an open transaction has done.
+// The reads and overwrites of an open transaction.
 ghost use Rattle.std.specs.Prelude.{◌≡◌, ◌≢◌, [], IsTrue, OnOk, OnErr};
 ghost use mathlib.Core.List.{IsPrefix};
 ghost use Rattle.std.specs.Option.{option_copied};
@@ -13,11 +13,11 @@ use journal_world::{Addr, MapRule, Objects, Value};
 use std::alloc::{AllocError, Global};
 use std::marker::Model;
 
-/// What an open transaction has read and overwritten. Contracts see both, by address, and a history
-/// at whose end all that it read is what the map gives: a transaction sees one map, whether it is
-/// committed or not.
+/// The reads and overwrites of an open transaction. Contracts see both, by address, and a history
+/// at whose end the map gives all that it read: a transaction sees one map, whether it is committed
+/// or not.
 ///
-/// What it read stands in proofs alone: no code looks at it, and nothing of it is copied.
+/// Its reads exist in proofs alone: no code looks at them, and nothing of them is copied.
 #[derive(Drop)]
 pub struct Transaction<'b, J: Naming, R: MapRule> {
     pub(crate) reads: KnownPairs,
@@ -35,8 +35,8 @@ impl<'b, J: Naming, R: MapRule> Model for Transaction<'b, J, R> {
     ghost invariant = { λ t. IsTransaction J.layout (record { reads = t.reads; writes = t.writes; seen = t.front }) };
 }
 
-/// What a read found, until its transaction remembers it: the address, and the history at whose end
-/// its value was looked up.
+/// The result of a read, until its transaction remembers it: the address, and the history at whose
+/// end its value was looked up.
 #[derive(Drop)]
 pub struct ReadResult<'b, J: Naming, R: MapRule> {
     pub(crate) addr: Addr,
@@ -58,7 +58,8 @@ impl<'b, J: Naming, R: MapRule> Recorded for Transaction<'b, J, R> {
 }
 
 impl<'b, J: Naming, R: MapRule> Transaction<'b, J, R> {
-    /// One that has done nothing yet, after all that the session has seen. It takes no memory.
+    /// A transaction that has done nothing yet, after all that the session has seen. The call takes
+    /// no memory.
     pub fn begin(alloc: Global, session: &Session<'b, J, R>) -> Transaction<'b, J, R>
         ensures { result ≡ begun session.now.seen }
     {
@@ -71,7 +72,7 @@ impl<'b, J: Naming, R: MapRule> Transaction<'b, J, R> {
         }
     }
 
-    /// The history at whose end all that it read is what the map gives.
+    /// The history at whose end the map gives all that it read.
     pub fn front(&self) -> &Front<'b, J, R>
         ensures seen { result.now ≡ self.now.seen }
         ensures begun { self.now.seen ≢ [] }
@@ -89,13 +90,15 @@ impl<'b, J: Naming, R: MapRule> Transaction<'b, J, R> {
         self.writes.get(addr)
     }
 
-    /// Memory for its writes to be made ready in, as far as there is any.
+    /// Memory in which its writes are made ready, as far as there is any.
     pub fn spares(&self, alloc: Global) -> Spares {
         Spares::for_writes(alloc, &self.writes)
     }
 
-    /// Gives the address this value, in place of one that it gave it before. After an `Err` all is
-    /// as before.
+    /// Gives the address this value, in place of one that it gave it before.
+    ///
+    /// # Errors
+    /// - Memory is refused. The transaction is as it was.
     pub fn overwrite(&mut self, addr: Addr, value: Value) -> Result<(), AllocError>
         requires object { IsTrue (is_object J.layout (addr, value)) }
         ensures ok { OnOk result (Overwrites self.old addr value self.new) }

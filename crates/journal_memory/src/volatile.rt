@@ -1,4 +1,4 @@
-// The core's volatile part, and what it tells without a step.
+// The core's volatile part, and its facts that take no step.
 ghost use Rattle.std.specs.Prelude.{◌≡◌, ◌<◌, ◌≤◌, ◌+◌, ◌^◌, [], false, true, length, IfOk, IfErr, OnOk, OnErr};
 ghost use mathlib.Core.List.{IsPrefix};
 ghost use Rattle.journal_world.specs.Histories.{opened, commits_of, is_fenced, count};
@@ -25,13 +25,13 @@ use journal_world::{CommitCount, Layout, MapRule, Refusal};
 use std::marker::Model;
 use std::sync::Wait;
 
-/// What the core has in memory alone, for a lock of its own: the history, with what is counted
+/// The part of the core that is in memory alone, for a lock of its own: the history, the counts
 /// beside it, the objects that commits wrote and that are not at home yet, and copies of blocks
 /// that are at home.
 ///
-/// It holds no device, so that none of its functions waits for a device call. A read or a commit
-/// that needs a block which is not here says so. The caller fetches it from the durable part, and
-/// makes the call again with what was fetched.
+/// It holds no device, so none of its functions waits for a device call. If a read or a commit
+/// needs a block that is not here, its answer says so. The caller fetches it from the durable part,
+/// and makes the call again with the fetched block.
 #[derive(Drop)]
 pub struct Volatile<'b, R: MapRule, J: Naming> {
     pub(crate) layout: NamedLayout<J>,
@@ -52,8 +52,8 @@ impl<'b, R: MapRule, J: Naming> Model for Volatile<'b, R, J> {
 }
 
 impl<'b, R: MapRule, J: Naming> Volatile<'b, R, J> {
-    /// That of a mount that begins, over a disk whose log ends at a position: no commit was made,
-    /// and no block is known.
+    /// The volatile part of a mount that begins, over a disk whose log ends at a position: no
+    /// commit was made, and no block is known.
     pub fn new(layout: Layout, ledger: Ledger<'b, R, J>, tail: ObjectTail) -> Volatile<'b, R, J>
         requires layout { shape layout ≡ J.layout }
         requires begun { ledger.cut ≡ 0 }
@@ -82,7 +82,7 @@ impl<'b, R: MapRule, J: Naming> Volatile<'b, R, J> {
         self.ledger.front()
     }
 
-    /// How many commits there were at the last cut.
+    /// The number of commits at the last cut.
     pub fn last_cut(&self) -> CommitCount
         ensures { result ≡ self.now.ledger.cut }
     {
@@ -96,22 +96,26 @@ impl<'b, R: MapRule, J: Naming> Volatile<'b, R, J> {
         let _len = self.tail.tail_len();
     }
 
-    /// Which objects the disk has.
+    /// The layout of the disk.
     pub fn layout(&self) -> Layout
         ensures { shape result ≡ J.layout }
     {
         *self.layout.get()
     }
 
-    /// It keeps what its type keeps. Called for its contract.
+    /// The invariant of its type. Called for its contract.
     pub fn prove_invariant(&self)
         ensures { IsVolatile J.layout self.now }
     {
         let _faulted = self.faulted;
     }
 
-    /// Refuses by J13 `Closed` where it was stopped, else by J6 `DeviceFailed` where the device
-    /// failed before, and by nothing else.
+    /// Checks that neither a stop nor a fault ended it.
+    ///
+    /// # Errors
+    /// The first that applies is answered. Nothing changed.
+    /// - `J13 Closed`: it was stopped.
+    /// - `J6 DeviceFailed`: the device failed before.
     pub fn check_running(&self) -> Result<(), Refusal<Cause<'b, J, R>>>
         ensures running { OnOk result (GoesOn (outset_of self.now)) }
         ensures refusal { IfErr result (IsEndRefusal (outset_of self.now)) }
@@ -125,8 +129,10 @@ impl<'b, R: MapRule, J: Naming> Volatile<'b, R, J> {
         Ok(())
     }
 
-    /// The whole history, where another part's front begins it. Refuses by J9 where that is the
-    /// longer.
+    /// The whole history, if another part's front begins it.
+    ///
+    /// # Errors
+    /// - `J9 Stale`: that front is the longer. Nothing changed.
     pub fn front_over(
         &self,
         seen: &Front<'b, J, R>,
@@ -143,8 +149,11 @@ impl<'b, R: MapRule, J: Naming> Volatile<'b, R, J> {
         Ok(front)
     }
 
-    /// A hold of memory alone: a session of the next number, that no session had before and that is
-    /// not fenced. Refuses by J11. It takes no memory.
+    /// A hold of memory alone: a session of the next number, which no session had before and which
+    /// is not fenced. The call takes no memory.
+    ///
+    /// # Errors
+    /// - `J11 Worn`: the number would reach 2^62. Nothing changed.
     pub fn session(&mut self) -> Result<Session<'b, J, R>, Refusal<Cause<'b, J, R>>>
         ensures is { IfOk result (λ session. session ≡ record { number = self.old.ledger.next; mine = self.old.ledger.history; seen = self.old.ledger.history }) }
         ensures fresh { commits_of self.old.ledger.next self.old.ledger.history ≡ [] }
@@ -157,8 +166,8 @@ impl<'b, R: MapRule, J: Naming> Volatile<'b, R, J> {
         self.ledger.session()
     }
 
-    /// Shows that what is held agrees with the history: as many commits touched each slot as its
-    /// token says. Nothing changes, and it waits for nobody.
+    /// Shows that the held slots agree with the history: as many commits touched each slot as its
+    /// token says. Nothing changes, and the call does not block.
     pub fn verify_tokens<W: Wait>(&mut self, rt: &W, held: &mut [Held<J>])
         ensures same { self.new ≡ self.old }
         ensures held { held.new ≡ held.old }
@@ -167,7 +176,7 @@ impl<'b, R: MapRule, J: Naming> Volatile<'b, R, J> {
         self.ledger.verify_tokens(rt, held);
     }
 
-    /// Of a hold of both: notes that a device call failed.
+    /// Part of a hold of both: notes that a device call failed.
     pub fn fail(&mut self, _key: &LogKey<J>)
         ensures { self.new ≡ record self.old { faulted = true } }
     {

@@ -31,7 +31,7 @@ use journal_tail::{Preparation, Prepared, Spares};
 use journal_world::{MapRule, Objects, Refusal};
 use std::sync::Wait;
 
-/// What a commit in memory answers.
+/// The answer of a commit in memory.
 #[derive(Drop)]
 pub enum CommitStep<T> {
     /// It was made.
@@ -43,21 +43,27 @@ pub enum CommitStep<T> {
 impl<'b, R: MapRule, J: Naming> Volatile<'b, R, J> {
     /// A hold of memory alone: commits the session's next transaction. It adds it to the history,
     /// which the session has then seen, and overwrites the map by its writes, in memory. A block
-    /// that is written, but not as a whole, has to be in memory, or fetched and still usable: where
-    /// some are not, nothing is committed, and the answer is these.
+    /// that is written in part has to be in memory, or fetched and still usable. If some are not,
+    /// nothing is committed, and the answer is these blocks.
     ///
-    /// What it reads and writes lies under slots that are held, each once. They are verified first:
-    /// that waits for nobody, and shows that no other commit touched one since it was read: nothing
-    /// is compared. What is held agrees with the history then too.
+    /// The slots of its reads and writes are held, each once. Their tokens are verified first. That
+    /// shows that no other commit touched these slots. It does not block and compares no value.
+    /// Then the held slots agree with the history too.
     ///
-    /// The first that applies of these refuses it: J13 `Closed` where it was stopped, J6
-    /// `DeviceFailed` where the device failed before, J9 `Stale` where the session, the transaction
-    /// or the fetch has seen more of the history, or it is longer, J10 `Stranger` where the history
-    /// has a commit under the session's number that the session did not make, J14 `Fenced` where
-    /// the session is fenced, J4 `TooLarge` where more than 128 distinct blocks are written, J11
-    /// `Worn` where the history's length, the session's number or a position of the log would reach
-    /// 2^62, J12 `Full` where the tail cannot take the blocks that do not stand in it, then J1
-    /// `NoMemory` where memory is refused. The history and the objects are then as they were.
+    /// # Errors
+    /// The first that applies is answered. The history and the objects are as they were.
+    /// - `J13 Closed`: it was stopped.
+    /// - `J6 DeviceFailed`: the device failed before.
+    /// - `J9 Stale`: the session, the transaction or the fetch has seen more of the history, or the
+    ///   history is longer.
+    /// - `J10 Stranger`: the history has a commit under the session's number that the session did
+    ///   not make.
+    /// - `J14 Fenced`: the session is fenced.
+    /// - `J4 TooLarge`: more than 128 distinct blocks are written.
+    /// - `J11 Worn`: the history's length, the session's number or a position of the log would
+    ///   reach 2^62.
+    /// - `J12 Full`: the tail has no room for the blocks that are not in it.
+    /// - `J1 NoMemory`: memory is refused.
     pub fn commit<W: Wait>(
         &mut self,
         rt: &W,
@@ -87,7 +93,11 @@ impl<'b, R: MapRule, J: Naming> Volatile<'b, R, J> {
         answer
     }
 
-    /// Commits as `commit` does, once it was verified that what was read has not moved.
+    /// Commits as `commit` does, once it was verified that no other commit touched the slots of its
+    /// reads.
+    ///
+    /// # Errors
+    /// Those of `commit`. The history and the objects are as they were.
     pub fn commit_verified<W: Wait>(
         &mut self,
         rt: &W,
@@ -127,7 +137,7 @@ impl<'b, R: MapRule, J: Naming> Volatile<'b, R, J> {
     }
 
     // Refuses a commit by what is known of the session and of what the transaction has seen: J9 and
-    // J14. Nothing changes but what the session has seen.
+    // J14. Nothing changes but the history that the session has seen.
     fn admit<W: Wait>(
         &mut self,
         rt: &W,
@@ -148,8 +158,8 @@ impl<'b, R: MapRule, J: Naming> Volatile<'b, R, J> {
         self.ledger.admit(rt, session, transaction)
     }
 
-    // Makes the writes ready, with all the memory that they take, or tells which blocks have to be
-    // fetched first. Refuses by J4, J11 and J12, then J1.
+    // Makes the writes ready, with all the memory that they take, or answers the blocks that have
+    // to be fetched first. Refuses by J4, J11 and J12, then J1.
     fn prepare(
         &mut self,
         session: &Session<'b, J, R>,
@@ -218,14 +228,14 @@ impl<'b, R: MapRule, J: Naming> Volatile<'b, R, J> {
         ensures longer { IfErr result (ShowsLonger self.old.ledger.history session.new) }
     {
         let receipt = self.ledger.commit(rt, session, transaction, held)?;
-        // Nothing fails from here on.
+        // Nothing can fail from here on.
         let Volatile { layout, tail, .. } = self;
         tail.apply(layout.get(), prepared, &transaction.writes);
         Ok(receipt)
     }
 }
 
-// Whether it is refused by J4.
+// True if it is refused by J4.
 fn is_too_large<T>(answer: &Result<T, Refusal<()>>) -> bool
     ensures { IsTrue result ↔ (answer.now ≡ Err TooLarge) }
 {

@@ -1,4 +1,4 @@
-// What is cut from memory, marked, dropped from it, and kept in it.
+// How memory is cut, marked and trimmed, and which copies it keeps.
 ghost use Rattle.std.specs.Prelude.{◌≡◌, ◌<◌, ◌≤◌, ◌⊎◌, ◌++◌, ◌∷◌, [], length, IsTrue, IsOkUnless, IfOk, IfErr, OnOk, OnErr, All};
 ghost use Rattle.journal_world.specs.Histories.{is_trusted, count, floor, latest};
 ghost use Rattle.journal_world.specs.Histories.Entry.{stable};
@@ -20,11 +20,11 @@ use journal_tail::Position;
 use journal_world::{CommitCount, MapRule, Refusal};
 
 impl<'b, R: MapRule, J: Naming> Volatile<'b, R, J> {
-    /// Of a hold of both: cuts. It hands out a copy of all that commits wrote since the last cut,
-    /// as the last of them left it.
+    /// Part of a hold of both: cuts. It hands out a copy of all blocks that commits wrote since the
+    /// last cut, as the last of them left them.
     ///
-    /// Answers J1 `NoMemory`, and nothing else, where memory for the copy is refused. All is then
-    /// as it was.
+    /// # Errors
+    /// - `J1 NoMemory`: the memory for the copy is refused. All is as it was.
     pub fn cut(&mut self, _key: &LogKey<J>) -> Result<Vec<Update>, Refusal<Cause<'b, J, R>>>
         ensures group { IfOk result (λ group. group.items ≡ tail_of self.old.tail.log) }
         ensures all { IsTrue (is_trusted self.old.ledger.history) → IfOk result (λ group. HaveAllSince J.layout self.old.ledger.history self.old.ledger.cut group.items) }
@@ -43,8 +43,8 @@ impl<'b, R: MapRule, J: Naming> Volatile<'b, R, J> {
         Ok(group)
     }
 
-    /// Of a hold of memory alone: makes the copy of the home block the one that was used last,
-    /// where there is one.
+    /// Part of a hold of memory alone: makes the copy of the home block the most recently used, if
+    /// there is one.
     pub fn touch(&mut self, block: u64)
         ensures event { KeepsCopies J.layout self.old self.new }
     {
@@ -58,9 +58,9 @@ impl<'b, R: MapRule, J: Naming> Volatile<'b, R, J> {
         self.tail.touch(block);
     }
 
-    /// Of a hold of memory alone: keeps copies of the fetched blocks for later reads and commits,
-    /// unless what commits wrote after them is not in memory any more. Where there are too many
-    /// copies, those go that were used least recently. One for which memory is refused is not kept.
+    /// Part of a hold of memory alone: keeps copies of the fetched blocks for later reads and
+    /// commits, unless memory has dropped the writes of later commits. Above the limit those copies
+    /// are dropped that were used least recently. One for which memory is refused is not kept.
     pub fn keep(&mut self, fetched: Fetched<'b, J, R>)
         ensures event { KeepsCopies J.layout self.old self.new }
     {
@@ -77,7 +77,7 @@ impl<'b, R: MapRule, J: Naming> Volatile<'b, R, J> {
         }
     }
 
-    // Whether what commits wrote after the fetch is in memory.
+    // True if the writes of all commits after the fetch are in memory.
     fn can_keep(&self, fetched: &Fetched<'b, J, R>) -> bool
         ensures { IsTrue result → IsTrue (is_trusted self.now.ledger.history)
             → AreObjectsOf J.layout (latest self.now.ledger.history) (fetched.now.updates ++ self.now.tail.log.updates) }
@@ -88,8 +88,8 @@ impl<'b, R: MapRule, J: Naming> Volatile<'b, R, J> {
         self.tail.trimmed() <= fetched.commits
     }
 
-    /// Of a hold of both: drops the updates of each cut that ends at the position or before it,
-    /// which are at home. Copies of their blocks are overwritten by them.
+    /// Part of a hold of both: drops the updates of each cut that ends at the position or before
+    /// it, which are at home. They overwrite the copies of their blocks.
     pub fn trim(&mut self, _key: &LogKey<J>, upto: Position)
         ensures drops { DropsCuts self.old.tail upto self.new.tail }
         ensures left { All (λ c. upto < c.end) self.new.tail.cuts }
@@ -98,8 +98,13 @@ impl<'b, R: MapRule, J: Naming> Volatile<'b, R, J> {
         self.tail.trim(upto);
     }
 
-    /// Of a hold of both: marks that n commits are stable, those at the last cut or all, and tells
-    /// it. Refuses by J11 and J9, and is then as it was.
+    /// Part of a hold of both: marks the first n commits as stable, those at the last cut or all,
+    /// and publishes the mark.
+    ///
+    /// # Errors
+    /// All is as it was.
+    /// - `J11 Worn`: the history's length would reach 2^62.
+    /// - `J9 Stale`: the history is longer.
     pub fn mark(&mut self, _key: &LogKey<J>, n: CommitCount) -> Result<(), Refusal<Cause<'b, J, R>>>
         requires rises { floor self.old.ledger.history ≤ n }
         requires made { n ≤ count self.old.ledger.history }

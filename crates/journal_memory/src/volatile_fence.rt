@@ -14,15 +14,19 @@ use journal_world::{MapRule, Refusal};
 use std::sync::Wait;
 
 impl<'b, R: MapRule, J: Naming> Volatile<'b, R, J> {
-    /// A hold of memory alone: fences a session, by an entry of the history, where no fence of it
-    /// stands: none of its commits is added from then on, and no session gets its number. The
-    /// session that is lent has then seen the whole history. It may be the one that is fenced.
+    /// A hold of memory alone: fences a session, by an entry of the history, if it has no fence
+    /// yet. None of its commits is added from then on, and no session gets its number. The session
+    /// that is lent has then seen the whole history. It may be the one that is fenced.
     ///
-    /// The first that applies of these refuses it: J13 `Closed` where it was stopped, J6
-    /// `DeviceFailed` where the device failed before, J9 `Stale` where the history is longer, and
-    /// where no fence of it stands J11 `Worn` where the history's length or the number that is to
-    /// be fenced would reach 2^62, then J1 `NoMemory` where memory is refused. The history is then
-    /// as it was, and the session may have seen more.
+    /// # Errors
+    /// The first that applies is answered. The history is as it was, and the session may have seen
+    /// more.
+    /// - `J13 Closed`: it was stopped.
+    /// - `J6 DeviceFailed`: the device failed before.
+    /// - `J9 Stale`: the history is longer.
+    /// - `J11 Worn`: it has no fence yet, and the history's length or the number to fence would
+    ///   reach 2^62.
+    /// - `J1 NoMemory`: memory is refused.
     pub fn fence_step<W: Wait>(
         &mut self,
         rt: &W,

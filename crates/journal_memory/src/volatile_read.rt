@@ -1,4 +1,4 @@
-// Reads of what lies in memory.
+// Reads of the objects in memory.
 ghost use Rattle.std.specs.Prelude.{◌≡◌, Some, None, length, IsTrue, IsSome, IfOk, IfErr, IfSome, OnOk};
 ghost use mathlib.Core.List.{IsPrefix};
 ghost use Rattle.journal_world.specs.Addresses.{is_valid};
@@ -24,18 +24,20 @@ use journal_world::{Addr, MapRule, Refusal};
 use std::sync::Wait;
 
 impl<'b, R: MapRule, J: Naming> Volatile<'b, R, J> {
-    /// A hold of memory alone: reads what the map after the history gives the address, into bytes
-    /// that are as many as its object has: as memory has it, or where memory has no update of its
-    /// block, as it was fetched. Answers none where the block is to be fetched: it was not, or what
-    /// commits wrote after the fetch is not in memory any more. It takes no memory.
+    /// A hold of memory alone: reads the value that the map after the history gives the address,
+    /// into bytes that are as many as its object has. It is read as memory has it, or if memory has
+    /// no update of its block, as it was fetched. Answers none if the block has to be fetched: it
+    /// was not, or memory has dropped writes after the fetch. The call takes no memory.
     ///
-    /// What was read before lies under slots that are held. They are verified first: that
-    /// waits for nobody, and shows that no commit touched one since: nothing is compared. Nothing
-    /// changes.
+    /// The slots of all earlier reads are held. Their tokens are verified first. That shows that no
+    /// commit touched these slots since. It does not block and compares no value. Nothing changes.
     ///
-    /// The first that applies of these refuses it: J13 `Closed` where it was stopped, J6
-    /// `DeviceFailed` where the device failed before, J2 `BadAddress` where the address is not
-    /// valid, J9 `Stale` where the transaction or the fetch has seen more of the history.
+    /// # Errors
+    /// The first that applies is answered. The transaction is as it was.
+    /// - `J13 Closed`: it was stopped.
+    /// - `J6 DeviceFailed`: the device failed before.
+    /// - `J2 BadAddress`: the address is not valid.
+    /// - `J9 Stale`: the transaction or the fetch has seen more of the history.
     pub fn read<W: Wait>(
         &mut self,
         rt: &W,
@@ -57,8 +59,15 @@ impl<'b, R: MapRule, J: Naming> Volatile<'b, R, J> {
         self.read_verified(transaction, addr, fetched, into)
     }
 
-    /// Looks and refuses a read as `read` does, by what is known before the value is looked for:
-    /// J13, J6, J2, and by what the transaction has seen J9. Nothing changes.
+    /// Verifies the tokens, and refuses a read by what is known before its value is looked up.
+    /// Nothing changes.
+    ///
+    /// # Errors
+    /// The first that applies is answered.
+    /// - `J13 Closed`: it was stopped.
+    /// - `J6 DeviceFailed`: the device failed before.
+    /// - `J2 BadAddress`: the address is not valid.
+    /// - `J9 Stale`: the transaction has seen more of the history.
     pub fn check_read<W: Wait>(
         &mut self,
         rt: &W,
@@ -77,7 +86,11 @@ impl<'b, R: MapRule, J: Naming> Volatile<'b, R, J> {
         self.check_verified(transaction, addr)
     }
 
-    /// Reads as `read` does, once it was verified that what was read has not moved.
+    /// Reads as `read` does, once it was verified that no other commit touched the slots of its
+    /// reads.
+    ///
+    /// # Errors
+    /// Those of `read`. Nothing changed.
     pub fn read_verified(
         &self,
         transaction: &Transaction<'b, J, R>,
@@ -107,7 +120,8 @@ impl<'b, R: MapRule, J: Naming> Volatile<'b, R, J> {
         }))
     }
 
-    // Refuses a read as `check_read` does, once it was verified that what was read has not moved.
+    // Refuses a read as `check_read` does, once it was verified that no other commit touched the
+    // slots of its reads.
     pub(crate) fn check_verified(
         &self,
         transaction: &Transaction<'b, J, R>,
@@ -124,8 +138,7 @@ impl<'b, R: MapRule, J: Naming> Volatile<'b, R, J> {
         self.ledger.check_transaction(transaction)
     }
 
-    // The fetched blocks that may be used. Refuses by J9 where the fetch has seen more of the
-    // history.
+    // The fetched blocks that may be used. Refuses by J9 if the fetch has seen more of the history.
     pub(crate) fn usable<'a>(
         &self,
         fetched: &'a Fetched<'b, J, R>,

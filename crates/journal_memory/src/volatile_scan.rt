@@ -20,20 +20,18 @@ use journal_history::{Naming, Session};
 use journal_world::{MapRule, Refusal};
 
 impl<'b, R: MapRule, J: Naming> Volatile<'b, R, J> {
-    /// A hold of memory alone: copies a block of bits, so that each bit of the copy is what the map
+    /// A hold of memory alone: copies a block of bits. Each bit of the copy is the one that the map
     /// gives after the history, which the session has then seen. The block is as memory has it, or
-    /// where memory has no update of it, as it was fetched. Answers no where it is to be fetched,
-    /// as `read` does; the session is then as it was. It takes no memory, and the memory part stays
-    /// as it is.
+    /// if memory has no update of it, as it was fetched. Answers false if it has to be fetched, as
+    /// `read` does. The session is then as it was. The call takes no memory, and the memory part
+    /// stays as it is.
     ///
     /// # Errors
-    ///
-    /// The first that applies of these refuses it, and the session is then as it was:
-    ///
-    /// - J13 `Closed` where it was stopped;
-    /// - J6 `DeviceFailed` where the device failed before;
-    /// - J2 `BadAddress` where the block has no bits, or the first bit is above 32767;
-    /// - J9 `Stale` where the session or the fetch has seen more of the history.
+    /// The first that applies is answered. The session is as it was.
+    /// - `J13 Closed`: it was stopped.
+    /// - `J6 DeviceFailed`: the device failed before.
+    /// - `J2 BadAddress`: the block has no bits, or the first bit is above 32767.
+    /// - `J9 Stale`: the session or the fetch has seen more of the history.
     pub fn scan(
         &self,
         session: &mut Session<'b, J, R>,
@@ -47,8 +45,14 @@ impl<'b, R: MapRule, J: Naming> Volatile<'b, R, J> {
         self.copy_bits(session, scan, fetched, into)
     }
 
-    /// Refuses a scan by what is known before the block is looked for: J13, J6, J2, and by what the
-    /// session has seen J9. Nothing changes.
+    /// Refuses a scan by what is known before its block is looked up. Nothing changes.
+    ///
+    /// # Errors
+    /// The first that applies is answered.
+    /// - `J13 Closed`: it was stopped.
+    /// - `J6 DeviceFailed`: the device failed before.
+    /// - `J2 BadAddress`: the block has no bits, or the first bit is above 32767.
+    /// - `J9 Stale`: the session has seen more of the history.
     pub fn check_scan(
         &self,
         session: &Session<'b, J, R>,

@@ -1,4 +1,4 @@
-// What the volatile part tells sessions of marks, and its own numbers.
+// How sessions learn of marks, and the numbers of the volatile part.
 ghost use Rattle.std.specs.Prelude.{◌≡◌, ◌≤◌, ◌↔◌, false, length, IsTrue, IfOk, IfErr, OnOk, OnErr};
 ghost use mathlib.Core.List.{IsPrefix};
 ghost use Rattle.journal_world.specs.Histories.{commits_of, count, floor};
@@ -18,13 +18,16 @@ use journal_world::{CommitCount, MapRule, Refusal};
 use std::sync::Wait;
 
 impl<'b, R: MapRule, J: Naming> Volatile<'b, R, J> {
-    /// A hold of memory alone: whether so many commits are marked as stable. The session has then
-    /// seen the whole history, and is exact.
+    /// A hold of memory alone: true if the first n commits are marked as stable. The session has
+    /// then seen the whole history, and is exact.
     ///
-    /// The first that applies of these refuses it, and leaves the session as it was: J13 `Closed`
-    /// where it was stopped and J6 `DeviceFailed` where the device failed before, both only where
-    /// so many are not marked; J9 `Stale` where the history is longer; J10 `Stranger` where it has
-    /// a commit under the session's number that the session did not make.
+    /// # Errors
+    /// The first that applies is answered. The session is as it was.
+    /// - `J13 Closed`: it was stopped, and the first n commits are not marked.
+    /// - `J6 DeviceFailed`: the device failed before, and the first n commits are not marked.
+    /// - `J9 Stale`: the history is longer.
+    /// - `J10 Stranger`: the history has a commit under the session's number that the session did
+    ///   not make.
     pub fn wait_step<W: Wait>(
         &mut self,
         rt: &W,
@@ -69,15 +72,19 @@ impl<'b, R: MapRule, J: Naming> Volatile<'b, R, J> {
         Ok(marked)
     }
 
-    /// A hold of memory alone: whether all commits are marked as stable that the session has seen.
-    /// If so it has then seen the whole history, and is exact, also where it was stopped or the
-    /// device failed. If not it stays as it was, so that the same is asked again later.
+    /// A hold of memory alone: true if all commits that the session has seen are marked as stable.
+    /// It has then seen the whole history, and is exact, even after a stop or a fault. If false the
+    /// session is as it was, so that the same is asked again later.
     ///
-    /// The first that applies of these refuses it: J9 `Stale` where the history is longer, or J10
-    /// `Stranger` where it has a commit under the session's number that the session did not make,
-    /// and the session stays as it was; J13 `Closed` where it was stopped, or J6 `DeviceFailed`
-    /// where the device failed before, both only where not all of these commits are marked, and the
-    /// session has then seen the whole history.
+    /// # Errors
+    /// The first that applies is answered.
+    /// - `J9 Stale`: the history is longer. The session is as it was.
+    /// - `J10 Stranger`: the history has a commit under the session's number that the session did
+    ///   not make. The session is as it was.
+    /// - `J13 Closed`: it was stopped, and not all of these commits are marked. The session has
+    ///   then seen the whole history.
+    /// - `J6 DeviceFailed`: the device failed before, and not all of these commits are marked. The
+    ///   session has then seen the whole history.
     pub fn flush_step<W: Wait>(
         &mut self,
         rt: &W,
@@ -96,7 +103,7 @@ impl<'b, R: MapRule, J: Naming> Volatile<'b, R, J> {
         self.find_marks(rt, session)
     }
 
-    // Looks for the marks of what the session has seen as `flush_step` does.
+    // Looks for the marks of all that the session has seen, as `flush_step` does.
     fn find_marks<W: Wait>(
         &mut self,
         rt: &W,
@@ -125,7 +132,7 @@ impl<'b, R: MapRule, J: Naming> Volatile<'b, R, J> {
         }
     }
 
-    // Refuses by J9 where the history is longer, or the session has seen more. Nothing changes.
+    // Refuses by J9 if the history is longer, or the session has seen more. Nothing changes.
     fn check_session<W: Wait>(
         &mut self,
         rt: &W,
@@ -142,8 +149,8 @@ impl<'b, R: MapRule, J: Naming> Volatile<'b, R, J> {
 
     /// A hold of memory alone: shows the session the whole history.
     ///
-    /// Answers J9 `Stale` where the session had seen more of the history, and nothing else. The
-    /// session may then have seen more.
+    /// # Errors
+    /// - `J9 Stale`: the session had seen more of the history. The session may then have seen more.
     pub fn show_step(&self, session: &mut Session<'b, J, R>) -> Result<(), Refusal<Cause<'b, J, R>>>
         ensures extends { OnlyExtends session.old session.new }
         ensures shown { OnOk result (session.new.seen ≡ self.now.ledger.history) }
@@ -153,39 +160,40 @@ impl<'b, R: MapRule, J: Naming> Volatile<'b, R, J> {
         self.ledger.show(session)
     }
 
-    /// How many commits the history has.
+    /// The number of commits of the history.
     pub fn commits(&self) -> CommitCount
         ensures { result ≡ count self.now.ledger.history }
     {
         self.ledger.count()
     }
 
-    /// How many of them are marked as stable.
+    /// The number of commits that are marked as stable.
     pub fn floor(&self) -> CommitCount
         ensures { result ≡ floor self.now.ledger.history }
     {
         self.ledger.floor()
     }
 
-    /// How many blocks the next cut hands out: those that commits wrote since the last one.
+    /// The number of blocks that the next cut hands out: those that commits wrote since the last
+    /// one.
     pub fn tail_len(&self) -> u64
         ensures { result ≡ length (tail_of self.now.tail.log) }
     {
         self.tail.tail_len()
     }
 
-    /// How many positions of the log have updates up to the last cut, where the log starts at this
-    /// one. That is told by the durable part: what was in the log when it was opened stands in no
-    /// cut of memory.
+    /// The number of positions of the log that have updates up to the last cut, if the log starts
+    /// at this one. The durable part gives the start, because memory has no cut of the updates that
+    /// the log had at its opening.
     pub fn used_positions(&self, start: Position) -> u64
         ensures { result ≡ used_positions self.now start }
     {
         self.tail.bounds().cut.saturating_sub(start.get())
     }
 
-    /// Whether the logger has nothing to do, as far as memory alone can tell, where the log starts
-    /// at this position: the last cut is marked, and there is no tail and no commit after the
-    /// mark, or there are fewer free positions than the tail has blocks.
+    /// True if the logger has nothing to do, as far as memory alone can know, where the log starts
+    /// at this position: the last cut is marked, and the tail is empty with no commit after the
+    /// mark, or the log has no room for the tail.
     pub fn has_nothing_to_log(&self, start: Position) -> bool
         ensures { IsTrue result ↔ HasNothingToLog self.now start }
     {

@@ -8,9 +8,9 @@ use Rattle.journal_disk.specs.Disks.{DiskState, Keeps}
 use Rattle.journal_inode.specs.declared.version.FormatVersion.TheVariants.{One, Two}
 use Rattle.journal_inode.specs.Sound.{HasSoundFiles}
 use Rattle.journal_history.specs.Tokens.{SessionState, next_transaction}
-use Rattle.journal_parts.specs.Cores.{CoreState, disk_of}
+use Rattle.journal_parts.specs.CoreStates.{CoreState, disk_of}
 use Rattle.journal_memory.specs.Transactions.{TransactionState}
-use Rattle.journal_parts.specs.Openings.{Begins}
+use Rattle.journal_parts.specs.Beginnings.{Begins}
 use Rattle.journal_core.specs.Commits.{IsCommitted}
 use Rattle.journal_filestore.specs.Files.{Files}
 use Rattle.journal_migrate.specs.Either.{HasEitherFiles}

@@ -10,8 +10,10 @@ use Rattle.journal_disk.specs.Images.{EveryImage}
 use Rattle.journal_inode.specs.declared.version.FormatVersion.TheVariants.{Two}
 use Rattle.journal_inode.specs.Sound.{HasSoundFiles}
 use Rattle.journal_memory.specs.Causes.{CauseState}
-use Rattle.journal_parts.specs.Cores.{CoreState, Leaves, disk_of, next_of}
-use Rattle.journal_parts.specs.Openings.{Begins, IsInRange, HasBoundsOf}
+use Rattle.journal_parts.specs.Cores.{Leaves}
+use Rattle.journal_parts.specs.CoreStates.{CoreState, disk_of, next_of}
+use Rattle.journal_parts.specs.Openings.{IsInRange}
+use Rattle.journal_parts.specs.Beginnings.{Begins, HasBoundsOf}
 use Rattle.journal_filestore.specs.Files.{Files}
 use Rattle.journal_migrate.specs.Either.{HasEitherFiles}
 use Rattle.journal_migrate.specs.Holding.{HasFiles, HasFilesOfEither, HoldsFilesOf, HoldsFiles, LeavesMaps}

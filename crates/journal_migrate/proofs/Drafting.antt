@@ -24,13 +24,13 @@ use Rattle.journal_memory.specs.declared.refusal_number.RefusalNumber.TheVariant
 use Rattle.journal_memory.specs.Causes.{CauseState, IsExplained}
 use Rattle.journal_memory.specs.Ledgers.{IsUnknown, IsStale, IsBehind, IsNumberRefusal}
 use Rattle.journal_memory.specs.Outsets.{IsWorn, IsFull}
-use Rattle.journal_parts.specs.Cores.{CoreState, IsRunning, OnlyReads, disk_of, is_faulted, next_of, tail_length}
+use Rattle.journal_parts.specs.CoreStates.{CoreState, IsRunning, OnlyReads, disk_of, is_faulted, next_of, tail_length}
 use Rattle.journal_parts.specs.CoreParts.{outset}
 use Rattle.journal_memory.specs.SlotCounts.{AgreeWith, IsUnder, AreUnder}
 use Rattle.journal_memory.specs.Transactions.{TransactionState}
 use Rattle.journal_memory.proofs.Remembering.{of_both}
 use Rattle.journal_core.specs.Steps.{BeginsSession, MayRead, IsReadRefusal}
-use Rattle.journal_parts.specs.Openings.{Begins}
+use Rattle.journal_parts.specs.Beginnings.{Begins}
 use Rattle.journal_core.specs.Commits.{IsCommitted, CanCommit, IsCommitRefusal}
 use Rattle.journal_filestore.specs.Files.{Files}
 use Rattle.journal_migrate.specs.Either.{HasEitherFiles}

@@ -9,7 +9,7 @@ use Rattle.journal_wal.specs.Wal.{WalState, Installing, install_none, install_ho
 use Rattle.journal_memory.specs.declared.refusal_number.RefusalNumber.TheVariants.{J6}
 use Rattle.journal_memory.specs.Causes.{CauseState, IsUnexplained}
 use Rattle.journal_memory.specs.Ledgers.{IsStale}
-use Rattle.journal_parts.specs.Cores.{CoreState, IsRunning, disk_of, tail_length}
+use Rattle.journal_parts.specs.CoreStates.{CoreState, IsRunning, disk_of, tail_length}
 
 -- up to where is installed, or this where nothing is
 abbrev pub upto_of : Installing → ℕ → ℕ
@@ -34,7 +34,7 @@ steps_to_mark c =
     if tail_length c.objects == 0 then log_steps c.objects.wal + 1
     else 6 + steps_to_place c.objects.wal (tail_length c.objects)
 
--- The one block that it wrote stands in the tail, and what is installed is all that is logged
+-- The one block that it wrote is in the tail, and all that is logged is installed
 pub record AwaitsCut (c : CoreState) : Type 0 where
   pub one : tail_length c.objects ≡ 1
   pub rest : log_steps c.objects.wal ≡ 0

@@ -1,7 +1,7 @@
 // One commit becomes stable.
 ghost use Rattle.std.specs.Prelude.{◌≡◌, IsTrue, IfOk, IfErr, OnOk, OnErr, false};
 ghost use Rattle.journal_disk.specs.Disks.{Keeps};
-ghost use Rattle.journal_parts.specs.Cores.{disk_of};
+ghost use Rattle.journal_parts.specs.CoreStates.{disk_of};
 ghost use Rattle.journal_migrate.specs.Marking.{AwaitsMark, AddsMark, ComesNearer, IsRunningRefusal};
 
 use journal_core::Core;
@@ -12,11 +12,13 @@ use journal_parts::LogStep;
 use journal_world::{MapRule, Refusal};
 
 /// Makes steps of the logger until the one commit is marked that is not, and a step of the
-/// installer where there is none, since the log is full.
+/// installer if the logger has none, because the log is full.
 ///
-/// Answers J1 `NoMemory` where memory is refused, J6 `DeviceFailed` where the device failed
-/// meanwhile, and J9 `Stale` where the history is longer than the core's. The commit is not marked
-/// then.
+/// # Errors
+/// The commit is not marked then.
+/// - `J1 NoMemory`: memory is refused.
+/// - `J6 DeviceFailed`: the device failed meanwhile.
+/// - `J9 Stale`: the history is longer than the core's.
 pub(crate) fn make_stable<'b, D: BlockDisk, R: MapRule, J: Naming>(
     core: &mut Core<'b, D, R, J>,
 ) -> Result<(), Refusal<Cause<'b, J, R>>>
@@ -33,7 +35,7 @@ pub(crate) fn make_stable<'b, D: BlockDisk, R: MapRule, J: Naming>(
     }
 }
 
-// The next step. Whether the commit is marked then.
+// Makes the next step. True if the commit is then marked.
 fn step<'b, D: BlockDisk, R: MapRule, J: Naming>(
     core: &mut Core<'b, D, R, J>,
 ) -> Result<bool, Refusal<Cause<'b, J, R>>>

@@ -12,8 +12,8 @@ ghost use Rattle.journal_inode.specs.Places.Object.{superblock};
 ghost use Rattle.journal_inode.specs.declared.version.FormatVersion.TheVariants.{One, Two};
 ghost use Rattle.journal_inode.specs.Sound.{HasSoundFiles};
 ghost use Rattle.journal_lockmap.specs.Numbers.{slots_of};
-ghost use Rattle.journal_parts.specs.Cores.{IsRunning, OnlyReads, disk_of, next_of};
-ghost use Rattle.journal_parts.specs.Openings.{Begins};
+ghost use Rattle.journal_parts.specs.CoreStates.{IsRunning, OnlyReads, disk_of, next_of};
+ghost use Rattle.journal_parts.specs.Beginnings.{Begins};
 ghost use Rattle.journal_memory.specs.SlotCounts.{AgreeWith};
 ghost use Rattle.journal_memory.specs.Transactions.{begun};
 ghost use Rattle.journal_filestore.specs.Files.{Files};
@@ -36,7 +36,7 @@ use std::alloc::{AllocError, Global};
 use std::array;
 use std::sync::Wait;
 
-// Of how many blocks that are at home copies are kept in memory: of one, since one is read, once.
+// The number of copies of blocks at home in memory: one, because one block is read, once.
 const COPIES: usize = 1;
 
 // Why it is refused.
@@ -44,15 +44,23 @@ type MigrationRefusal<'b, J> = Refusal<Cause<'b, J, EitherVersion>>;
 
 /// Makes a disk of version 2 of one on which nothing is pending: opens it under the rule "sound in
 /// version 1 or in version 2", overwrites its superblock in one transaction, makes that stable, and
-/// gives the disk up. To a disk of version 2 nothing is done. Then, whatever a crash leaves, it is
-/// a disk of version 2 with the same files.
+/// gives the disk up. To a disk of version 2 nothing is done. Then every crash leaves a disk of
+/// version 2 with the same files.
 ///
-/// It is refused as `Core::open_step` is, with nothing written: J8 `BadSuper` where the number of
-/// blocks is out of range, J7 `BadLog` where the disk's log is not well formed, J8 where the files
-/// are sound in neither version, J9 `Stale` where the book has a history already, J1 `NoMemory`
-/// where memory is refused, and J6 `DeviceFailed` where the device fails. Once it is opened, it is
-/// refused by J11 `Worn` where the log's positions are used up, by J1, J6 and J9. Whatever a crash
-/// leaves is then the disk with the same files, in version 1 or in version 2.
+/// # Errors
+/// Of the first group nothing was written. The first that applies is answered; J1 and J6 are
+/// answered where they occur.
+/// - `J8 BadSuper`: the number of blocks is out of range.
+/// - `J7 BadLog`: the disk's log is not well formed.
+/// - `J8 BadSuper`: the files are sound in neither version.
+/// - `J9 Stale`: the book has a history already.
+/// - `J1 NoMemory`: memory is refused.
+/// - `J6 DeviceFailed`: the device fails.
+///
+/// Once the disk is opened, every crash leaves it with the same files, in version 1 or in version
+/// 2.
+/// - `J11 Worn`: the log's positions are used up.
+/// - `J1`, `J6`, `J9`: as above.
 pub fn migrate<'b, D: BlockDisk, J: Naming, W: Wait>(
     rt: &W,
     alloc: Global,
@@ -89,7 +97,7 @@ pub fn migrate<'b, D: BlockDisk, J: Naming, W: Wait>(
     };
     let (mut core, slots) = Core::open_step(alloc, book, cell, layout, disk, &rule, COPIES)?;
     let slots = LockMap::new(slot_locks, slots);
-    // Nobody else takes one of these slots, so this waits for nobody.
+    // Nobody else takes one of these slots, so this does not block.
     let mut held = slots.acquire(rt, layout.slot_of(SUPERBLOCK_ADDR));
     let answer = upgrade(rt, alloc, &mut core, array::from_mut(&mut held));
     slots.release(rt, held);
@@ -132,7 +140,7 @@ fn upgrade<'b, D: BlockDisk, J: Naming, W: Wait>(
     make_stable(core)
 }
 
-// Reads the superblock, and where it is of version 1 overwrites it by that of version 2. Whether it
+// Reads the superblock, and overwrites it by that of version 2 if it is of version 1. True if it
 // is.
 fn draft<'b, D: BlockDisk, J: Naming, W: Wait>(
     rt: &W,
@@ -163,8 +171,7 @@ fn draft<'b, D: BlockDisk, J: Naming, W: Wait>(
     Ok(true)
 }
 
-// Remembers what was read of the superblock, which is of version 1, and overwrites it by that of
-// version 2.
+// Remembers the superblock of version 1 that was read, and overwrites it by that of version 2.
 fn overwrite<'b, J: Naming>(
     alloc: Global,
     transaction: &mut Transaction<'b, J, EitherVersion>,

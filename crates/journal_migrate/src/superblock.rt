@@ -1,4 +1,4 @@
-// The version that a superblock has.
+// The version of a superblock.
 ghost use Rattle.std.specs.Prelude.{◌≡◌, ◌<◌, ◌↔◌, length, IsTrue, IfOk};
 ghost use Rattle.journal_migrate.specs.Superblocks.{version_byte, in_version_two};
 
@@ -15,7 +15,7 @@ pub(crate) const SUPERBLOCK_ADDR: Addr = Addr {
 // Where a superblock has the lowest byte of its version.
 const VERSION_AT: usize = 8;
 
-/// Whether a superblock is of version 1.
+/// True if a superblock is of version 1.
 pub(crate) fn is_of_version_one(superblock: &[u8]) -> bool
     requires { VERSION_AT < length superblock.now }
     ensures { IsTrue result ↔ (version_byte superblock.now ≡ 1) }

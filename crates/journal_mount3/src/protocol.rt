@@ -1,4 +1,6 @@
 // NFS and MOUNT as a protocol of a server.
+ghost use Rattle.std.specs.Prelude.{◌≡◌};
+
 use crate::replying::{Exported, answer_no_wait};
 use journal_disk::BlockDisk;
 use journal_filestore::FileStore;
@@ -48,6 +50,10 @@ impl<V: Version> Protocol<V> for Exported {
 // A client has a connection as long as it has the files mounted, so there are more workers than
 // where NFS alone is served.
 impl Programs for Exported {
+    ghost told = { λ p. p.verifier.0 };
+
+    ghost fits = { λ p blocks. p.layout.blocks ≡ blocks };
+
     fn on(layout: Layout, verifier: Verifier) -> Exported {
         Exported { verifier, layout }
     }

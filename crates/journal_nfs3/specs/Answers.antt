@@ -35,7 +35,7 @@ pub record IsResult (r : Results) : Type 0 where
   pub has : (results (procedure_of_results r)).Has r
   pub short : length (results_text r) < 2 ^ 30
 
--- What a call comes to, and how far it is: why it is refused, and then it does nothing; or the
+-- The outcome of a call, and how far it is: why it is refused, and then it does nothing; or the
 -- results of its operation, which is done
 abbrev pub ServesCall : FormatVersion → Standing → List ℕ → Time → Result Operation CallRefused → SessionState → Result Results CallRefused → SessionState → Type 0
 ServesCall version standing verifier now (Err why) old outcome new = (outcome ≡ Err why) × (new ≡ old) × HasNoWait standing
@@ -53,14 +53,14 @@ pub record AnswersAs (version : FormatVersion) (standing : Standing) (verifier :
   pub comes : ServesCall version standing verifier now asked old outcome new
   pub is_sent : text ≡ sent xid outcome
 
--- the same of a reply that has waited: what is to be stable is marked in what the session then has
--- seen
+-- the same of a reply that has waited: a mark in the history that the session then has seen covers
+-- it
 abbrev pub Answers : FormatVersion → List ℕ → Time → ℕ → Result Operation CallRefused → SessionState → SessionState → List ℕ → Type 0
 Answers version verifier now xid asked old new text = AnswersAs version (marked new.seen) verifier now xid asked old new text
 
 -- ---- replies that are not waited for
 
--- what is owed before the reply may be told
+-- the pending wait before the reply may be sent
 abbrev pub pending_wait_for : Option (ReplyWait CommitPlace) → PendingWait CommitPlace
 pending_wait_for None = Nothing
 pending_wait_for (Some awaited) = Wait awaited.receipt
@@ -70,24 +70,24 @@ abbrev pub IsCallOf : Procedure → Result Operation CallRefused → Type 0
 IsCallOf p (Ok operation) = p ≡ procedure_for operation
 IsCallOf p (Err why) = ⊥
 
--- The reply to a call that is committed, and what is owed before it may be told
+-- The reply to a call that is committed, and its pending wait
 pub record AnswersNoWait (version : FormatVersion) (verifier : List ℕ) (now : Time) (xid : ℕ) (asked : Result Operation CallRefused) (old new : SessionState) (soon : PendingReply CommitPlace) : Type 0 where
   pub answers : AnswersAs version (awaiting (pending_wait_for soon.wait)) verifier now xid asked old new soon.reply.items
   pub procedure : IfSome soon.wait (λ awaited. IsCallOf awaited.procedure asked)
 
--- The text may stand in place of a reply to a call with this number and of this procedure for which
--- a wait is owed: it says that it is not known to be stable
+-- The text may replace a reply with a pending wait, to a call with this number and of this
+-- procedure: it says that it is not known to be stable
 abbrev pub TakesPlace : ℕ → Procedure → List ℕ → Type 0
 TakesPlace xid procedure text =
     (version : FormatVersion) (verifier : List ℕ) (now : Time) (asked : Result Operation CallRefused) (old new : SessionState) (receipt : CommitPlace) (soon : List ℕ) (history : List Entry)
     → IsCallOf procedure asked → AnswersAs version (awaiting (Wait receipt)) verifier now xid asked old new soon → AnswersAs version (marked history) verifier now xid asked old new text
 
--- what the code's outcome stands for
+-- the meaning of the code's outcome
 abbrev pub outcome_seen : Result FormatResults CallRefused → Result Results CallRefused
 outcome_seen (Ok r) = Ok (results_of r.version r.results)
 outcome_seen (Err why) = Err why
 
--- what is owed for a reply, with its procedure
+-- the pending wait of a reply, with its procedure
 abbrev pub awaited_of : {P : Type 0} → Result Results CallRefused → PendingWait P → Option (ReplyWait P)
 awaited_of (Ok r) (Wait receipt) = Some (record { procedure = procedure_of_results r; receipt = receipt })
 awaited_of outcome wait = None

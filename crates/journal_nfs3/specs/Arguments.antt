@@ -123,7 +123,7 @@ how = tagged word how_arm how_number
 
 -- ---- each procedure with its arguments (3.3)
 
--- What a call asks of the files, with its arguments
+-- The operation of a call, with its arguments
 pub data Operation : Type 0 where
   Null : Operation
   GetAttributes : List ℕ → Operation

@@ -1,5 +1,5 @@
--- What a call asks of the program: an operation, or why it is refused (RFC 5531, section 9; RFC
--- 1813, section 3.3).
+-- The request of a call to the program: an operation, or why it is refused (RFC 5531, section 9;
+-- RFC 1813, section 3.3).
 use Rattle.std.specs.Prelude.{ℕ, List, Option, Some, None, Result, Ok, Err}
 use Rattle.journal_rpc.specs.declared.replies.CallRefused.{CallRefused}
 use Rattle.journal_rpc.specs.declared.replies.CallRefused.TheVariants.{ProcedureUnavailable, GarbageArguments}
@@ -28,7 +28,7 @@ requested (Ok request) = called (procedure_of request.0) request.1
 abbrev pub asks : Asked → Result Operation CallRefused
 asks asked = requested (routed 100003 3 asked)
 
--- what the code's answer stands for
+-- the meaning of the code's answer
 abbrev pub decided : Result code_operation.Operation CallRefused → Result Operation CallRefused
 decided (Ok operation) = Ok (operation_of operation)
 decided (Err why) = Err why

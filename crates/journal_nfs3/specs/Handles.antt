@@ -1,4 +1,4 @@
--- What handles are.
+-- Handles.
 use Rattle.std.specs.Prelude.{ℕ, Bool, ◌&&◌, nat_le, nat_lt, List, Option, Some, None}
 use Rattle.journal_xdr.specs.Items.{Item, pair, mapped_item, such_that}
 use Rattle.journal_xdr.specs.Basic.{word, constant}
@@ -6,7 +6,7 @@ use Rattle.journal_inode.specs.declared.place.TheConstants.{INODES}
 use Rattle.journal_filestore.specs.declared.handle.Handle as code_handle
 use Rattle.journal_nfs3.specs.Whole.{whole}
 
--- What a handle names: an inode, and the generation of the file that it held
+-- The target of a handle: an inode, and the generation of the file that it held
 pub record FileHandle : Type 0 where
   pub number : ℕ
   pub generation : ℕ
@@ -26,7 +26,7 @@ used_handle = such_that (λ h. is_in_use h.number) file_handle
 abbrev pub handle_in : List ℕ → Option FileHandle
 handle_in bytes = whole used_handle bytes
 
--- what the code's handle stands for
+-- the meaning of the code's handle
 abbrev pub handle_of : code_handle.Handle → FileHandle
 handle_of h = record { number = h.number; generation = h.generation }
 

@@ -1,4 +1,4 @@
--- What the results say of the files.
+-- The files, as results describe them.
 use Rattle.std.specs.Prelude.{ℕ, ◌==◌, min, if◌then◌else◌, List, [], ◌++◌, length, Some, None, Result, Ok, Err}
 use Rattle.journal_inode.specs.declared.version.FormatVersion.{FormatVersion}
 use Rattle.journal_inode.specs.Versions.{most_bytes, room_of}
@@ -41,7 +41,7 @@ fattr_of version a = record {
   ctime = a.mtime;
 }
 
--- what stood before a change
+-- the attributes before a change
 abbrev pub before_of : Attributes → Before
 before_of a = record { size = a.size; mtime = a.mtime; ctime = a.mtime }
 
@@ -52,7 +52,7 @@ change_of version c = record { before = Some (before_of c.before); after = Some 
 abbrev pub unchanged_of : FormatVersion → Attributes → Change
 unchanged_of version a = change_of version (record { before = a; after = a })
 
--- of a change nothing is told
+-- a change of which nothing is described
 abbrev pub no_change : Change
 no_change = record { before = None; after = None }
 
@@ -66,7 +66,7 @@ lookup_of version f = record { object = found_handle f; attributes = Some (fattr
 abbrev pub read_results_of : FormatVersion → PortionState → ReadResults
 read_results_of version p = record { attributes = Some (fattr_of version p.file); count = length p.bytes; is_end = p.is_end; bytes = p.bytes }
 
--- what waited is as stable as can be
+-- a write that waited is as stable as can be
 abbrev pub stability_told : StableHow → StableHow
 stability_told Unstable = Unstable
 stability_told DataSync = FileSync
@@ -82,18 +82,18 @@ create_of version f = record { object = Some (found_handle f); attributes = Some
 abbrev pub commit_of : FormatVersion → List ℕ → Attributes → CommitResults
 commit_of version verifier a = record { change = unchanged_of version a; verifier = verifier }
 
--- results, or an error, behind which nothing is told
+-- results, or an error, after which no fact follows
 abbrev pub outcome_of : {A B C : Type 0} → (A → B) → C → Result A NfsError → Result B (NfsError × C)
 outcome_of told nothing (Ok v) = Ok (told v)
 outcome_of told nothing (Err why) = Err (why, nothing)
 
--- how it is spelled that nothing is told
+-- the spelling of left out facts
 abbrev pub untold_text : Untold → List ℕ
 untold_text untold.Nothing = []
 untold_text untold.Attributes = post_op_attributes.spelling None
 untold_text untold.Change = change.spelling no_change
 
--- how the status of an outcome is spelled, and behind one that refuses that nothing is told
+-- the spelling of an outcome's status, and after one that refuses of left out facts
 abbrev pub status_text : {A : Type 0} → Untold → Result A NfsError → List ℕ
 status_text u (Ok v) = status.spelling None
 status_text u (Err why) = status.spelling (Some why) ++ untold_text u
@@ -109,7 +109,7 @@ results_of version (code_result.Create r) = Create (outcome_of (create_of versio
 results_of version (code_result.Remove r) = Remove (outcome_of (unchanged_of version) no_change r)
 results_of version (code_result.Commit r verifier) = Commit (outcome_of (commit_of version verifier.0) no_change r)
 
--- the results of a procedure that is refused so, of which nothing is told
+-- the results of a procedure that is refused for this reason, which describe nothing
 abbrev pub refused_results : Procedure → NfsError → Results
 refused_results procedure.Null why = Null
 refused_results procedure.GetAttributes why = GetAttributes (Err (why, tt))

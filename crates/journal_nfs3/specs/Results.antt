@@ -1,4 +1,4 @@
--- What the procedures answer, as items (RFC 1813, sections 2.5, 2.6 and 3.3).
+-- The results of the procedures, as items (RFC 1813, sections 2.5, 2.6 and 3.3).
 use Rattle.std.specs.Prelude.{ℕ, Bool, List, [], ◌∷◌, Option, Some, None, Result, Ok, Err}
 use Rattle.journal_xdr.specs.Items.{Item, pair, mapped_item, coded, tagged, only, variant}
 use Rattle.journal_xdr.specs.Basic.{word, hyper, boolean, fixed, opaque, optional, enumeration, listed}
@@ -46,7 +46,7 @@ nfs_status n = listed statuses n
 abbrev pub status : Item (Option NfsError)
 status = enumeration nfs_status status_number
 
--- Results of one kind where the status is OK, and others behind a status that refuses
+-- Results of one kind if the status is OK, and others after a status that refuses
 abbrev pub accepted_part : {A B : Type 0} → Result A (NfsError × B) → Option A
 accepted_part (Ok v) = Some v
 accepted_part (Err why) = None
@@ -161,7 +161,7 @@ commit_results = mapped_item (pair change (fixed 8)) (λ p. record { change = p.
 abbrev pub nothing : Item (Unit {0})
 nothing = only tt
 
--- What a procedure answers
+-- The results of a procedure
 pub data Results : Type 0 where
   Null : Results
   GetAttributes : Result Fattr (NfsError × Unit {0}) → Results

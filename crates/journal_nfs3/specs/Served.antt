@@ -1,4 +1,4 @@
--- What an operation does, and what it answers.
+-- The effect and the answer of an operation.
 use Rattle.std.specs.Prelude.{ℕ, ◌≡◌, ◌≤◌, ◌+◌, Bool, true, false, IsTrue, List, [], ◌∷◌, ◌++◌, length, take, slice_get, Option, Some, None, Result, Ok, Err, OnOk}
 use Rattle.std.specs.Result.{is_ok}
 use Rattle.journal_world.specs.declared.refusal.Refusal.{Refusal}
@@ -44,7 +44,7 @@ create_mode_of (Unchecked a) = file_modes.Unchecked (settings_of a)
 create_mode_of (Guarded a) = file_modes.Guarded (settings_of a)
 create_mode_of (Exclusive v) = file_modes.Exclusive
 
--- what is written waits until it is stable, unless it is asked not to
+-- a write waits until it is stable, unless it is asked not to
 abbrev pub waits : StableHow → Bool
 waits Unstable = false
 waits DataSync = true
@@ -63,14 +63,14 @@ error_of status.Stale = Stale
 error_of status.NotSync = NotSync
 error_of status.NotSupported = NotSupported
 
--- what the journal refuses: a slot was held once more after the last attempt, the device failed, or
+-- a refusal of the journal: a slot was held once more after the last attempt, the device failed, or
 -- anything else
 abbrev pub refusal_error : {C : Type 0} → Refusal C → NfsError
 refusal_error Busy = Jukebox
 refusal_error (DeviceFailed cause) = Io
 refusal_error other = ServerFault
 
--- an answer of the file store as it is told
+-- an answer of the file store, in the protocol's words
 abbrev pub answer_to_nfs : {A : Type 0} → Result A Status → Result A NfsError
 answer_to_nfs (Ok value) = Ok value
 answer_to_nfs (Err why) = Err (error_of why)
@@ -92,7 +92,7 @@ committed_wait (Err why) = Nothing
 
 -- ---- what is stable of an answer
 
--- How far an answer is: what waits is marked in this history, or this is owed for it
+-- How far an answer is: a mark in this history covers it, or this wait is pending
 pub data Standing : Type 0 where
   marked : List Entry → Standing
   awaiting : PendingWait CommitPlace → Standing
@@ -101,7 +101,7 @@ abbrev pub HasNoWait : Standing → Type 0
 HasNoWait (marked history) = Unit {0}
 HasNoWait (awaiting wait) = wait ≡ Nothing
 
--- So far is an answer whose commit stands at this place of the history that is seen then
+-- The progress of an answer whose commit is at this place of the history that is seen then
 abbrev pub IsSoFar : {A : Type 0} → Standing → Bool → Result A Status → List Entry → ℕ → Type 0
 IsSoFar (marked history) waits answer seen place = IsTrue waits → OnOk answer (count (take (place + 1) seen) ≤ floor history)
 IsSoFar (awaiting wait) waits answer seen place = IsWaitOf waits answer seen place wait
@@ -127,8 +127,8 @@ IsAnsweredAs version standing waits case old new (Err fault) = IsFaultAs version
 
 -- ---- operations
 
--- What is told of an operation on what the handle names: that it is none, or what the file store
--- answers by this case
+-- The result of an operation on a handle's target: that there is none, or the answer of the file
+-- store by this case
 abbrev pub TellsOutcome : {A : Type 0} → FormatVersion → Standing → Option FileHandle → Bool → (FileHandle → Files → Result A Status → Files → Type 0) → SessionState → SessionState → Result A NfsError → Type 0
 TellsOutcome version standing None waits case old new outcome = (outcome ≡ Err BadHandle) × (new ≡ old) × HasNoWait standing
 TellsOutcome {A} version standing (Some handle) waits case old new outcome =
@@ -138,8 +138,8 @@ TellsOutcome {A} version standing (Some handle) waits case old new outcome =
 abbrev pub Performs : {A : Type 0} → FormatVersion → Standing → Option FileHandle → Bool → (FileHandle → Files → Result A Status → Files → Type 0) → (Result A NfsError → Results) → SessionState → Results → SessionState → Type 0
 Performs {A} version standing handle waits case as_results old results new = (outcome : Result A NfsError) × TellsOutcome version standing handle waits case old new outcome × (results ≡ as_results outcome)
 
--- What an operation does at a moment, from what its session had seen to what it then has seen, its
--- results, and how far they are
+-- The effect of an operation at a moment, from the history that its session had seen to the one
+-- that it then has seen, its results, and how far they are
 abbrev pub ServesAs : FormatVersion → Standing → List ℕ → Time → Operation → SessionState → Results → SessionState → Type 0
 ServesAs version standing verifier now operation.Null old results new = (results ≡ Null) × (new ≡ old) × HasNoWait standing
 ServesAs version standing verifier now (operation.GetAttributes h) old results new =
@@ -167,8 +167,8 @@ ServesAs version standing verifier now (operation.Commit h offset count) old res
     Performs version standing (handle_in h) true (λ k F r F2. (t : Time) → Op version (call.commit k.number k.generation) t F (reply.committed r) F2)
     (λ r. Commit (outcome_of (commit_of version verifier) no_change r)) old results new
 
--- the same of an operation that has waited: what is to be stable is marked in what the session then
--- has seen
+-- the same of an operation that has waited: a mark in the history that the session then has seen
+-- covers it
 abbrev pub Serves : FormatVersion → List ℕ → Time → Operation → SessionState → Results → SessionState → Type 0
 Serves version verifier now operation old results new = ServesAs version (marked new.seen) verifier now operation old results new
 
@@ -195,8 +195,8 @@ is_accepted (Create r) = is_ok r
 is_accepted (Remove r) = is_ok r
 is_accepted (Commit r) = is_ok r
 
--- The session has one more commit, which stands at this place in what it has then seen, after all
--- that it had seen
+-- The session has one more commit, which is at this place in the history that it has then seen,
+-- after all that it had seen
 pub record CommitsOnceAt (old new : SessionState) (place : ℕ) : Type 0 where
   pub made : Transaction
   pub stands : slice_get new.seen place ≡ Some (commit made)

@@ -2,7 +2,7 @@
 use Rattle.std.specs.Prelude.{◌≡◌, ℕ, List, [], ◌∷◌, Option, Some, None}
 use Rattle.journal_xdr.specs.Items.{Item}
 
--- what was read, where nothing is left behind it
+-- the value that was read, if nothing is left after it
 abbrev pub alone : {T : Type 0} → Option (T × List ℕ) → Option T
 alone None = None
 alone (Some x) = unless_more x.0 x.1

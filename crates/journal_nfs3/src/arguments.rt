@@ -1,4 +1,4 @@
-// What callers ask.
+// The arguments of procedures.
 ghost use Rattle.std.specs.Prelude.{◌≡◌};
 ghost use Rattle.journal_nfs3.specs.Profile.{stability_told};
 
@@ -24,7 +24,7 @@ pub struct DirectoryEntry<'a> {
     pub name: &'a [u8],
 }
 
-/// How stable what is written has to be before the reply (RFC 1813, section 3.3.7, stable_how).
+/// How stable a write has to be before its reply (RFC 1813, section 3.3.7, stable_how).
 #[derive(Clone, Copy, Debug, PartialEq, Eq)]
 pub enum StableHow {
     Unstable,
@@ -33,7 +33,7 @@ pub enum StableHow {
 }
 
 impl StableHow {
-    /// How stable what was written is, once it is answered: what waits is stable with all its
+    /// How stable a write is, once it is answered: one that waits is stable with all its
     /// attributes.
     pub fn committed(self) -> StableHow
         ensures { result ≡ stability_told self }
@@ -83,7 +83,7 @@ pub enum CreateHow<'a> {
     Exclusive(&'a [u8]),
 }
 
-/// What SETATTR is asked (RFC 1813, section 3.3.2).
+/// The arguments of SETATTR (RFC 1813, section 3.3.2).
 #[derive(Clone, Copy, Debug)]
 pub struct SetArguments<'a> {
     pub handle: &'a [u8],
@@ -92,7 +92,7 @@ pub struct SetArguments<'a> {
     pub guard: Option<Time>,
 }
 
-/// A part of a file, which READ and COMMIT are asked for (RFC 1813, sections 3.3.6 and 3.3.21).
+/// A part of a file: the arguments of READ and COMMIT (RFC 1813, sections 3.3.6 and 3.3.21).
 #[derive(Clone, Copy, Debug)]
 pub struct FileRange<'a> {
     pub handle: &'a [u8],
@@ -100,7 +100,7 @@ pub struct FileRange<'a> {
     pub count: u32,
 }
 
-/// What WRITE is asked (RFC 1813, section 3.3.7).
+/// The arguments of WRITE (RFC 1813, section 3.3.7).
 #[derive(Clone, Copy, Debug)]
 pub struct WriteArguments<'a> {
     pub handle: &'a [u8],
@@ -110,7 +110,7 @@ pub struct WriteArguments<'a> {
     pub bytes: &'a [u8],
 }
 
-/// What CREATE is asked (RFC 1813, section 3.3.8).
+/// The arguments of CREATE (RFC 1813, section 3.3.8).
 #[derive(Clone, Copy, Debug)]
 pub struct CreateArguments<'a> {
     pub entry: DirectoryEntry<'a>,

@@ -1,4 +1,4 @@
-// What the file store is asked, and its answers in the protocol's words.
+// The calls of the file store, and its answers in the protocol's words.
 ghost use Rattle.std.specs.Prelude.{◌≡◌};
 ghost use Rattle.journal_filestore.specs.Operations.{is_waiting};
 ghost use Rattle.journal_nfs3.specs.Arguments.{how_of};
@@ -22,7 +22,7 @@ pub(crate) fn to_nfs<A, C: Drop>(answer: Result<Answer<A>, Fault<C>>) -> Result<
     }
 }
 
-// The same of an answer that is not waited for, with the wait before it.
+// The same of an answer that is not waited for, with its pending wait.
 pub(crate) fn to_nfs_no_wait<A, P, C: Drop>(
     answer: Result<Committed<A, P>, Refusal<C>>,
 ) -> Pending<Result<A, NfsError>, P>
@@ -66,7 +66,7 @@ fn error_of(status: Status) -> NfsError
     }
 }
 
-// What the journal refuses, as clients see it: to try again later, a fault of the device, or one of
+// A refusal of the journal, as clients see it: try again later, a fault of the device, or one of
 // the server.
 pub(crate) fn refusal_error<C>(refusal: &Refusal<C>) -> NfsError
     ensures { result ≡ refusal_error refusal.now }
@@ -78,7 +78,7 @@ pub(crate) fn refusal_error<C>(refusal: &Refusal<C>) -> NfsError
     }
 }
 
-// What is set of a file: its mode, owner, group and time of access are not kept.
+// The settings of a file: its mode, owner, group and time of access are not kept.
 pub(crate) fn settings_of(attributes: &NewAttributes) -> Settings
     ensures { result ≡ settings_of attributes.now }
 {
@@ -98,7 +98,7 @@ pub(crate) fn create_mode_of(how: &CreateHow<'_>) -> CreateMode
     }
 }
 
-// Whether what is written waits until it is stable.
+// The stability that a write waits for.
 pub(crate) fn stability_of(how: StableHow) -> Stability
     ensures { is_waiting result ≡ waits how }
 {

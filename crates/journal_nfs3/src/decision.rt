@@ -1,4 +1,4 @@
-// What a call asks of the program.
+// The operation of a call.
 ghost use Rattle.std.specs.Prelude.{◌≡◌};
 ghost use Rattle.journal_rpc.specs.CallViews.{asked_of};
 ghost use Rattle.journal_nfs3.specs.Procedures.{procedure_of};
@@ -18,9 +18,9 @@ pub const PROGRAM: u32 = 100_003;
 /// The version of it that is served.
 pub const VERSION: u32 = 3;
 
-// The operation that a call asks, or why it is refused. The first of these that holds is answered:
-// it is in another version of RPC, it asks another program, another version of this one or a
-// procedure that is not served, or its arguments cannot be read.
+// The operation that a call asks for. The first refusal that holds is answered: another version of
+// RPC, another program, another version of this one, a procedure that is not served, arguments that
+// cannot be read.
 pub(crate) fn decide<'a>(call: &Call<'a>) -> Result<Operation<'a>, CallRefused>
     ensures { decided result ≡ asks (asked_of call.now.asked) }
 {
@@ -28,8 +28,12 @@ pub(crate) fn decide<'a>(call: &Call<'a>) -> Result<Operation<'a>, CallRefused>
     decide_procedure(request.procedure, request.arguments)
 }
 
-/// The operation that is asked for by the number of a procedure and its arguments, or why it is
-/// refused: the procedure is not served, or its arguments cannot be read.
+/// The operation of a procedure's number and its arguments.
+///
+/// # Errors
+/// The first that holds is answered. Nothing was done.
+/// - The procedure is not served.
+/// - The arguments cannot be read.
 #[tactic(auto, unfolding(crate::specs::Calls::called))]
 pub fn decide_procedure(number: u32, arguments: &[u8]) -> Result<Operation<'_>, CallRefused>
     ensures { decided result ≡ called (procedure_of number) arguments.now }
@@ -43,7 +47,7 @@ pub fn decide_procedure(number: u32, arguments: &[u8]) -> Result<Operation<'_>, 
     }
 }
 
-// Reads arguments, behind which nothing is to stand.
+// Reads arguments, if nothing follows them.
 fn read_whole(procedure: Procedure, bytes: &[u8]) -> Option<Operation<'_>>
     ensures { found result ≡ whole (arguments procedure) bytes.now }
 {

@@ -1,4 +1,4 @@
-// What is told is in the grammar. These functions only tell the proof that it is.
+// These functions are called for their contracts: the results are in the grammar.
 ghost use Rattle.std.specs.Prelude.{◌≡◌, ◌<◌, ◌^◌, length, None};
 ghost use Rattle.journal_nfs3.specs.Results.{given_handle, fattr, before, change, GetAttributes, SetAttributes, Lookup, Read, Write, Create, Remove, Commit};
 ghost use Rattle.journal_nfs3.specs.Profile.{fattr_of, before_of, change_of, unchanged_of, no_change, found_handle, lookup_of, read_results_of, write_of, create_of, commit_of, outcome_of, results_of};

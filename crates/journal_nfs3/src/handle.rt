@@ -1,4 +1,4 @@
-// Handles: what a caller names a file by.
+// Handles: the names by which a caller knows files.
 ghost use Rattle.std.specs.Prelude.{◌≡◌};
 ghost use Rattle.journal_xdr.specs.Items.{ReadsItem};
 ghost use Rattle.journal_nfs3.specs.Handles.{used_handle, handle_of, handle_in, named};
@@ -6,11 +6,11 @@ ghost use Rattle.journal_nfs3.specs.Handles.{used_handle, handle_of, handle_in, 
 use journal_filestore::Handle;
 use journal_xdr::Reader;
 
-// What every handle begins with: `JNL1`.
+// The first four bytes of every handle: `JNL1`.
 pub(crate) const HANDLE_MARK: u32 = 0x4a4e_4c31;
 
-// The handle that the bytes are, or `None` where they are none: they are not 12, they begin with
-// another mark, or the inode is 0 or above 511.
+// The handle of these bytes. `None` unless they are 12, begin with the mark, and have an inode from
+// 1 to 511.
 pub(crate) fn read_handle(bytes: &[u8]) -> Option<Handle>
     ensures { named result ≡ handle_in bytes.now }
 {

@@ -1,4 +1,4 @@
-// What holds of all arguments and results.
+// Laws of all arguments and results.
 ghost use Rattle.std.specs.Prelude.{◌≡◌, ◌↔◌, ◌<◌, ◌≤◌, ◌*◌, ℕ, List, length, IsTrue, Option, Result, Some, Ok, Err};
 ghost use Rattle.journal_world.specs.declared.layout.TheConstants.{BLOCK_BYTES};
 ghost use Rattle.journal_world.specs.Maps.{Map};
@@ -51,18 +51,17 @@ pub fn handles_are_spellings()
         → (handle_in bytes ≡ Some handle) ↔ IsSpelling used_handle bytes handle }
 {}
 
-/// Where an operation that waits until it is stable is answered OK, the session has one more
-/// commit, and has seen a mark that covers it, at its place, and all commits before it. So it is of
-/// COMMIT (RFC 1813, section 3.3.21), SETATTR, CREATE, REMOVE, and WRITE with DATA_SYNC or
-/// FILE_SYNC.
+/// If an operation that waits until it is stable is answered OK, the session has one more commit,
+/// and has seen a mark that covers it, at its place, and all commits before it. So it is of COMMIT
+/// (RFC 1813, section 3.3.21), SETATTR, CREATE, REMOVE, and WRITE with DATA_SYNC or FILE_SYNC.
 pub fn answers_that_wait_are_stable()
     ensures { (version : FormatVersion) (verifier : List ℕ) (now : Time) (operation : Operation) (old new : SessionState) (r : Results)
         → IsTrue (has_to_wait operation) → IsTrue (is_accepted r) → Serves version verifier now operation old r new
         → (place : ℕ) × CommitsOnceAt old new place × IsMarked new.seen place }
 {}
 
-/// A reply that has a wait is what the call's reply is to be once a mark covers its receipt: that
-/// mark stands for what is stable of it. It stays so in each history that has greater marks.
+/// A reply with a pending wait becomes the call's reply once a mark covers its receipt. It stays so
+/// in each history that has greater marks.
 pub fn pending_replies_hold_once_stable()
     ensures paid { (version : FormatVersion) (verifier : List ℕ) (now : Time) (xid : ℕ) (asked : Result Operation CallRefused) (old new then : SessionState)
         (wait : PendingWait CommitPlace) (text : List ℕ)

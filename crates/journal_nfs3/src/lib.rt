@@ -3,16 +3,16 @@
 //!
 //! `answer` reads the arguments, which lend from the call's record, runs the operation on a file
 //! store at the moment that it is given, and writes the reply into one buffer. It is
-//! `answer_no_wait`, which does a call up to its commit, then the wait before it, and where that is
-//! refused the reply of `refused_reply`: so who has many calls does them all, and waits once.
-//! `specs/Arguments.antt` and `specs/Results.antt` have the grammar: an item for the arguments and
-//! one for the results of each procedure, put together from those of `journal_xdr`, and the laws
-//! say that each value has one spelling. `specs/Calls.antt` says which operation a call asks, or
-//! why it is refused; `specs/Served.antt` has a row for each operation: the handle, the file
-//! store's call, whether it waits until it is stable, how far an answer is that waits, and the
-//! results that are made of it; `specs/Profile.antt` says which attributes files have.
-//! `specs/Answers.antt` puts these together: the reply to a call, and what the session has seen
-//! then.
+//! `answer_no_wait`, which does a call up to its commit, and then the pending wait. If the wait is
+//! refused, it answers the reply of `refused_reply`. So a caller with many calls does them all, and
+//! waits once. `specs/Arguments.antt` and `specs/Results.antt` have the grammar: an item for the
+//! arguments and one for the results of each procedure, put together from those of `journal_xdr`.
+//! The laws say that each value has one spelling. `specs/Calls.antt` says which operation a call
+//! asks for, or why it is refused. `specs/Served.antt` has a row for each operation: the handle,
+//! the file store's call, whether it waits until it is stable, how far an answer is that waits, and
+//! the results that are made of it. `specs/Profile.antt` says which attributes files have.
+//! `specs/Answers.antt` puts these together: the reply to a call, and the history that the session
+//! has seen then.
 #![tactic(auto)]
 
 mod arguments;

@@ -1,11 +1,11 @@
-// What is answered before it is waited for.
+// Answers whose wait is still pending.
 ghost use Rattle.std.specs.Prelude.{◌≡◌};
 ghost use Rattle.journal_filestore.specs.declared.pending_wait.PendingWait.TheVariants.{Nothing};
 
 use crate::procedure::Procedure;
 use journal_filestore::PendingWait;
 
-/// The answer to an operation that is not waited for, and the wait before it.
+/// The answer to an operation that is not waited for, and its pending wait.
 #[derive(Drop)]
 pub struct Pending<T, P> {
     pub value: T,
@@ -25,7 +25,7 @@ impl<T, P> Pending<T, P> {
     }
 }
 
-/// The wait of a reply: of which procedure the call is, and the receipt of its commit.
+/// The wait of a reply: the procedure of the call, and the receipt of its commit.
 #[derive(Debug, Drop)]
 pub struct ReplyWait<P> {
     /// The call's procedure.
@@ -40,6 +40,6 @@ pub struct ReplyWait<P> {
 pub struct PendingReply<P> {
     /// The reply.
     pub reply: Vec<u8>,
-    /// The wait, or `None` where the reply may be sent at once.
+    /// The wait, or `None` if the reply may be sent at once.
     pub wait: Option<ReplyWait<P>>,
 }

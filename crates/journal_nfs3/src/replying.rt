@@ -29,23 +29,24 @@ use std::sync::Wait;
 const REPLY_BYTES: usize = 256;
 
 /// The reply to a call, as a record of one fragment. The first case that holds is answered: the
-/// call is in another version of RPC, it asks another program, another version of this one or a
+/// call is in another version of RPC, it asks for another program, another version of this one or a
 /// procedure that is not served, or its arguments cannot be read (RFC 5531, section 9). Such a call
 /// does nothing. Else its procedure is done at the moment (RFC 1813, section 3.3), and the reply
 /// has its results.
 ///
 /// NULL does nothing, and neither does an operation whose handle is none: it is answered BADHANDLE.
-/// Each other operation is one commit of the session, after all that the session had seen, also
-/// where its answer is an error. Its answer fits the files before and after it. Where the journal
-/// refuses, the answer is JUKEBOX for J5, IO for J6 and SERVERFAULT for any other refusal. There is
-/// no commit then, unless the operation was done and was to wait until it is stable: it stands, and
-/// is not known to be stable.
+/// Each other operation is one commit of the session, after all that the session had seen, even if
+/// its answer is an error. Its answer fits the files before and after it. If the journal refuses,
+/// the answer is JUKEBOX for J5, IO for J6 and SERVERFAULT for any other refusal. There is no
+/// commit then, unless the operation was done and had to wait until it is stable: the history has
+/// it, and it is not known to be stable.
 ///
 /// COMMIT, SETATTR, CREATE, REMOVE, and WRITE with DATA_SYNC or FILE_SYNC wait until they are
 /// stable, with all that the session had seen, before they are answered OK.
 ///
-/// Answers J1 `NoMemory`, and nothing else, where memory for the reply is refused. The operation is
-/// done all the same, and its reply is lost.
+/// # Errors
+/// - `J1 NoMemory`: the memory for the reply is refused. The operation is done all the same, and
+///   its reply is lost.
 pub fn answer<'b, D: BlockDisk, J: Naming, V: Version, W: Wait, C>(
     rt: &W,
     alloc: Global,
@@ -69,7 +70,7 @@ pub fn answer<'b, D: BlockDisk, J: Naming, V: Version, W: Wait, C>(
         Some(awaited) => awaited,
     };
     let waited = files.journal().wait_stable(rt, session, &awaited.receipt);
-    // It tells the proof what is known of all that the session has then seen.
+    // Called for its contract: the history that the session has then seen.
     let _seen = session.seen();
     match waited {
         Ok(_note) => Ok(reply),
@@ -77,14 +78,15 @@ pub fn answer<'b, D: BlockDisk, J: Naming, V: Version, W: Wait, C>(
     }
 }
 
-/// The reply to a call up to its commit: as `answer` does the call, and before it waits. Where that
-/// waits, what is pending is the wait for its receipt, by `Journal::wait_stable`: the operation
-/// stands in the history, and a crash before may lose it. A mark that covers the receipt makes the
-/// reply what `answer` would give; where the wait is refused, the reply of `refused_reply` is to be
-/// sent in place of it.
+/// The reply to a call up to its commit: as `answer` does the call, and before it waits. If
+/// `answer` would wait, the wait for its receipt is pending (`Journal::wait_stable`): the history
+/// has the operation, and a crash before the mark may lose it. A mark that covers the receipt makes
+/// the reply the one of `answer`. If the wait is refused, the reply of `refused_reply` has to be
+/// sent in its place.
 ///
-/// Answers J1 `NoMemory`, and nothing else, where memory for the reply is refused. The operation is
-/// done all the same, and its reply is lost.
+/// # Errors
+/// - `J1 NoMemory`: the memory for the reply is refused. The operation is done all the same, and
+///   its reply is lost.
 pub fn answer_no_wait<'b, D: BlockDisk, J: Naming, V: Version, W: Wait, C>(
     rt: &W,
     alloc: Global,
@@ -106,11 +108,12 @@ pub fn answer_no_wait<'b, D: BlockDisk, J: Naming, V: Version, W: Wait, C>(
     Ok(PendingReply { reply, wait })
 }
 
-/// The reply that is sent in place of one that has a wait, to a call of this number and procedure,
-/// where the wait is refused: JUKEBOX for J5, IO for J6 and SERVERFAULT for any other refusal. The
-/// operation stands, and is not known to be stable.
+/// The reply in place of one whose wait is refused, to a call of this number and procedure: JUKEBOX
+/// for J5, IO for J6 and SERVERFAULT for any other refusal. The history has the operation, and it
+/// is not known to be stable.
 ///
-/// Answers J1 `NoMemory`, and nothing else, where memory for the reply is refused.
+/// # Errors
+/// - `J1 NoMemory`: the memory for the reply is refused. Nothing changed.
 pub fn refused_reply<C, E>(
     alloc: Global,
     xid: u32,
@@ -122,7 +125,7 @@ pub fn refused_reply<C, E>(
     ensures refusal { IsOkUnless result Refusal.NoMemory }
 {
     let results = Results::refused(procedure, refusal_error(why));
-    // It tells of no file, and is the same in each version.
+    // It describes no file, and is the same in each version.
     let results = FormatResults {
         version: FormatVersion::One,
         results,
@@ -132,7 +135,7 @@ pub fn refused_reply<C, E>(
     Ok(write_reply(alloc, xid, &outcome, REPLY_BYTES)?)
 }
 
-// What a call comes to that is not waited for: why it is refused, or the results of its operation,
+// The outcome of a call that is not waited for: why it is refused, or the results of its operation,
 // which is done.
 fn run_no_wait<'b, D: BlockDisk, J: Naming, V: Version, W: Wait>(
     rt: &W,

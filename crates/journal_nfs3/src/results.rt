@@ -1,4 +1,4 @@
-// What procedures answer.
+// The results of procedures.
 ghost use Rattle.std.specs.Prelude.{◌≡◌, ◌++◌, OnOk};
 ghost use Rattle.journal_inode.specs.declared.version.FormatVersion.{FormatVersion};
 ghost use Rattle.journal_nfs3.specs.Results.{procedure_of_results};
@@ -15,9 +15,9 @@ use journal_inode::FormatVersion;
 use journal_xdr::Writer;
 use std::alloc::AllocError;
 
-/// What a server tells with each WRITE and COMMIT (RFC 1813, section 3.3.7, writeverf3). It is the
-/// same as long as the server runs, and another once it began anew and may have lost what was not
-/// stable.
+/// The number that a server gives with each WRITE and COMMIT (RFC 1813, section 3.3.7, writeverf3).
+/// It stays the same as long as the server runs. It is another once the server began anew and may
+/// have lost writes that were not stable.
 #[derive(Clone, Copy, Debug, PartialEq, Eq)]
 pub struct Verifier(pub [u8; 8]);
 
@@ -40,7 +40,7 @@ pub enum NfsError {
     Jukebox = 10008,
 }
 
-/// What a procedure answers, each in the order of RFC 1813, section 3.3.
+/// The results of a procedure, each in the order of RFC 1813, section 3.3.
 #[derive(Debug, Drop)]
 pub enum Results {
     Null,
@@ -63,8 +63,8 @@ pub enum Results {
 }
 
 impl Results {
-    /// What a procedure answers that is refused so: nothing is told of any file, and nothing of
-    /// what was asked.
+    /// The results of a procedure that is refused for this reason: they describe no file, and
+    /// nothing of what was asked.
     pub fn refused(procedure: Procedure, why: NfsError) -> Results
         ensures { (version : FormatVersion) → results_of version result ≡ refused_results procedure why }
     {
@@ -90,7 +90,7 @@ impl Results {
     }
 }
 
-/// The same of files of a version of the format, which says how many bytes they use.
+/// The results, with the version of the format, which says how many bytes files use.
 #[derive(Debug, Drop)]
 pub struct FormatResults {
     pub version: FormatVersion,
@@ -98,7 +98,7 @@ pub struct FormatResults {
 }
 
 impl FormatResults {
-    /// The procedure that answers so.
+    /// The procedure of these results.
     pub fn procedure(&self) -> Procedure
         ensures { result ≡ procedure_of_results (results_of self.now.version self.now.results) }
     {

@@ -28,7 +28,7 @@ use journal_inode::{SoundFiles, Version};
 use journal_world::Moment;
 use std::sync::Wait;
 
-// What a procedure answers whose operation is committed, and the receipt that is owed for it.
+// The results of a procedure whose operation is committed, and its pending receipt.
 pub type PendingReceipt<'b, J, V, T> = Pending<T, Receipt<'b, J, SoundFiles<V>>>;
 
 /// Runs an operation at a moment, up to its commit.
@@ -43,7 +43,7 @@ pub fn serve_no_wait<'b, D: BlockDisk, J: Naming, V: Version, W: Wait>(
     ensures serves { ServesAs V.VERSION (awaiting result.wait) verifier.0 (time_of moment) (operation_of operation.now) session.old (results_of V.VERSION result.value) session.new }
     ensures procedure { procedure_of_results (results_of V.VERSION result.value) ≡ procedure_for (operation_of operation.now) }
 {
-    // Each arm returns by itself, since some of them hold a receipt and the others do not.
+    // Each arm returns by itself, because some of them hold a receipt and the others do not.
     match operation {
         Operation::Null => return Pending::ready(Results::Null),
         Operation::GetAttributes(handle) => {
@@ -77,7 +77,7 @@ pub fn serve_no_wait<'b, D: BlockDisk, J: Naming, V: Version, W: Wait>(
     }
 }
 
-// The results of SETATTR, with what is owed for them.
+// The results of SETATTR, with its pending wait.
 fn set_results<P>(due: Pending<Result<Changed, NfsError>, P>) -> Pending<Results, P>
     ensures value { result.value ≡ results.SetAttributes due.value }
     ensures wait { result.wait ≡ due.wait }
@@ -143,6 +143,9 @@ fn commit_results<P>(
 }
 
 /// GETATTR (RFC 1813, section 3.3.1).
+///
+/// # Errors
+/// - The error that the reply has: of the file store, or of a journal that refused.
 #[tactic(auto, using(crate::proofs::Standings::unwaited))]
 pub fn get_attributes<'b, D: BlockDisk, J: Naming, V: Version, W: Wait>(
     rt: &W,
@@ -181,6 +184,9 @@ fn set_attributes<'b, D: BlockDisk, J: Naming, V: Version, W: Wait>(
 }
 
 /// LOOKUP (RFC 1813, section 3.3.3).
+///
+/// # Errors
+/// - The error that the reply has: of the file store, or of a journal that refused.
 #[tactic(auto, using(crate::proofs::Standings::unwaited))]
 pub fn look_up<'b, D: BlockDisk, J: Naming, V: Version, W: Wait>(
     rt: &W,

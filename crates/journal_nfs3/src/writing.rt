@@ -26,7 +26,7 @@ const ROOT: u32 = 1;
 // The only file system.
 const FILE_SYSTEM: u64 = 1;
 
-// What differs between files and the root, beside what a file has itself: the type (RFC 1813,
+// The difference between files and the root, beside the fields of a file: the type (RFC 1813,
 // section 2.5, ftype3), the mode and the number of links.
 #[derive(Clone, Copy)]
 struct Shape {
@@ -47,7 +47,7 @@ const ROOT_SHAPE: Shape = Shape {
     links: 2,
 };
 
-/// What else a procedure tells of files, and does not where it refuses.
+/// The other facts of files in a procedure's results, which a refusal leaves out.
 #[derive(Clone, Copy)]
 pub enum Untold {
     Nothing,
@@ -55,6 +55,10 @@ pub enum Untold {
     Change,
 }
 
+/// Writes a time (RFC 1813, section 2.5, nfstime3).
+///
+/// # Errors
+/// - Memory is refused. Part of the bytes may be written.
 #[tactic(auto, unfolding(crate::specs::Arguments::time))]
 pub fn write_time(writer: &mut Writer, value: Time) -> Result<(), AllocError>
     ensures ok { OnOk result (Writes time value writer.old writer.new) }
@@ -64,8 +68,8 @@ pub fn write_time(writer: &mut Writer, value: Time) -> Result<(), AllocError>
     writer.word(value.nanos)
 }
 
-/// How many bytes the blocks of a file of this size have. No file has more bytes than its version's
-/// most.
+/// The number of bytes of the blocks of a file of this size. No file has more bytes than its
+/// version's most.
 pub fn used_bytes(version: FormatVersion, size: u64) -> u64
     ensures { result ≡ used_bytes version size }
 {
@@ -106,7 +110,10 @@ fn write_attributes(
     write_time(writer, attributes.mtime)
 }
 
-/// Writes attributes that are told (RFC 1813, section 2.5, post_op_attr).
+/// Writes attributes that are there (RFC 1813, section 2.5, post_op_attr).
+///
+/// # Errors
+/// - Memory is refused. Part of the bytes may be written.
 pub fn write_after(
     writer: &mut Writer,
     version: FormatVersion,
@@ -119,7 +126,7 @@ pub fn write_after(
     write_attributes(writer, version, attributes)
 }
 
-// Writes what stood before a change (RFC 1813, section 2.5, wcc_attr).
+// Writes the attributes before a change (RFC 1813, section 2.5, wcc_attr).
 #[tactic(auto, unfolding(crate::specs::Results::before))]
 fn write_before(writer: &mut Writer, attributes: &Attributes) -> Result<(), AllocError>
     ensures { OnOk result (Writes before (before_of attributes.now) writer.old writer.new) }
@@ -129,7 +136,7 @@ fn write_before(writer: &mut Writer, attributes: &Attributes) -> Result<(), Allo
     write_time(writer, attributes.mtime)
 }
 
-// Writes what was changed (RFC 1813, section 2.5, wcc_data).
+// Writes a change (RFC 1813, section 2.5, wcc_data).
 #[tactic(auto, unfolding(crate::specs::Results::change))]
 fn write_change(
     writer: &mut Writer,
@@ -144,6 +151,9 @@ fn write_change(
 }
 
 /// Writes a handle (RFC 1813, section 2.4, nfs_fh3).
+///
+/// # Errors
+/// - Memory is refused. Part of the bytes may be written.
 pub fn write_handle(writer: &mut Writer, number: u32, generation: u32) -> Result<(), AllocError>
     ensures ok { OnOk result (Writes given_handle (record { number = number; generation = generation }) writer.old writer.new) }
     ensures err { OnErr result ((front : List ℕ) × (writer.new ≡ writer.old ++ front)) }
@@ -154,7 +164,7 @@ pub fn write_handle(writer: &mut Writer, number: u32, generation: u32) -> Result
     writer.word(generation)
 }
 
-// Writes that nothing was changed.
+// Writes that nothing changed.
 fn write_no_change(
     writer: &mut Writer,
     version: FormatVersion,
@@ -172,7 +182,10 @@ fn write_no_change(
     )
 }
 
-/// Writes the status of an outcome, and that nothing is told behind one that refuses.
+/// Writes the status of an outcome, and after one that refuses that the other facts are left out.
+///
+/// # Errors
+/// - Memory is refused. Part of the bytes may be written.
 #[tactic(auto, unfolding(crate::specs::Results::change))]
 pub fn write_status<T>(
     writer: &mut Writer,

@@ -7,12 +7,12 @@ ghost use Rattle.journal_object.specs.Objects.{IsMapOf, map_of_blocks};
 
 use journal_world::Kind;
 
-/// Does nothing: its contract is the law of the map that a disk's blocks make.
+/// Does nothing. Its contract is the law of the map that a disk's blocks make.
 pub fn prove_objects_law()
     ensures map { (layout : Shape) (content : ℕ → Bytes)
         → IsMapOf content (map_of_blocks layout content) }
 
-    // Where each block of the disk has 4096 bytes, the map's pairs are objects.
+    // If each block of the disk has 4096 bytes, the map's pairs are objects.
     ensures objects { (layout : Shape) (content : ℕ → Bytes)
         → ((b : ℕ) → b < layout.blocks → IsTrue (is_value_of Kind.Block (content b)))
         → IsTrue (are_objects layout (map_of_blocks layout content).pairs) }

@@ -11,8 +11,10 @@ use journal_world::{Addr, BLOCK_BYTES, Layout, Refusal};
 /// Reads into `out` the object that the address names, where `block` is its block: one byte, 0 or
 /// 1, for a bit, the bytes of its size for a record, 4096 for a block.
 ///
-/// Answers J2 `BadAddress` where the address is not valid in the layout, else J3 `BadSize` where
-/// `out` has not the object's length. After a refusal `out` is as it was.
+/// # Errors
+/// The first that applies is answered. `out` is as it was.
+/// - `J2 BadAddress`: the address is not valid in the layout.
+/// - `J3 BadSize`: the length of `out` is not the object's.
 pub fn load<C>(layout: &Layout, block: &Block, addr: Addr, out: &mut [u8]) -> Result<(), Refusal<C>>
     ensures ok { IsOk result
         ↔ (IsTrue (is_valid (shape layout.now) addr)
@@ -38,8 +40,8 @@ pub fn load<C>(layout: &Layout, block: &Block, addr: Addr, out: &mut [u8]) -> Re
 }
 
 /// Reads into `out` the object that a valid address names, where `block` is its block and `out` has
-/// the object's length. That length tells a bit from other objects, so nothing is looked up: the
-/// layout stands in the contract alone.
+/// the object's length. That length distinguishes a bit from other objects, so nothing is looked
+/// up. Only the contract needs the layout.
 pub fn load_valid(layout: &Layout, block: &Block, addr: Addr, out: &mut [u8])
     requires valid { IsTrue (is_valid (shape layout.now) addr) }
     requires size { length out.old ≡ size_at (shape layout.now) addr }
@@ -57,9 +59,11 @@ pub fn load_valid(layout: &Layout, block: &Block, addr: Addr, out: &mut [u8])
 /// Overwrites the object that the address names by a value, where `block` is its block. No other
 /// bit of the block changes.
 ///
-/// Answers J2 `BadAddress` where the address is not valid in the layout, else J3 `BadSize` where
-/// `value` has not the object's length, or is a bit's and exceeds 1. After a refusal the block is
-/// as it was.
+/// # Errors
+/// The first that applies is answered. The block is as it was.
+/// - `J2 BadAddress`: the address is not valid in the layout.
+/// - `J3 BadSize`: the length of `value` is not the object's, or the object is a bit and its byte
+///   exceeds 1.
 pub fn store<C>(
     layout: &Layout,
     block: &mut Block,
@@ -91,8 +95,8 @@ pub fn store<C>(
 }
 
 /// Overwrites the object that a valid address names by a value of its kind, where `block` is its
-/// block. No other bit of the block changes. The value's length tells a bit from other objects, so
-/// nothing is looked up: the layout stands in the contract alone.
+/// block. No other bit of the block changes. The value's length distinguishes a bit from other
+/// objects, so nothing is looked up. Only the contract needs the layout.
 pub fn store_valid(layout: &Layout, block: &mut Block, addr: Addr, value: &[u8])
     requires object { IsTrue (is_object (shape layout.now) (addr, value.now)) }
     ensures stored { block.new ≡ with_object_at (shape layout.now) block.old addr value.now }

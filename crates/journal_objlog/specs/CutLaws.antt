@@ -1,4 +1,4 @@
--- What follows where nothing awaits logging, or no group is in flight.
+-- Laws for the case that nothing awaits logging, or no group is in flight.
 use Rattle.std.proofs.Common.{◌≡◌, ◌-◌, List, take, length-drop, ap, arith}
 use Rattle.std.proofs.lemmas.List.{take_all}
 use Rattle.journal_world.specs.Addresses.{Shape}

@@ -1,4 +1,4 @@
--- What an image of a disk opens as.
+-- The map that an image of a disk opens as.
 use Rattle.std.specs.Prelude.{List}
 use Rattle.journal_world.specs.Maps.{Map}
 use Rattle.journal_block.specs.Block.{Bytes}

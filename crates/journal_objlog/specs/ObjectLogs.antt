@@ -1,5 +1,5 @@
--- What contracts see of an object log: the map now, the two that a crash may leave, and what each
--- call makes of them.
+-- An object log as contracts see it: the map now, the two that a crash may leave, and these maps
+-- after each call.
 use Rattle.std.specs.Prelude.{ℕ, ◌≡◌, ◌⊎◌, Bool, true, false, IsTrue, List}
 use Rattle.journal_world.specs.declared.refusal.Refusal.{Refusal}
 use Rattle.journal_world.specs.declared.refusal.Refusal.TheVariants.{DeviceFailed}
@@ -34,8 +34,8 @@ end_of w = w.log.logged
 abbrev pub IsCutLogged : WalState → Type 0
 IsCutLogged w = w.log.logged ≡ w.log.cut
 
--- What holds for each layout of a disk of so many blocks. A log has blocks, and knows no layout:
--- what it says of maps it says for each by which its blocks may be read
+-- A condition for each layout of a disk of this many blocks. A log has blocks, and knows no layout:
+-- its clauses on maps hold for each by which its blocks may be read
 abbrev pub EachLayout : ℕ → (Shape → Type 0) → Type 0
 EachLayout blocks holds = (layout : Shape) → layout.blocks ≡ blocks → holds layout
 
@@ -51,8 +51,8 @@ map_cut layout w = map_of layout (blocks_cut w)
 abbrev pub map_logged : Shape → WalState → Map
 map_logged layout w = map_of layout (blocks_logged w)
 
--- What a crash may leave opens as the map of the last group whose cycle ended, or as that of the
--- last cut
+-- An image that a crash may leave opens as the map of the last group whose cycle ended, or as that
+-- of the last cut
 abbrev pub MayOpenAs : Shape → WalState → List Bytes → Type 0
 MayOpenAs layout w image = OpensAs (map_logged layout w) image ⊎ OpensAs (map_cut layout w) image
 
@@ -62,8 +62,8 @@ pub record KeepsMaps (old new : WalState) : Type 0 where
   pub cut : EachLayout (size_of old) (λ layout. SameMap (map_cut layout new) (map_cut layout old))
   pub logged : EachLayout (size_of old) (λ layout. SameMap (map_logged layout new) (map_logged layout old))
 
--- What each call says of the disk: at every moment of it an image opens as one of the two maps that
--- a crash might have left before, and at its end as one of those that it may leave now
+-- The clause of each call on the disk: at every moment of it an image opens as one of the two maps
+-- that a crash might have left before, and at its end as one of those that it may leave now
 pub record Crashes (old new : WalState) : Type 0 where
   pub keeps : Keeps (disk_of old) (disk_of new)
   pub moments : IsTrue (disk_of old).honest → EachLayout (size_of old) (λ layout. LeavesOnly (disk_of old).past (disk_of new).past (MayOpenAs layout old))
@@ -93,7 +93,7 @@ pub record EndsMap (old new : WalState) : Type 0 where
   pub cut : EachLayout (size_of old) (λ layout. SameMap (map_cut layout new) (map_cut layout old))
   pub logged : EachLayout (size_of old) (λ layout. SameMap (map_logged layout new) (map_cut layout old))
 
--- what a step of the logger makes of the maps
+-- the maps after a step of the logger
 abbrev pub LogsMaps : WalState → GroupStep → WalState → Type 0
 LogsMaps old Idle new = KeepsMaps old new
 LogsMaps old Put new = KeepsMaps old new

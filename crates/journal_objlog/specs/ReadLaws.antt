@@ -1,4 +1,4 @@
--- What follows where an object log was only read.
+-- Laws of an object log that was only read.
 use Rattle.std.proofs.Common.{◌≡◌, ℕ, IsTrue, ap, subst, sym, ◌∙◌}
 use Rattle.journal_world.specs.Addresses.{Shape}
 use Rattle.journal_world.specs.Maps.{Map}

@@ -1,4 +1,4 @@
--- What reads leave of an object log, whatever order they come in and whatever asks for them.
+-- An object log after reads, whatever order they come in and whatever asks for them.
 use Rattle.std.specs.Prelude.{ℕ, ◌≡◌, false, IsTrue, []}
 use Rattle.journal_block.specs.Block.{Bytes}
 use Rattle.journal_wal.specs.Wal.{WalState, blocks_now, log_blocks, install_none}

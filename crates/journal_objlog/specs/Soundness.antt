@@ -1,4 +1,4 @@
--- What holds of every object log.
+-- The invariant of every object log.
 use Rattle.std.specs.Prelude.{IsTrue}
 use Rattle.journal_disk.specs.Images.{EveryImage}
 use Rattle.journal_wal.specs.Wal.{WalState, MayStandFor}

@@ -1,4 +1,4 @@
-// The log on the disk takes groups of objects that were cut elsewhere, and tells what is logged.
+// The log on the disk takes groups of objects that were cut elsewhere, and reads what is logged.
 ghost use Rattle.std.specs.Prelude.{◌≡◌, ◌≤◌, ◌<◌, ◌↔◌, false, true, length, IsTrue, IsErr, OnOk, OnErr, IfOk, IfErr};
 ghost use Rattle.journal_memlog.specs.Logs.{HasDistinctBlocks};
 ghost use Rattle.journal_circ.specs.Ring.{IsFault};
@@ -15,14 +15,16 @@ use journal_disk::BlockDisk;
 use journal_world::Refusal;
 
 impl<D: BlockDisk> ObjectLog<D> {
-    /// Makes room for a group of so many blocks, so that `take_reserved` takes it, as long as no
-    /// other call comes between. Answers no where a group is in flight, where there are no blocks,
-    /// and where the log lacks a position for one of them.
+    /// Makes room for a group of `blocks` blocks, so that `take_reserved` takes it, if no other
+    /// call comes in between. False if a group is in flight, if there are no blocks, and if the log
+    /// lacks a position for one of them. The log is as it was, but may have more room in memory.
     ///
-    /// The first that applies of these refuses it: J6 `DeviceFailed` where the device failed
-    /// before, J11 `Worn` where a position would reach 2^62, J1 `NoMemory` where memory is refused.
-    /// Refused or not, the log is as it was, but may have more room in memory where it had too
-    /// little.
+    /// # Errors
+    /// The first that applies is answered. The log is as it was, but may have more room in memory
+    /// where it had too little.
+    /// - `J6 DeviceFailed`: the device failed before.
+    /// - `J11 Worn`: a position would reach 2^62.
+    /// - `J1 NoMemory`: memory is refused.
     pub fn reserve_group(&mut self, blocks: usize) -> Result<bool, Refusal<()>>
         requires few { blocks ≤ MAX_TAIL }
         ensures fits { IfOk result (λ fits. IsTrue fits ↔ FitsGroup self.old blocks) }
@@ -35,9 +37,9 @@ impl<D: BlockDisk> ObjectLog<D> {
         self.wal.reserve_group(blocks)
     }
 
-    /// Takes as the group in flight blocks that were cut elsewhere, which `reserve_group` made room
-    /// for. It takes no memory, and moves the blocks. The map at the cut is then the map with them,
-    /// and what is logged stays.
+    /// Takes blocks that were cut elsewhere, which `reserve_group` made room for, as the group in
+    /// flight. It takes no memory, and moves the blocks. The map at the cut is then the map with
+    /// them, and what is logged stays.
     pub fn take_reserved(&mut self, group: Vec<Update>)
         requires homes { AreHomes (size_of self.old) group.items }
         requires distinct { HasDistinctBlocks group.items }
@@ -49,11 +51,13 @@ impl<D: BlockDisk> ObjectLog<D> {
         self.wal.take_reserved(group);
     }
 
-    /// Copies the block as it is logged: what a crash leaves of it where no group is in flight. It
-    /// is read from the device only where no logged update of it is in memory.
+    /// Copies the block as it is logged: what a crash leaves of it if no group is in flight. It is
+    /// read from the device only if no logged update of it is in memory. The maps and the disk's
+    /// content are as they were, whatever it answers.
     ///
-    /// Answers J6 `DeviceFailed` where the device failed now or before; what `into` then holds is
-    /// not said. The maps and what lies on the disk are as they were, whatever it answers.
+    /// # Errors
+    /// - `J6 DeviceFailed`: the device failed, now or before. The content of `into` is not
+    ///   specified.
     pub fn read_logged(&mut self, block: u64, into: &mut Block) -> Result<(), Refusal<()>>
         requires { block < size_of self.old }
         ensures value { IsTrue (disk_of self.old).honest → OnOk result (into.new ≡ blocks_logged self.old block) }

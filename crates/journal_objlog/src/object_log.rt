@@ -1,4 +1,4 @@
-// An object log, how it is opened, and what it tells without a step.
+// An object log, how it is opened, and its facts that take no step.
 ghost use Rattle.std.specs.Prelude.{ℕ, ◌≡◌, ◌<◌, ◌≤◌, ◌↔◌, ◌⊎◌, false, IsTrue, IfOk, IfErr, MatchResult};
 ghost use Rattle.journal_world.specs.declared.layout.TheConstants.{MIN_BLOCKS};
 ghost use Rattle.journal_disk.specs.Disks.{Keeps, IsSettled, read_of};
@@ -16,8 +16,8 @@ use journal_world::Refused;
 use std::alloc::Global;
 use std::marker::Model;
 
-/// The maps of objects of a disk, over the write-ahead log. It knows blocks and no layout: what it
-/// says of maps it says for each layout by which the disk may be read.
+/// The maps of objects of a disk, over the write-ahead log. It knows blocks and no layout: its
+/// clauses on maps hold for each layout by which the disk may be read.
 #[derive(Drop)]
 pub struct ObjectLog<D: BlockDisk> {
     pub(crate) alloc: Global,
@@ -36,12 +36,14 @@ impl<D: BlockDisk> Model for ObjectLog<D> {
 }
 
 impl<D: BlockDisk> ObjectLog<D> {
-    /// Opens the maps of a disk, on which nothing is pending: what lies in its log is read into
+    /// Opens the maps of a disk, on which nothing is pending: the updates in its log are read into
     /// memory, and nothing is written.
     ///
-    /// Answers J1 `NoMemory` where memory is refused, J6 `DeviceFailed` where the device fails in
-    /// this call, and J7 `BadLog` where the disk's log is not well formed, and no other refusal. A
-    /// refusal hands the disk back, with nothing written.
+    /// # Errors
+    /// A refusal gives the disk back, and nothing was written.
+    /// - `J1 NoMemory`: memory is refused.
+    /// - `J6 DeviceFailed`: the device fails in this call.
+    /// - `J7 BadLog`: the disk's log is not well formed.
     pub fn open(alloc: Global, disk: D) -> Result<ObjectLog<D>, Refused<D, ()>>
         requires size { MIN_BLOCKS ≤ (D.state disk).past.size }
         requires settled { IsTrue (D.state disk).honest → IsSettled (D.state disk).past }
@@ -55,7 +57,7 @@ impl<D: BlockDisk> ObjectLog<D> {
             (λ refused. (D.state refused.disk).past ≡ (D.state disk).past) }
         ensures well_formed { IsTrue (D.state disk).honest → IfOk result (λ _. IsWellFormed (reading (D.state disk).past)) }
         ensures opened { IfOk result IsAtRest }
-        // The bounds and the form are those that the disk tells.
+        // The bounds and the form are those on the disk.
         ensures bounds { IsTrue (D.state disk).honest → IfOk result (HasBoundsIn (reading (D.state disk).past)) }
         ensures form { IsTrue (D.state disk).honest → IfOk result (λ log. log.ring.sealed ≡ is_sealed (read_of (D.state disk).past 0)) }
         // Each image opens as the map now.
@@ -66,15 +68,15 @@ impl<D: BlockDisk> ObjectLog<D> {
         Ok(ObjectLog { alloc, wal })
     }
 
-    /// Where the log on the disk starts and ends, as last synced: positions, of which there are at
-    /// most 511.
+    /// The start and the end of the log on the disk, as last synced: positions, of which there are
+    /// at most 511.
     pub fn log_range(&self) -> (u64, u64)
         ensures { result ≡ (self.now.log.start, self.now.log.logged) }
     {
         self.wal.log_range()
     }
 
-    /// Whether a group is in flight.
+    /// True if a group is in flight.
     pub fn is_logging(&self) -> bool
         ensures group { IsTrue result ↔ (self.now.log.logged < self.now.log.cut) }
         ensures steps { is_faulted self.now ≡ false → IsTrue result → 0 < log_steps self.now }
@@ -83,14 +85,14 @@ impl<D: BlockDisk> ObjectLog<D> {
         self.wal.is_logging()
     }
 
-    /// Whether the log on the disk is sealed: a group takes one barrier, and two of a plain log.
+    /// True if the log on the disk is sealed: a group takes one barrier, and two of a plain log.
     pub fn is_sealed(&self) -> bool
         ensures { result ≡ self.now.ring.sealed }
     {
         self.wal.is_sealed()
     }
 
-    /// Whether the device failed, so that each read, group and step answers J6.
+    /// True if the device failed, so that each read, group and step answers J6.
     pub fn is_faulted(&self) -> bool
         ensures { result ≡ is_faulted self.now }
     {
@@ -104,8 +106,8 @@ impl<D: BlockDisk> ObjectLog<D> {
         self.wal.disk()
     }
 
-    /// Gives the disk up, as it is. Once a failed barrier, a kill or a crash has left it, it can be
-    /// mended, also after a fault.
+    /// Gives the disk up, as it is. It can be mended once a failed barrier, a kill or a crash has
+    /// left it, also after a fault.
     pub fn into_disk(self) -> D
         ensures disk { D.state result ≡ disk_of self }
         ensures mendable { IsTrue (disk_of self).honest → IsMendable (disk_of self).past }

@@ -18,7 +18,7 @@ use journal_world::{Addr, Kind, Layout, MapRule, ObjectReader, Refusal, Value};
 use std::alloc::Global;
 use std::marker::{Brand, Model, PhantomData};
 
-// The log before its map was read, and the layout that it is read by. They stand in proofs alone,
+// The log before its map was read, and the layout that it is read by. Both exist in proofs alone,
 // and are picked where the reading begins.
 trait Opening {
     ghost use Rattle.journal_world.specs.Addresses.{Shape};
@@ -38,8 +38,8 @@ impl Opening for Brand {
     ghost log = { no_log };
 }
 
-// Reads the map that the log had then. It holds the log, so that whatever reads by it leaves a log
-// that was only read. Of blocks with many objects it keeps the one that it read last, so that a
+// Reads the map that the log had when the reading began. It holds the log, so each reader leaves a
+// log that was only read. Of blocks with many objects it keeps the one that it read last, so that a
 // rule that goes through such a block reads it once. A block that is one object is read beside it.
 struct MapReader<D: BlockDisk, O: Opening> {
     layout: Layout,
@@ -108,8 +108,8 @@ impl<D: BlockDisk, O: Opening> ObjectReader for MapReader<D, O> {
     }
 }
 
-// Reads a block into the one that is kept, unless it is that one already. What the block holds
-// after a refusal is not said, so none is kept then.
+// Reads a block into the one that is kept, unless it is that one already. After a refusal its
+// content is not specified, so none is kept then.
 fn keep_block<O: Opening, D: BlockDisk>(
     log: &mut ObjectLog<D>,
     kept: &mut Option<u64>,
@@ -136,11 +136,12 @@ fn keep_block<O: Opening, D: BlockDisk>(
 
 impl<D: BlockDisk> ObjectLog<D> {
     /// Asks the rule whether its statement holds of the map now, by a layout of the disk. The log
-    /// was only read, and is handed back.
+    /// was only read, and is given back. The maps and the disk's content are as they were, whatever
+    /// it answers.
     ///
-    /// Answers J6 `DeviceFailed` where the device failed before or in this call, whatever the rule
-    /// answered, and nowhere else. It is refused otherwise where the rule refuses for want of
-    /// memory (J1). The maps and what lies on the disk are as they were, whatever it answers.
+    /// # Errors
+    /// - `J6 DeviceFailed`: the device failed, before or in this call, whatever the rule answered.
+    /// - `J1 NoMemory`: the rule was refused memory.
     pub fn admitted_by<R: MapRule>(
         self,
         layout: Layout,
@@ -167,7 +168,7 @@ impl<D: BlockDisk> ObjectLog<D> {
         (log, admitted)
     }
 
-    // Reads the block, with all overwrites. What it holds after a refusal is not said.
+    // Reads the block, with all overwrites. After a refusal its content is not specified.
     fn read_block(&mut self, number: u64, into: &mut Block) -> Result<(), Refusal<()>>
         requires { number < size_of self.old }
         ensures block { OnOk result (IsBlockOf self.new into.new number) }
@@ -179,8 +180,8 @@ impl<D: BlockDisk> ObjectLog<D> {
         self.wal.read(number, into)
     }
 
-    // The value that a block of the log has at the address. No device is asked. Refuses by J1
-    // alone.
+    // The value that a block of the log has at the address. No device call is made. Only J1 refuses
+    // it.
     fn value_in(&self, layout: &Layout, block: &Block, addr: Addr) -> Result<Value, Refusal<()>>
         requires { IsTrue (is_valid (shape layout.now) addr) }
         ensures value { IsTrue (disk_of self.now).honest → IsBlockOf self.now block.now addr.block
@@ -252,7 +253,7 @@ fn read_by<O: Opening, D: BlockDisk, R: MapRule>(
     (log, admitted)
 }
 
-// Zeros in the number of bytes that the address's object has. Refuses by J1 alone.
+// Zeros in the number of bytes that the address's object has. Only J1 refuses it.
 fn room_for(alloc: Global, layout: &Layout, addr: Addr) -> Result<Vec<u8>, Refusal<()>>
     ensures size { IfOk result (λ bytes. length bytes.items ≡ size_at (shape layout.now) addr) }
     ensures refusal { IsOkUnless result Refusal.NoMemory }

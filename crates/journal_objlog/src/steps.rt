@@ -10,16 +10,16 @@ use journal_wal::{GroupStep, InstallStep};
 use journal_world::Refusal;
 
 impl<D: BlockDisk> ObjectLog<D> {
-    /// Does the next thing of the logger for the group that `take_reserved` took: writes one of its
-    /// log blocks, of a plain log makes a barrier, writes block 0, makes a barrier. For a group of
-    /// k blocks these are k + 3 steps, and k + 2 of a sealed log. It is idle where no group is in
+    /// Makes the next step of the logger for the group that `take_reserved` took. It writes one of
+    /// its log blocks, of a plain log makes a barrier, writes block 0, makes a barrier. For a group
+    /// of k blocks these are k + 3 steps, and k + 2 of a sealed log. It is idle if no group is in
     /// flight.
     ///
-    /// The map now stays. The last step of a group makes the map at its cut the one which alone a
-    /// crash may leave.
+    /// The map now stays. After the last step of a group a crash leaves the map at its cut, and no
+    /// other.
     ///
-    /// Answers J6 `DeviceFailed`, and nothing else, where the device failed in this call or before.
-    /// The maps are then as they were.
+    /// # Errors
+    /// - `J6 DeviceFailed`: the device failed, in this call or before. The maps are as they were.
     pub fn log_step(&mut self) -> Result<GroupStep, Refusal<()>>
         ensures refusal { IfErr result (IsFault (is_faulted self.old) (disk_of self.old) (disk_of self.new)) }
         ensures faulted { IsTrue (is_faulted self.old) → IsErr result × (self.new ≡ self.old) }
@@ -35,14 +35,15 @@ impl<D: BlockDisk> ObjectLog<D> {
         self.wal.log_step()
     }
 
-    /// Does the next thing of the installer: writes one home block, the last logged one of its
+    /// Makes the next step of the installer. It writes one home block, the last logged one of its
     /// address, the addresses ascending; makes a barrier; writes block 1; makes a barrier, after
-    /// which the positions are free. For h distinct addresses these are h + 3 steps. It is idle
-    /// where nothing is logged that is not at home. The maps stay.
+    /// which the positions are free. For h distinct addresses these are h + 3 steps. It is idle if
+    /// all that is logged is at home. The maps stay.
     ///
-    /// Answers J6 `DeviceFailed` where the device failed in this call or before, and J1 `NoMemory`
-    /// where memory for the list of addresses is refused, at the first of these steps; the log is
-    /// then as it was.
+    /// # Errors
+    /// - `J6 DeviceFailed`: the device failed, in this call or before. The maps are as they were.
+    /// - `J1 NoMemory`: memory for the list of addresses is refused, at the first of these steps.
+    ///   The log is as it was.
     pub fn install_step(&mut self) -> Result<InstallStep, Refusal<()>>
         ensures refusal { IfErr result (IsInstallRefusal self.old self.new) }
         ensures faulted { IsTrue (is_faulted self.old) → IsErr result × (self.new ≡ self.old) }

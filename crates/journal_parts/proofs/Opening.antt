@@ -30,7 +30,9 @@ use Rattle.journal_parts.specs.Durables.{DurableState, IsDurable, begun_durable}
 use Rattle.journal_memory.specs.Volatiles.{VolatileState, IsVolatile}
 use Rattle.journal_parts.specs.Pairs.{Tied}
 use Rattle.journal_parts.specs.CoreParts.{IsPair}
-use Rattle.journal_parts.specs.Openings.{HoldsMap, Begins, HasSize, IsBeginRefusal, IsLayoutRefusal, OnlyReadsDisk}
+use Rattle.journal_parts.specs.Openings.{HoldsMap, HasSize, IsLayoutRefusal, OnlyReadsDisk}
+use Rattle.journal_parts.specs.Beginnings.{Begins}
+use Rattle.journal_parts.specs.BeginRefusals.{IsBeginRefusal}
 use Rattle.journal_objlog.specs.ObjectLogs.{is_faulted as is_log_faulted, disk_of as log_disk}
 use Rattle.journal_circ.specs.Ring.{IsOpenRefusal as IsLogRefusal}
 

@@ -1,4 +1,4 @@
--- What a device call answers, where a hold of both parts has to follow some of its answers.
+-- The answers of a device call, where a hold of both parts has to follow some of them.
 use Rattle.std.specs.Prelude.{ℕ, Result, Ok, Err}
 use Rattle.journal_world.specs.declared.refusal.Refusal.{Refusal}
 use Rattle.journal_world.specs.declared.refusal.Refusal.TheVariants.{NoMemory}
@@ -14,7 +14,7 @@ use Rattle.journal_parts.specs.declared.due.InstallFault.{InstallFault}
 use Rattle.journal_parts.specs.declared.due.InstallFault.TheVariants.{NoMemory as NoRoom, Failed}
 use Rattle.journal_memory.specs.Causes.{CauseState}
 
--- what the logger's device call did, by its answer
+-- the step that the logger's device call was, by its answer
 abbrev pub log_step_of : LogCall → GroupStep
 log_step_of PutCall = Put
 log_step_of LoggedCall = Logged
@@ -24,7 +24,7 @@ abbrev pub log_answer : Result LogCall (Refusal CauseState) → Result GroupStep
 log_answer (Ok call) = Ok (log_step_of call)
 log_answer (Err why) = Err why
 
--- what the installer's device call did, by its answer
+-- the step that the installer's device call was, by its answer
 abbrev pub install_step_of : InstallCall → InstallStep
 install_step_of IdleCall = IdleInstall
 install_step_of PutHome = PutInstall

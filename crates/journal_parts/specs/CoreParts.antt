@@ -9,7 +9,7 @@ use Rattle.journal_memory.specs.Outsets.{Outset}
 use Rattle.journal_memory.specs.Volatiles.{VolatileState, IsVolatile}
 use Rattle.journal_parts.specs.Durables.{DurableState, IsDurable}
 use Rattle.journal_parts.specs.Pairs.{Tied}
-use Rattle.journal_parts.specs.Cores.{CoreState, is_faulted, next_of}
+use Rattle.journal_parts.specs.CoreStates.{CoreState, is_faulted, next_of}
 
 -- the core of these two parts
 abbrev pub core_of : VolatileState → DurableState → CoreState
@@ -22,11 +22,11 @@ core_of v d = record {
   closed = v.ledger.closed;
 }
 
--- what the core's reads and commits are judged by
+-- the facts by which the core's reads and commits are judged
 abbrev pub outset : CoreState → Outset
 outset c = record { closed = c.closed; faulted = is_faulted c; history = c.history; tail = c.objects.tail; next = next_of c.objects }
 
--- What the pair keeps, on a disk of a layout: what each part keeps by itself, what ties the two,
+-- The invariant of the pair, on a disk of a layout: each part's own invariant, the tie of the two,
 -- and that both know of a fault
 pub record IsPair (layout : Shape) (v : VolatileState) (d : DurableState) : Type 0 where
   pub volatile : IsVolatile layout v
@@ -34,7 +34,8 @@ pub record IsPair (layout : Shape) (v : VolatileState) (d : DurableState) : Type
   pub tied : Tied v d
   pub fault : v.faulted ≡ is_log_faulted d.objects
 
--- What the core keeps: while no device call has failed, also memory for a block that a read fetches
+-- The invariant of the core: while no device call has failed, also memory for a block that a read
+-- fetches
 pub record IsCore (layout : Shape) (v : VolatileState) (d : DurableState) (spare : List Update) : Type 0 where
   pub pair : IsPair layout v d
   pub room : is_log_faulted d.objects ≡ false → length spare ≡ 1

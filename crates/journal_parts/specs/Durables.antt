@@ -1,5 +1,5 @@
--- What contracts see of the core's durable part, what its type keeps by itself, and what its calls
--- do. The ledger is asked for none of it.
+-- The core's durable part as contracts see it, its own invariant, and the effects of its calls.
+-- None of them needs the ledger.
 use Rattle.std.specs.Prelude.{ℕ, ◌≡◌, ◌≢◌, ◌⊎◌, ◌<◌, ◌≤◌, ◌+◌, ◌^◌, Bool, true, false, IsTrue, List, []}
 use Rattle.journal_world.specs.declared.refusal.Refusal.{Refusal}
 use Rattle.journal_world.specs.declared.refusal.Refusal.TheVariants.{NoMemory, DeviceFailed, Worn}
@@ -22,7 +22,7 @@ use Rattle.journal_objlog.specs.ObjectLogs.{map_cut, map_logged, MayOpenAs, IsCu
 use Rattle.journal_memory.specs.declared.refusal_number.RefusalNumber.TheVariants.{J6, J11}
 use Rattle.journal_memory.specs.Causes.{CauseState, IsUnexplained}
 
--- What contracts see of the durable part
+-- The state of the durable part that contracts see
 pub record DurableState : Type 0 where
   -- the log on the disk, with copies of the logged blocks and of the group in flight
   pub objects : WalState
@@ -42,8 +42,8 @@ is_faulted d = is_log_faulted d.objects
 abbrev pub disk_of : DurableState → DiskState
 disk_of d = log_disk d.objects
 
--- The image opens as the map after so many of the front's commits: at least those that are marked,
--- at most those with the group in flight
+-- The image opens as the map after some of the front's commits: at least those that are marked, at
+-- most those with the group in flight
 pub record Leaves (d : DurableState) (image : List Bytes) : Type 0 where
   pub commits : ℕ
   pub marked : d.marked ≤ commits
@@ -52,22 +52,22 @@ pub record Leaves (d : DurableState) (image : List Bytes) : Type 0 where
   pub opens : OpensAs map image
   pub same : SameMap map (at d.front commits)
 
--- What each call says of crashes: at every moment of it an image is one that might have been left
--- before, and at its end one that may be left now
+-- The clause of each call on crashes: at every moment of it an image is one that might have been
+-- left before, and at its end one that may be left now
 pub record Crashes (old new : DurableState) : Type 0 where
   pub keeps : Keeps (disk_of old) (disk_of new)
   pub moments : IsTrue (disk_of old).honest → LeavesOnly (disk_of old).past (disk_of new).past (Leaves old)
   pub images : IsTrue (disk_of new).honest → EveryImage (disk_of new).past (Leaves new)
 
--- What is logged is the map after n commits, and with the group in flight it is that after m
+-- The logged map is the map after n commits, and with the group in flight it is that after m
 pub record IsLoggedAt (layout : Shape) (objects : WalState) (front : List Entry) (n m : ℕ) : Type 0 where
   pub logged : SameMap (map_logged layout objects) (at front n)
   pub coming : SameMap (map_cut layout objects) (at front m)
 
--- What it keeps by itself, on a disk of a layout: marked <= logged <= coming; what is logged
--- is the map after `logged` commits, and with the group in flight that after `coming`. In `maps`
--- the log is the one in memory, which between the write of block 0 and its barrier says more than a
--- crash leaves; `images` says what a crash leaves
+-- Its own invariant, on a disk of a layout: marked <= logged <= coming; the logged map is that
+-- after `logged` commits, and with the group in flight that after `coming`. In `maps` the log is
+-- the one in memory, which between the write of block 0 and its barrier is ahead of a crash;
+-- `images` says what a crash leaves
 pub record IsDurable (layout : Shape) (d : DurableState) : Type 0 where
   pub size : size_of d.objects ≡ layout.blocks
   pub begun : d.front ≢ []
@@ -76,7 +76,7 @@ pub record IsDurable (layout : Shape) (d : DurableState) : Type 0 where
   pub marked_to_logged : d.marked ≤ d.logged
   pub logged_to_coming : d.logged ≤ d.coming
   pub coming_to_count : d.coming ≤ count d.front
-  -- what commits wrote comes as a group, and never as a tail
+  -- the blocks that commits wrote come as a group, and never as a tail
   pub tail : tail_length d.objects ≡ 0
   pub ends : end_of d.objects ≤ d.objects.log.cut
   pub next : next_position d.objects.log ≡ d.objects.log.cut
@@ -92,16 +92,16 @@ pub record IsDurable (layout : Shape) (d : DurableState) : Type 0 where
 abbrev pub begun_durable : WalState → List Entry → DurableState
 begun_durable objects front = record { objects = objects; front = front; marked = 0; logged = 0; coming = 0 }
 
--- What its calls do
+-- The effects of its calls
 
--- What the logger's call did: it made the device call of the group in flight that was due, or none
--- is in flight
+-- The effect of the logger's call: it made the device call of the group in flight that was due, or
+-- none is in flight
 abbrev pub LogAnswers : DurableState → GroupStep → DurableState → Type 0
 LogAnswers old Idle new = (log_steps old.objects ≡ 0) × (new ≡ old)
 LogAnswers old Put new = LogsOn old.objects new.objects × (new ≡ record old { objects = new.objects })
 LogAnswers old Logged new = EndsGroup old.objects new.objects × (new ≡ record old { objects = new.objects; logged = old.coming })
 
--- what the installer's call did
+-- the effect of the installer's call
 abbrev pub InstallAnswers : DurableState → InstallStep → DurableState → Type 0
 InstallAnswers old step new = WalInstalls old.objects step new.objects × (new ≡ record old { objects = new.objects })
 
@@ -130,7 +130,7 @@ IsInstallRefusal old new NoMemory =
     (is_faulted old ≡ false) × (install_steps old.objects ≡ 0) × (start_of old.objects < end_of old.objects) × (new ≡ old)
 IsInstallRefusal old new other = IsCallRefusal old new other
 
--- why room for a group of so many blocks is refused: the first of these that holds
+-- why room for a group of this many blocks is refused: the first of these that holds
 abbrev pub IsRoomRefusal : DurableState → ℕ → Refusal CauseState → Type 0
 IsRoomRefusal d blocks (DeviceFailed cause) = (is_faulted d ≡ true) × IsUnexplained J6 cause
 IsRoomRefusal d blocks (Worn cause) =

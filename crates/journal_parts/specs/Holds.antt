@@ -1,5 +1,5 @@
--- The holds of the two locks, each as one event: what a hold of memory alone, of the disk alone,
--- and of both answers and leaves. What a hold has not locked is not spoken of.
+-- The holds of the two locks, each as one event: the answer and the effect of a hold of memory
+-- alone, of the disk alone, and of both. A hold says nothing of a part that it has not locked.
 use Rattle.std.specs.Prelude.{ℕ, ◌≡◌, ◌⊎◌, ◌<◌, true, false, IsTrue, List, map, All, Result, Ok, Err}
 use Rattle.journal_world.specs.declared.refusal.Refusal.{Refusal}
 use Rattle.journal_world.specs.Addresses.{Shape}
@@ -21,9 +21,9 @@ use Rattle.journal_memory.specs.Volatiles.{VolatileState, IsVolatile}
 use Rattle.journal_parts.specs.Pairs.{Tied, DoesWhatIsDue, IsDueRefusal, IsUntied}
 use Rattle.journal_parts.specs.Cores.{Leaves}
 
--- What holds of the two parts between any two holds of their locks, whoever made them: what each
--- keeps by itself, what ties them, and that memory knows of no fault that was none. The disk's part
--- may know of one that memory does not know yet
+-- The invariant of the two parts between any two holds of their locks, whoever made them: each
+-- part's own invariant, their tie, and that memory knows of no fault that did not happen. The
+-- disk's part may know of one that memory does not know yet
 pub record IsBetween (layout : Shape) (v : VolatileState) (d : DurableState) : Type 0 where
   pub volatile : IsVolatile layout v
   pub durable : IsDurable layout d
@@ -117,8 +117,8 @@ abbrev pub AnswersMarkOrCut : Shape → VolatileState → DurableState → Resul
 AnswersMarkOrCut layout v d (Ok step) w e = MarksOrCuts layout v d step w e
 AnswersMarkOrCut layout v d (Err why) w e = RefusesMarkOrCut layout v d why w e
 
--- What is at home was dropped from memory, and nothing else was done. Each cut that is left ends
--- above the freed positions
+-- The updates that are at home were dropped from memory, and nothing else was done. Each cut that
+-- is left ends above the freed positions
 pub record Trims (layout : Shape) (v : VolatileState) (d : DurableState) (upto : ℕ) (w : VolatileState) : Type 0 where
   pub drops : DropsCuts v.tail upto w.tail
   pub left : All (λ c. upto < c.end) w.tail.cuts

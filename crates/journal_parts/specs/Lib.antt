@@ -1,8 +1,11 @@
 pub mod Durables
 pub mod Pairs
 pub mod Cores
+pub mod CoreStates
 pub mod CoreParts
 pub mod Openings
+pub mod Beginnings
+pub mod BeginRefusals
 pub mod OpenLaws
 pub mod Holds
 pub mod CallAnswers

@@ -1,22 +1,18 @@
--- What a mount begins with, and why a disk is not opened.
-use Rattle.std.specs.Prelude.{◌≡◌, ◌≢◌, ◌⊎◌, ◌≤◌, Bool, IsTrue, List, [], ◌∷◌, Result, Ok, Err}
+-- What a disk is opened with, and why it is not opened.
+use Rattle.std.specs.Prelude.{◌≡◌, ◌≢◌, ◌⊎◌, ◌≤◌, IsTrue, List, []}
 use Rattle.journal_world.specs.declared.refusal.Refusal.{Refusal}
 use Rattle.journal_world.specs.declared.refusal.Refusal.TheVariants.{NoMemory, DeviceFailed, BadLog, BadSuper, Stale}
 use Rattle.journal_world.specs.declared.layout.TheConstants.{MIN_BLOCKS, MAX_BLOCKS}
 use Rattle.journal_world.specs.Addresses.{Shape}
 use Rattle.journal_world.specs.Files.{files}
-use Rattle.journal_world.specs.Maps.{Map, are_objects}
+use Rattle.journal_world.specs.Maps.{Map}
 use Rattle.journal_world.specs.Histories.{Entry}
-use Rattle.journal_world.specs.Histories.Entry.{opening}
 use Rattle.journal_disk.specs.Disks.{DiskState, Keeps, HasFailed}
 use Rattle.journal_disk.specs.Images.{EveryImage, reading}
 use Rattle.journal_circ.specs.Log.{IsWellFormed}
-use Rattle.journal_wal.specs.Wal.{WalState, IsAtRest as AtRest, HasBoundsIn}
-use Rattle.journal_objlog.specs.ObjectLogs.{map_now, disk_of as log_disk}
 use Rattle.journal_objlog.specs.Maps.{OpensAs}
 use Rattle.journal_memory.specs.declared.refusal_number.RefusalNumber.TheVariants.{J6, J9}
-use Rattle.journal_memory.specs.Causes.{CauseState, IsUnexplained, IsExplained, raised_of}
-use Rattle.journal_parts.specs.Cores.{CoreState, disk_of, IsRunning}
+use Rattle.journal_memory.specs.Causes.{CauseState, IsUnexplained, IsExplained}
 
 -- the disk is opened with this map: each image of it opens as the map
 abbrev pub HoldsMap : DiskState → Map → Type 0
@@ -33,28 +29,6 @@ HasSize layout disk = disk.past.size ≡ layout.blocks
 -- The log's headers on the disk are well formed
 abbrev pub HasWellFormedLog : DiskState → Type 0
 HasWellFormedLog disk = IsWellFormed (reading disk.past)
-
--- The log begins and ends where the disk tells
-abbrev pub HasBoundsOf : DiskState → CoreState → Type 0
-HasBoundsOf disk c = HasBoundsIn (reading disk.past) c.objects.wal
-
--- A mount of a disk begins: its history is the opening, and the disk was only read
-pub record Begins (rule : Map → Type 0) (layout : Shape) (disk : DiskState) (new : CoreState) : Type 0 where
-  pub map : Map
-  pub size : HasSize layout disk
-  pub on_disk : map.layout ≡ layout
-  pub objects : IsTrue (are_objects map.layout map.pairs)
-  pub holds : IsTrue disk.honest → HoldsMap disk map
-  pub ruled : IsTrue disk.honest → rule map
-  pub history : new.history ≡ opening map disk.honest ∷ []
-  pub keeps : Keeps disk (disk_of new)
-  pub past : IsTrue disk.honest → (disk_of new).past ≡ disk.past
-  pub rest : AtRest new.objects.wal
-  pub tail : new.objects.tail ≡ []
-  pub cut : new.cut ≡ 0
-  pub logged : new.logged ≡ 0
-  pub next : new.next ≡ 0
-  pub running : IsRunning new
 
 -- Why a disk is not opened by a layout. The number of blocks comes first, then the log, the rule
 -- and the book; J1 and J6 come as they are met
@@ -89,13 +63,3 @@ IsOpenRefusal rule old new other = ⊥
 pub record OnlyReadsDisk (old new : DiskState) : Type 0 where
   pub keeps : Keeps old new
   pub past : IsTrue old.honest → new.past ≡ old.past
-
--- Why a history is not begun: the rule was not asked to its end, it does not hold, or it does and
--- there is a history
-abbrev pub IsBeginRefusal : (Map → Type 0) → Shape → WalState → Result Bool (Refusal Unit) → Refusal CauseState → Type 0
-IsBeginRefusal rule layout objects (Err refusal) why = why ≡ raised_of refusal
-IsBeginRefusal rule layout objects (Ok admitted) BadSuper = IsTrue (log_disk objects).honest → rule (map_now layout objects) → ⊥
-IsBeginRefusal rule layout objects (Ok admitted) (Stale cause) =
-    (IsTrue (log_disk objects).honest → rule (map_now layout objects))
-    × ((front : List Entry) × IsExplained J9 front cause × (front ≢ []))
-IsBeginRefusal rule layout objects (Ok admitted) other = ⊥

@@ -1,4 +1,4 @@
--- The durable and the volatile part together: what ties them, and what a hold of both does.
+-- The durable and the volatile part together: their tie, and the effect of a hold of both.
 use Rattle.std.specs.Prelude.{ℕ, ◌≡◌, ◌⊎◌, ◌<◌, ◌≤◌, ◌++◌, ◌∷◌, [], length, All}
 use mathlib.Core.List.{IsPrefix}
 use Rattle.journal_world.specs.declared.refusal.Refusal.{Refusal}
@@ -18,13 +18,13 @@ use Rattle.journal_memory.specs.Ledgers.{IsMarkRefusal}
 use Rattle.journal_parts.specs.Durables.{DurableState, TakesCut, IsRoomRefusal}
 use Rattle.journal_memory.specs.Volatiles.{VolatileState, IsFrontRefusal}
 
--- What neither part can keep by itself. Each is looked at where a step needs it, and a pair that is
--- tied passes
+-- The facts that neither part can keep by itself. Each is tested where a step needs it, and a pair
+-- that is tied passes
 pub record Tied (v : VolatileState) (d : DurableState) : Type 0 where
   -- the history goes on where the durable part's front ends
   pub begins : IsPrefix d.front v.ledger.history
   pub marked : floor v.ledger.history ≡ d.marked
-  -- what is not in memory any more is logged
+  -- all that memory has dropped is logged
   pub trimmed : v.tail.trimmed ≤ d.logged
   pub cut : v.ledger.cut ≡ d.coming
   -- the next group begins after the last
@@ -62,7 +62,7 @@ pub record CutsBoth (v : VolatileState) (d : DurableState) (w : VolatileState) (
   pub volatile : w ≡ record v { ledger = record v.ledger { cut = count v.ledger.history }; tail = cut_after v.tail (count v.ledger.history) }
   pub group : TakesCut v.ledger.history (tail_of v.tail.log) d e
 
--- What is logged was marked, in the history and beside the log
+-- All logged commits were marked, in the history and beside the log
 pub record MarksBoth (v : VolatileState) (d : DurableState) (w : VolatileState) (e : DurableState) : Type 0 where
   pub due : IsMarkDue v d
   pub volatile : w ≡ record v { ledger = record v.ledger { history = v.ledger.history ++ stable d.logged ∷ []; cut = d.logged } }
@@ -82,8 +82,8 @@ pub record MarksAll (v : VolatileState) (d : DurableState) (w : VolatileState) (
     coming = count v.ledger.history;
   }
 
--- what was done where no device call was due, by what is answered: the first of the three that was
--- due
+-- the work that was done where no device call was due, by the answer: the first of the three that
+-- was due
 abbrev pub DoesWhatIsDue : VolatileState → DurableState → LogStep → VolatileState → DurableState → Type 0
 DoesWhatIsDue v d Idle w e = IsNothingDue v d × (w ≡ v) × (e ≡ d)
 DoesWhatIsDue v d Cut w e = (IsMarkDue v d → ⊥) × CutsBoth v d w e

@@ -1,5 +1,5 @@
-// What a device call leaves due: values that only a hold of both parts spends, since none of them
-// can be dropped.
+// The work that a device call leaves due: values that only a hold of both parts consumes, because
+// none of them can be dropped.
 ghost use Rattle.std.specs.Prelude.{◌≡◌};
 
 use journal_history::Naming;
@@ -8,8 +8,8 @@ use journal_tail::Position;
 use journal_world::{MapRule, Refusal};
 use std::marker::Model;
 
-/// A device call failed, and memory does not know it yet. `Durable::note_fault` notes it there, and
-/// gives the refusal: it is had in no other way.
+/// A device call failed, and memory does not know it yet. Only `Durable::note_fault` notes it there
+/// and gives the refusal.
 #[must_use]
 pub struct UnnotedFault<'b, J: Naming, R: MapRule> {
     pub(crate) why: Refusal<Cause<'b, J, R>>,
@@ -24,7 +24,7 @@ impl<'b, J: Naming, R: MapRule> Model for UnnotedFault<'b, J, R> {
     ghost view = { λ fault. fault.why };
 }
 
-/// Positions of the log that are free, while memory still has their updates. `Durable::trim` drops
+/// Positions of the log that are free while memory still has their updates. `Durable::trim` drops
 /// these.
 #[must_use]
 pub struct FreedLog {
@@ -54,7 +54,7 @@ pub struct RestingLog {
     pub(crate) made: (),
 }
 
-/// What the logger's device call did.
+/// The outcome of the logger's device call.
 #[must_use]
 pub enum LogCall {
     /// It was made, and the group's cycle goes on.
@@ -65,10 +65,10 @@ pub enum LogCall {
     AtRest(RestingLog),
 }
 
-/// What the installer's device call did.
+/// The outcome of the installer's device call.
 #[must_use]
 pub enum InstallCall {
-    /// None was due: nothing is logged that is not at home.
+    /// None was due: all that is logged is at home.
     Idle,
     /// It was made.
     Put,

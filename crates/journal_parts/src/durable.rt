@@ -1,4 +1,4 @@
-// The core's durable part, and what it tells without a step.
+// The core's durable part, and its facts that take no step.
 ghost use Rattle.std.specs.Prelude.{◌≡◌, ◌≢◌, ◌≤◌, ◌↔◌, ◌∷◌, [], IsTrue};
 ghost use Rattle.journal_world.specs.Histories.Entry.{opening};
 ghost use Rattle.journal_disk.specs.Images.{EveryImage};
@@ -17,19 +17,21 @@ use journal_tail::Position;
 use journal_world::{CommitCount, MapRule};
 use std::marker::Model;
 
-/// What the core has on its disk, for a lock of its own: the log, with copies of the logged blocks
-/// and of the group in flight, and how many commits these have of a front of the history.
+/// The part of the core on its disk, for a lock of its own: the log, copies of the logged blocks
+/// and of the group in flight, and the numbers of commits that these have of a front of the
+/// history.
 ///
-/// It knows nothing of what commits wrote since. A group of that comes from the memory part, whole.
+/// It knows nothing of later commits. A group of their blocks comes from the memory part, whole.
 #[derive(Drop)]
 pub struct Durable<'b, D: BlockDisk, R: MapRule, J: Naming> {
     pub(crate) objects: ObjectLog<D>,
     pub(crate) front: Front<'b, J, R>,
-    // How many commits are marked, how many are logged, and how many with the group in flight.
+    // The numbers of commits that are marked, that are logged, and that are with the group in
+    // flight.
     pub(crate) marked: CommitCount,
     pub(crate) logged: CommitCount,
     pub(crate) coming: CommitCount,
-    // What it may ask of memory, and nobody else.
+    // The key to memory's calls, which nobody else has.
     pub(crate) key: LogKey<J>,
 }
 
@@ -44,7 +46,8 @@ impl<'b, D: BlockDisk, R: MapRule, J: Naming> Model for Durable<'b, D, R, J> {
 }
 
 impl<'b, D: BlockDisk, R: MapRule, J: Naming> Durable<'b, D, R, J> {
-    /// That of a mount that begins: the history has the opening alone, and the disk holds its map.
+    /// The durable part of a mount that begins: the history has the opening alone, and the disk
+    /// holds its map.
     pub(crate) fn new(
         objects: ObjectLog<D>,
         front: Front<'b, J, R>,
@@ -66,15 +69,15 @@ impl<'b, D: BlockDisk, R: MapRule, J: Naming> Durable<'b, D, R, J> {
         }
     }
 
-    /// It keeps what its type keeps. Called for its contract.
+    /// The invariant of its type. Called for its contract.
     pub(crate) fn prove_invariant(&self)
         ensures { IsDurable J.layout self.now }
     {
         let _marked = self.marked;
     }
 
-    /// Where the log on the disk starts and ends, as last synced: positions, of which there are at
-    /// most 511.
+    /// The start and the end of the log on the disk, as last synced: positions, of which there are
+    /// at most 511.
     pub fn log_range(&self) -> (Position, Position)
         ensures { result ≡ (start_of self.now.objects, end_of self.now.objects) }
     {
@@ -82,8 +85,8 @@ impl<'b, D: BlockDisk, R: MapRule, J: Naming> Durable<'b, D, R, J> {
         (Position::new(start), Position::new(end))
     }
 
-    /// The disk, lent. Where it was honest and settled when it was opened, each image that a crash
-    /// may leave of it opens as the map after some of the front's commits: at least those that are
+    /// The disk, lent. If it was honest and settled when it was opened, each image that a crash may
+    /// leave of it opens as the map after some of the front's commits: at least those that are
     /// marked, at most those that come.
     pub fn disk(&self) -> &D
         ensures disk { D.state result.now ≡ disk_of self.now }
@@ -94,7 +97,7 @@ impl<'b, D: BlockDisk, R: MapRule, J: Naming> Durable<'b, D, R, J> {
         self.objects.disk()
     }
 
-    /// The history as far as this part has seen it. It takes no memory.
+    /// The history as far as this part has seen it. The call takes no memory.
     pub fn front(&self) -> Front<'b, J, R>
         ensures front { result ≡ self.now.front }
         ensures begun { result ≢ [] }
@@ -102,9 +105,9 @@ impl<'b, D: BlockDisk, R: MapRule, J: Naming> Durable<'b, D, R, J> {
         self.front.again()
     }
 
-    /// Gives the disk up, as it is. Where it was honest and settled when it was opened, each image
-    /// that a crash may leave of it opens as the map after some of the front's commits. Once a failed
-    /// barrier, a kill or a crash has left it, it can be mended, also after a fault.
+    /// Gives the disk up, as it is. If it was honest and settled when it was opened, each image
+    /// that a crash may leave of it opens as the map after some of the front's commits. It can be
+    /// mended once a failed barrier, a kill or a crash has left it, also after a fault.
     pub fn into_disk(self) -> D
         ensures disk { D.state result ≡ disk_of self.entry }
         ensures size { (D.state result).past.size ≡ J.layout.blocks }

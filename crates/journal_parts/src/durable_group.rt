@@ -1,4 +1,4 @@
-// What the durable part takes over from the memory part: groups, and how far the history is.
+// The groups that the durable part takes from the memory part, and how far the history is.
 ghost use Rattle.std.specs.Prelude.{◌≡◌, ◌≤◌, ◌<◌, ◌↔◌, [], false, true, length, IsTrue, IfOk, IfErr};
 ghost use mathlib.Core.List.{IsPrefix};
 ghost use Rattle.journal_world.specs.Histories.{is_trusted, count};
@@ -19,13 +19,15 @@ use journal_memory::Cause;
 use journal_world::{CommitCount, MapRule, Refusal};
 
 impl<'b, D: BlockDisk, R: MapRule, J: Naming> Durable<'b, D, R, J> {
-    /// Makes room for a group of so many blocks, so that `take` takes it, as long as no other call
-    /// comes between. Answers no where a group is in flight, where there are no blocks, and where
-    /// the log lacks a position for one of them.
+    /// Makes room for a group of `blocks` blocks, so that `take` takes it, if no other call comes
+    /// in between. False if a group is in flight, if there are no blocks, and if the log lacks a
+    /// position for one of them. All is as it was, but may have more room in memory.
     ///
-    /// The first that applies of these refuses it: J6 `DeviceFailed` where the device failed
-    /// before, J11 `Worn` where a position would reach 2^62, J1 `NoMemory` where memory is refused.
-    /// Refused or not, all is as it was, but may have more room in memory.
+    /// # Errors
+    /// The first that applies is answered. All is as it was, but may have more room in memory.
+    /// - `J6 DeviceFailed`: the device failed before.
+    /// - `J11 Worn`: a position would reach 2^62.
+    /// - `J1 NoMemory`: memory is refused.
     pub(crate) fn reserve(&mut self, blocks: usize) -> Result<bool, Refusal<Cause<'b, J, R>>>
         requires few { blocks ≤ MAX_TAIL }
         ensures fits { IfOk result (λ fits. IsTrue fits ↔ FitsGroup self.old.objects blocks) }
@@ -39,7 +41,7 @@ impl<'b, D: BlockDisk, R: MapRule, J: Naming> Durable<'b, D, R, J> {
     }
 
     /// Takes a group that was cut from memory, which `reserve` made room for, and the history that
-    /// has its commits, of which there are so many. It takes no memory, and moves the blocks.
+    /// has its commits, with their number. It takes no memory, and moves the blocks.
     pub(crate) fn take(&mut self, group: Vec<Update>, front: Front<'b, J, R>, commits: CommitCount)
         requires homes { AreHomes J.layout.blocks group.items }
         requires distinct { HasDistinctBlocks group.items }
@@ -58,8 +60,8 @@ impl<'b, D: BlockDisk, R: MapRule, J: Naming> Durable<'b, D, R, J> {
         self.coming = commits;
     }
 
-    /// Notes that all commits of the history are logged, of which there are so many: those since
-    /// wrote nothing, and no group is in flight.
+    /// Notes that all commits of the history are logged, with their number: those since the last
+    /// cut wrote nothing, and no group is in flight.
     pub(crate) fn note_all_logged(&mut self, front: Front<'b, J, R>, commits: CommitCount)
         requires rest { IsCutLogged self.old.objects }
         requires longer { IsPrefix self.old.front front }
@@ -73,7 +75,7 @@ impl<'b, D: BlockDisk, R: MapRule, J: Naming> Durable<'b, D, R, J> {
         self.coming = commits;
     }
 
-    /// Notes the mark of all commits that are logged, which the history has by now.
+    /// Notes the mark of all commits that are logged, which the history now has.
     pub(crate) fn set_marked(&mut self, front: Front<'b, J, R>)
         requires longer { IsPrefix self.old.front front }
         ensures marks { self.new ≡ record self.old { front = front.entry; marked = self.old.logged } }

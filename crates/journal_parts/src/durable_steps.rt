@@ -11,10 +11,12 @@ use journal_wal::{GroupStep, InstallStep};
 use journal_world::{MapRule, Refusal};
 
 impl<'b, D: BlockDisk, R: MapRule, J: Naming> Durable<'b, D, R, J> {
-    /// Makes the device call of the group in flight that is due. Answers `Idle` where no group is
-    /// in flight.
+    /// Makes the device call of the group in flight that is due. Answers `Idle` if no group is in
+    /// flight.
     ///
-    /// Answers J6 `DeviceFailed`, and nothing else, where the device failed in this call or before.
+    /// # Errors
+    /// - `J6 DeviceFailed`: the device failed, in this call or before. The call that was due may
+    ///   have been made, and no other.
     pub(crate) fn advance_log(&mut self) -> Result<GroupStep, Refusal<Cause<'b, J, R>>>
         ensures ok { IfOk result (λ step. LogAnswers self.old step self.new) }
         ensures fine { OnOk result ((is_faulted self.old ≡ false) × (is_faulted self.new ≡ false)) }
@@ -33,12 +35,15 @@ impl<'b, D: BlockDisk, R: MapRule, J: Naming> Durable<'b, D, R, J> {
         }
     }
 
-    /// Makes the installer's next device call: writes one home block from the copy of it that is
-    /// logged last; makes a barrier; writes block 1; makes a barrier, after which the positions are
-    /// free. It is idle where nothing is logged that is not at home.
+    /// Makes the installer's next device call: writes one home block from its last logged copy;
+    /// makes a barrier; writes block 1; makes a barrier, after which the positions are free. It is
+    /// idle if all that is logged is at home.
     ///
-    /// Answers J6 `DeviceFailed` where the device failed in this call or before, and J1 `NoMemory`
-    /// where memory for the list of addresses is refused, at the first of these calls.
+    /// # Errors
+    /// - `J6 DeviceFailed`: the device failed, in this call or before. The call that was due may
+    ///   have been made, and no other.
+    /// - `J1 NoMemory`: memory for the list of addresses is refused, at the first of these calls.
+    ///   All is as it was.
     pub(crate) fn advance_install(&mut self) -> Result<InstallStep, Refusal<Cause<'b, J, R>>>
         ensures ok { IfOk result (λ step. InstallAnswers self.old step self.new) }
         ensures fine { OnOk result ((is_faulted self.old ≡ false) × (is_faulted self.new ≡ false)) }

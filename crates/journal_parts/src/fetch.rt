@@ -13,10 +13,12 @@ use journal_memory::{Cause, Fetched};
 use journal_world::{MapRule, Refusal};
 
 impl<'b, D: BlockDisk, R: MapRule, J: Naming> Durable<'b, D, R, J> {
-    /// Reads the block that each of these names, as it is logged, into its bytes. It is read from
-    /// the device only where no logged update of it is in memory. It takes no memory.
+    /// Reads each of these blocks, as it is logged, into its bytes. It is read from the device only
+    /// if no logged update of it is in memory. The call takes no memory.
     ///
-    /// Answers J6 `DeviceFailed`, and nothing else, where the device failed in this call or before.
+    /// # Errors
+    /// - `J6 DeviceFailed`: the device failed, in this call or before. The disk and the log are as
+    ///   before.
     pub(crate) fn fetch_blocks(
         &mut self,
         mut updates: Vec<Update>,
@@ -38,7 +40,7 @@ impl<'b, D: BlockDisk, R: MapRule, J: Naming> Durable<'b, D, R, J> {
         Ok(Fetched::new(self.front.again(), commits, updates))
     }
 
-    // Reads the block that this names, as it is logged, into its bytes.
+    // Reads this block, as it is logged, into its bytes.
     fn fetch_block(&mut self, update: &mut Update) -> Result<(), Refusal<Cause<'b, J, R>>>
         requires { update.old.block < J.layout.blocks }
         ensures block { update.new.block ≡ update.old.block }

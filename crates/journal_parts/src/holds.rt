@@ -1,9 +1,9 @@
 // The holds of the disk's lock, and those of both locks: one function for each, whose clause
 // `event` is its event of the law. Those of the memory lock alone are the calls of `Volatile`.
 //
-// A hold of the disk alone makes at most one device call that changes the disk. What that leaves
-// due of both parts is its answer, which cannot be dropped: the memory lock is taken then, inside
-// the same hold of the disk.
+// A hold of the disk alone makes at most one device call that changes the disk. Its answer is the
+// work that this leaves due of both parts, and cannot be dropped: the memory lock is taken then,
+// inside the same hold of the disk.
 ghost use Rattle.std.specs.Prelude.{◌≡◌, ◌⊎◌, ◌<◌, ◌≤◌, map, IsTrue, All, IfOk, IfErr, OnOk, OnErr};
 ghost use Rattle.journal_world.specs.Histories.{is_trusted};
 ghost use Rattle.journal_disk.specs.Images.{EveryImage};
@@ -29,11 +29,12 @@ use journal_wal::{GroupStep, InstallStep};
 use journal_world::{MapRule, Refusal};
 
 impl<'b, D: BlockDisk, R: MapRule, J: Naming> Durable<'b, D, R, J> {
-    /// A hold of the disk alone: makes the device call of the group in flight that is due. Where no
+    /// A hold of the disk alone: makes the device call of the group in flight that is due. If no
     /// group is in flight, none is.
     ///
-    /// Refused where the device failed in this call or before, by J6 `DeviceFailed`, which memory
-    /// is to be told of.
+    /// # Errors
+    /// - `J6 DeviceFailed`, which memory does not know yet: the device failed, in this call or
+    ///   before. The call that was due may have been made, and no other.
     pub fn log_call(&mut self) -> Result<LogCall, UnnotedFault<'b, J, R>>
         ensures event { AnswersGroupCall J.layout self.old (log_answer result) self.new }
         ensures fault { OnErr result (IsTrue (is_faulted self.new)) }
@@ -59,12 +60,14 @@ impl<'b, D: BlockDisk, R: MapRule, J: Naming> Durable<'b, D, R, J> {
     }
 
     /// A hold of the disk alone: makes the installer's next device call. It writes one home block
-    /// from the copy of it that is logged last; makes a barrier; writes block 1; makes a barrier,
-    /// after which the positions are free. It is idle where nothing is logged that is not at home.
+    /// from its last logged copy; makes a barrier; writes block 1; makes a barrier, after which the
+    /// positions are free. It is idle if all that is logged is at home.
     ///
-    /// Refused where the device failed in this call or before, by J6 `DeviceFailed`, which memory
-    /// is to be told of, and where memory for the list of addresses is refused, at the first of
-    /// these calls.
+    /// # Errors
+    /// - `J6 DeviceFailed`, which memory does not know yet: the device failed, in this call or
+    ///   before. The call that was due may have been made, and no other.
+    /// - `J1 NoMemory`: memory for the list of addresses is refused, at the first of these calls.
+    ///   All is as it was.
     pub fn install_call(&mut self) -> Result<InstallCall, InstallFault<UnnotedFault<'b, J, R>>>
         ensures event { AnswersHomeCall J.layout self.old (install_answer result) self.new }
         ensures fault { IfErr result (IfFailed (IsTrue (is_faulted self.new))) }
@@ -95,12 +98,12 @@ impl<'b, D: BlockDisk, R: MapRule, J: Naming> Durable<'b, D, R, J> {
         }
     }
 
-    /// A hold of the disk alone: reads the block that each of these names, as it is logged, into
-    /// its bytes. It is read from the device only where no logged update of it is in memory. It
-    /// takes no memory.
+    /// A hold of the disk alone: reads each of these blocks, as it is logged, into its bytes. It is
+    /// read from the device only if no logged update of it is in memory. The call takes no memory.
     ///
-    /// Refused where the device failed in this call or before, by J6 `DeviceFailed`, which memory
-    /// is to be told of.
+    /// # Errors
+    /// - `J6 DeviceFailed`, which memory does not know yet: the device failed, in this call or
+    ///   before. The disk and the log are as before.
     pub fn fetch(
         &mut self,
         updates: Vec<Update>,
@@ -122,14 +125,16 @@ impl<'b, D: BlockDisk, R: MapRule, J: Naming> Durable<'b, D, R, J> {
         }
     }
 
-    /// A hold of both, where no group is in flight: marks what is logged; else cuts; else marks
-    /// commits that wrote nothing. It is idle where none of these is due. It makes no device call.
+    /// A hold of both, if no group is in flight: marks what is logged; else cuts; else marks
+    /// commits that wrote nothing. It is idle if none of these is due. It makes no device call.
     ///
-    /// Answers J9 `Stale` where the history that this part has seen is the longer, where the
-    /// history has a greater mark than what is logged, or where it is longer than the core's; J6
-    /// `DeviceFailed` where the device failed before; J11 `Worn` where the history's length or a
-    /// position would reach 2^62; J1 `NoMemory` where memory for the group is refused. Nothing is
-    /// then marked or cut.
+    /// # Errors
+    /// Nothing is then marked or cut.
+    /// - `J9 Stale`: the history that this part has seen is the longer, the history has a greater
+    ///   mark than what is logged, or it is longer than the core's.
+    /// - `J6 DeviceFailed`: the device failed before.
+    /// - `J11 Worn`: the history's length or a position would reach 2^62.
+    /// - `J1 NoMemory`: memory for the group is refused.
     pub fn mark_or_cut(
         &mut self,
         volatile: &mut Volatile<'b, R, J>,
@@ -144,8 +149,9 @@ impl<'b, D: BlockDisk, R: MapRule, J: Naming> Durable<'b, D, R, J> {
         answer
     }
 
-    /// A hold of both: drops from memory the updates that are at home, those of each cut that ends
-    /// at the freed positions or before. It answers how far, as a step of the installer.
+    /// A hold of both: drops the updates from memory that are at home, those of each cut that ends
+    /// at the freed positions or before. It answers the end of the freed positions, as a step of
+    /// the installer.
     pub fn trim(&self, volatile: &mut Volatile<'b, R, J>, freed: FreedLog) -> InstallStep
         requires home { freed ≤ end_of self.now.objects }
         ensures event { Trims J.layout volatile.old self.now freed volatile.new }
@@ -172,12 +178,13 @@ impl<'b, D: BlockDisk, R: MapRule, J: Naming> Durable<'b, D, R, J> {
         why
     }
 
-    /// A hold of both: shows the session the whole history, and lends the disk, where all marks of
+    /// A hold of both: shows the session the whole history, and lends the disk, if all marks of
     /// that history are its own. Each image that a crash may leave of it opens then as the map
     /// after a front of the history that has every marked commit.
     ///
-    /// Answers J9 `Stale` where the session or the disk's part has seen more of the history than
-    /// the core, or where the disk's part lacks a mark. The session may then have seen more.
+    /// # Errors
+    /// - `J9 Stale`: the session or the disk's part has seen more of the history than the core, or
+    ///   the disk's part lacks a mark. The session may then have seen more.
     pub fn show_disk(
         &self,
         volatile: &Volatile<'b, R, J>,

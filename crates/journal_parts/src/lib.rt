@@ -8,11 +8,11 @@
 //! parts), log (Durable), mark (both). The installer writes logged blocks home (Durable), and then
 //! drops them from memory (both).
 //!
-//! What a thread does to a part under these locks is a hold: of Volatile, of Durable, or of both.
-//! There is one function for each, and its clause `event` says what it did
-//! (`specs/Holds.antt`, and `VolatileHolds.antt` of `journal_memory`).
+//! A thread acts on a part under these locks in a hold: of Volatile, of Durable, or of both. There
+//! is one function for each, and its clause `event` says what it did (`specs/Holds.antt`, and
+//! `VolatileHolds.antt` of `journal_memory`).
 //!
-//! Between any two holds, `IsBetween`: each part is as its type keeps it (`IsVolatile`,
+//! Between any two holds, `IsBetween`: each part keeps the invariant of its type (`IsVolatile`,
 //! `IsDurable`), and both are tied (`Tied`): Durable's front begins the history, the greatest mark
 //! is Durable's, what memory dropped is logged, and the last cut is what is coming. A mounted
 //! journal begins so (`open_parts`).

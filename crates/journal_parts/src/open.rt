@@ -10,7 +10,9 @@ ghost use Rattle.journal_disk.specs.Disks.{IsSettled};
 ghost use Rattle.journal_disk.specs.Images.{EveryImage};
 ghost use Rattle.journal_parts.specs.CoreParts.{IsPair, core_of};
 ghost use Rattle.journal_parts.specs.Holds.{IsBetween};
-ghost use Rattle.journal_parts.specs.Openings.{HasWellFormedLog, HasBoundsOf, Begins, IsBeginRefusal, IsLayoutRefusal, OnlyReadsDisk};
+ghost use Rattle.journal_parts.specs.Openings.{HasWellFormedLog, IsLayoutRefusal, OnlyReadsDisk};
+ghost use Rattle.journal_parts.specs.Beginnings.{HasBoundsOf, Begins};
+ghost use Rattle.journal_parts.specs.BeginRefusals.{IsBeginRefusal};
 
 use crate::durable::Durable;
 use journal_disk::BlockDisk;
@@ -39,16 +41,20 @@ impl<'a, D: BlockDisk> Opened for MapNow<'a, D> {
 }
 
 /// Opens a disk on which nothing is pending, as both parts of a mount and its slots. The book's
-/// history begins with the map that the disk holds, where the rule admits it. What lies in the
-/// disk's log is read into memory, and nothing is written. Copies of no more than so many blocks
-/// that are at home will be kept in memory. All slots of the journal, by whose cell it is named,
-/// are free, and no commit touched any.
+/// history begins with the map that the disk holds, if the rule admits it. The updates in the
+/// disk's log are read into memory, and nothing is written. Memory keeps at most `copies` copies of
+/// blocks that are at home. All slots of the journal, by whose cell it is named, are free, and no
+/// commit touched any.
 ///
-/// The first that applies of these refuses it: J8 `BadSuper` where the disk has not as many blocks
-/// as the layout, J7 `BadLog` where the disk's log is not well formed, J8 where the rule does not
-/// hold of the map, J9 `Stale` where the book has a history already. J1 `NoMemory` where memory is
-/// refused, and J6 `DeviceFailed` where the device fails in this call, come where they are met. A
-/// refusal hands the disk back as it was.
+/// # Errors
+/// A refusal gives the disk back as it was. The first that applies is answered; J1 and J6 are
+/// answered where they occur.
+/// - `J8 BadSuper`: the disk has another number of blocks than the layout.
+/// - `J7 BadLog`: the disk's log is not well formed.
+/// - `J8 BadSuper`: the rule does not hold of the map.
+/// - `J9 Stale`: the book has a history already.
+/// - `J1 NoMemory`: memory is refused.
+/// - `J6 DeviceFailed`: the device fails in this call.
 pub fn open_parts<'b, D: BlockDisk, R: MapRule, J: Naming>(
     alloc: Global,
     book: &'b Book<R>,
@@ -150,8 +156,8 @@ fn begun<'b, D: BlockDisk, R: MapRule, J: Naming>(
     (durable, volatile, slots)
 }
 
-// The slots of a history without commits, and the numbers of these and of its sessions, where
-// there is memory.
+// The slots of a history without commits, with their counts and those of its sessions, if there is
+// memory.
 fn slots_and_counts<J: Naming>(
     alloc: Global,
     cell: SlotCell,
@@ -167,7 +173,7 @@ fn slots_and_counts<J: Naming>(
     Some((counts, slots, sessions))
 }
 
-// Begins the book's history with the map now, where the rule admitted it.
+// Begins the book's history with the map now, if the rule admitted it.
 fn begin<'b, D: BlockDisk, R: MapRule, J: Naming>(
     key: &LogKey<J>,
     book: &'b Book<R>,

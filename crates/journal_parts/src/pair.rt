@@ -1,5 +1,5 @@
-// Holds of both parts: what each asks of the other is looked at, and nothing is required that ties
-// them.
+// Holds of both parts. Each tests the facts that it needs of the other part, and requires nothing
+// that ties them.
 ghost use Rattle.std.specs.Prelude.{◌≡◌, ◌<◌, ◌≤◌, [], false, IsTrue, IfOk, IfErr, OnOk, OnErr, All};
 ghost use Rattle.journal_world.specs.Histories.{is_trusted};
 ghost use Rattle.journal_disk.specs.Images.{EveryImage};
@@ -20,12 +20,12 @@ use journal_tail::Position;
 use journal_world::{MapRule, Refusal};
 
 impl<'b, D: BlockDisk, R: MapRule, J: Naming> Durable<'b, D, R, J> {
-    /// The disk, lent, where all marks of the whole history are its own. Each image that a crash
-    /// may leave of it opens then as the map after a front of the history that has every marked
-    /// commit.
+    /// The disk, lent, if all marks of the whole history are its own. Each image that a crash may
+    /// leave of it opens then as the map after a front of the history that has every marked commit.
     ///
-    /// Answers J9 `Stale` where the history that this part has seen is the longer, or where it
-    /// lacks a mark.
+    /// # Errors
+    /// - `J9 Stale`: the history that this part has seen is the longer, or it lacks a mark. Nothing
+    ///   changed.
     pub(crate) fn disk_under(
         &self,
         volatile: &Volatile<'b, R, J>,
@@ -44,14 +44,16 @@ impl<'b, D: BlockDisk, R: MapRule, J: Naming> Durable<'b, D, R, J> {
         Ok(self.objects.disk())
     }
 
-    /// Cuts: what commits wrote since the last cut becomes the group in flight, with the history
-    /// that has them. Answers no where a group is in flight, where nothing was written, and where
-    /// the log lacks a position for a block.
+    /// Cuts: the blocks that commits wrote since the last cut become the group in flight, with the
+    /// history that has these commits. False if a group is in flight, if nothing was written, and
+    /// if the log lacks a position for a block.
     ///
-    /// The first that applies of these refuses it: J9 `Stale` where the history that this part has
-    /// seen is the longer, J6 `DeviceFailed` where the device failed before, J11 `Worn` where a
-    /// position would reach 2^62, J1 `NoMemory` where memory is refused. All is then as it was, but
-    /// may have more room in memory.
+    /// # Errors
+    /// The first that applies is answered. All is as it was, but may have more room in memory.
+    /// - `J9 Stale`: the history that this part has seen is the longer.
+    /// - `J6 DeviceFailed`: the device failed before.
+    /// - `J11 Worn`: a position would reach 2^62.
+    /// - `J1 NoMemory`: memory is refused.
     pub(crate) fn cut(
         &mut self,
         volatile: &mut Volatile<'b, R, J>,
@@ -65,7 +67,7 @@ impl<'b, D: BlockDisk, R: MapRule, J: Naming> Durable<'b, D, R, J> {
         ensures tied { Tied volatile.old self.old → Tied volatile.new self.new }
         ensures crash { Crashes self.old self.new }
     {
-        // Called for their contracts: what memory keeps by itself, and that its tail is short.
+        // Called for their contracts: memory's invariant, and that its tail is short.
         volatile.prove_invariant();
         volatile.prove_short_tail();
         let front = volatile.front_over(&self.front)?;
@@ -81,12 +83,14 @@ impl<'b, D: BlockDisk, R: MapRule, J: Naming> Durable<'b, D, R, J> {
         Ok(true)
     }
 
-    /// Marks what is logged, in the history and beside the log. Answers no where what was cut is
-    /// not logged yet, and where it is marked.
+    /// Marks what is logged, in the history and beside the log. False if the last cut is not logged
+    /// yet, or is marked already.
     ///
-    /// Answers J9 `Stale` where the history that this part has seen is the longer, where the
-    /// history has a greater mark than what is logged, or where it is longer, and J11 `Worn` where
-    /// its length would reach 2^62. Nothing is then marked.
+    /// # Errors
+    /// Nothing is then marked.
+    /// - `J9 Stale`: the history that this part has seen is the longer, the history has a greater
+    ///   mark than what is logged, or it is longer.
+    /// - `J11 Worn`: the history's length would reach 2^62.
     pub(crate) fn mark(
         &mut self,
         volatile: &mut Volatile<'b, R, J>,
@@ -99,7 +103,7 @@ impl<'b, D: BlockDisk, R: MapRule, J: Naming> Durable<'b, D, R, J> {
         ensures tied { Tied volatile.old self.old → Tied volatile.new self.new }
         ensures crash { Crashes self.old self.new }
     {
-        // Called for its contract: what memory keeps by itself.
+        // Called for its contract: memory's invariant.
         volatile.prove_invariant();
         let front = volatile.front_over(&self.front)?;
         let marked = volatile.floor();
@@ -114,11 +118,13 @@ impl<'b, D: BlockDisk, R: MapRule, J: Naming> Durable<'b, D, R, J> {
         Ok(true)
     }
 
-    /// Marks all commits where nothing awaits logging: those since the last cut wrote nothing.
-    /// Answers no where something does, and where all are marked.
+    /// Marks all commits if nothing awaits logging: those since the last cut wrote nothing. False
+    /// if something does, or if all are marked.
     ///
-    /// Answers J9 `Stale` where the history that this part has seen is the longer, or where it is
-    /// longer, and J11 `Worn` where its length would reach 2^62. Nothing is then marked.
+    /// # Errors
+    /// Nothing is then marked.
+    /// - `J9 Stale`: the history that this part has seen is the longer, or the history is longer.
+    /// - `J11 Worn`: the history's length would reach 2^62.
     pub(crate) fn mark_rest(
         &mut self,
         volatile: &mut Volatile<'b, R, J>,
@@ -131,7 +137,7 @@ impl<'b, D: BlockDisk, R: MapRule, J: Naming> Durable<'b, D, R, J> {
         ensures tied { Tied volatile.old self.old → Tied volatile.new self.new }
         ensures crash { Crashes self.old self.new }
     {
-        // Called for its contract: what memory keeps by itself.
+        // Called for its contract: memory's invariant.
         volatile.prove_invariant();
         volatile.front_over(&self.front)?;
         let commits = volatile.commits();
@@ -144,8 +150,8 @@ impl<'b, D: BlockDisk, R: MapRule, J: Naming> Durable<'b, D, R, J> {
         Ok(true)
     }
 
-    /// Does what is due of both parts where no device call is: marks what is logged; else cuts;
-    /// else marks commits that wrote nothing. It is idle where there is none of these.
+    /// Does the work of both parts that is due when no device call is: marks what is logged; else
+    /// cuts; else marks commits that wrote nothing. It is idle if none of these is due.
     pub(crate) fn do_due(
         &mut self,
         volatile: &mut Volatile<'b, R, J>,
@@ -170,7 +176,7 @@ impl<'b, D: BlockDisk, R: MapRule, J: Naming> Durable<'b, D, R, J> {
         Ok(LogStep::Idle)
     }
 
-    // Whether something that commits wrote is not logged yet.
+    // True if blocks that commits wrote are not logged yet.
     fn awaits_logging(&self, volatile: &Volatile<'b, R, J>) -> bool
         ensures cut { result ≡ false → volatile.now.ledger.cut ≤ self.now.logged }
         ensures rest { result ≡ false → IsCutLogged self.now.objects }
@@ -180,8 +186,8 @@ impl<'b, D: BlockDisk, R: MapRule, J: Naming> Durable<'b, D, R, J> {
         self.logged < volatile.last_cut() || self.objects.is_logging() || volatile.tail_len() > 0
     }
 
-    /// Drops from memory what is at home: the updates of each cut that ends at the position or
-    /// before it.
+    /// Drops the updates that are at home from memory: those of each cut that ends at the position
+    /// or before it.
     pub(crate) fn trim_memory(&self, volatile: &mut Volatile<'b, R, J>, upto: Position)
         ensures drops { DropsCuts volatile.old.tail upto volatile.new.tail }
         ensures left { All (λ c. upto < c.end) volatile.new.tail.cuts }

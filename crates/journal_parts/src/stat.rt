@@ -1,14 +1,14 @@
-// What a mounted journal tells in numbers.
+// The numbers of a mounted journal.
 
 /// The numbers of a mount.
 #[derive(Clone, Copy, Debug, PartialEq, Eq)]
 pub struct Stat {
-    /// How many commits the history has.
+    /// The number of commits of the history.
     pub commits: u64,
-    /// How many of them are marked as stable.
+    /// The number of commits that are marked as stable.
     pub floor: u64,
-    /// Where the log on the disk starts, as last synced: a position.
+    /// The start of the log on the disk, as last synced: a position.
     pub start: u64,
-    /// Where it ends.
+    /// The end of the log there.
     pub end: u64,
 }

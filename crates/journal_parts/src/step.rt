@@ -1,6 +1,6 @@
-// What a step of the logger did.
+// The outcome of a step of the logger.
 
-/// What a step of the logger did.
+/// The outcome of a step of the logger.
 #[derive(Clone, Copy, Debug, PartialEq, Eq)]
 pub enum LogStep {
     /// There was nothing to do.
@@ -11,6 +11,6 @@ pub enum LogStep {
     Put,
     /// The cycle of the group in flight ended: it is logged.
     Logged,
-    /// It was marked that so many commits are stable.
+    /// The first n commits were marked as stable.
     Marked(u64),
 }

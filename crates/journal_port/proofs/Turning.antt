@@ -1,5 +1,5 @@
 -- Turns of a connection, one after another.
-use Rattle.std.proofs.Common.{ℕ, ◌≡◌, ◌≤◌, Bool, true, false, Option, Result, Ok, Err, List, [], ◌∷◌, ◌++◌, map, inl, inr, refl, sym, ap, subst, ◌∙◌, append_assoc}
+use Rattle.std.proofs.Common.{ℕ, ◌≡◌, ◌≤◌, Option, None, Some, Result, Ok, Err, List, [], ◌∷◌, ◌++◌, map, inl, inr, refl, sym, ap, subst, ◌∙◌, append_assoc}
 use Rattle.std.specs.Prelude.{OnErr}
 use Rattle.std.specs.List.{AllByRecursion}
 use Rattle.std.specs.Io.KnownBytes.{Consumes, Appends, IsAtEnd}
@@ -14,10 +14,15 @@ use Rattle.journal_records.specs.declared.answer.Answer.TheVariants.{Stopping}
 use Rattle.journal_records.specs.Frames.{framed, frames, IsShort, IsPartial, BeginsTooLong}
 use Rattle.journal_port.specs.declared.serving.End.{End}
 use Rattle.journal_port.specs.declared.serving.End.TheVariants.{NoMore, Stopped, TooLong}
+use Rattle.journal_port.specs.declared.serving.Fed.{Fed}
+use Rattle.journal_port.specs.declared.serving.Fed.TheVariants.{Piece, NotYet, AtEnd}
+use Rattle.journal_port.specs.declared.serving.Progress.{Progress}
+use Rattle.journal_port.specs.declared.serving.Progress.TheVariants.{Paused, Ended}
+use Rattle.journal_port.specs.declared.serving.Served.{Served}
 use Rattle.journal_port.specs.declared.turns.Turn.{Turn}
 use Rattle.journal_port.specs.declared.turns.Turn.TheVariants as turn
 use Rattle.journal_port.specs.Answers.{Offer, settled}
-use Rattle.journal_port.specs.Served.{IsReplyTo, AreAnswers, text_of, texts, IsSendable, Writes, AppendsFront, Turns, EndsTurn, Replies, RepliesInPart, refuses_long, Feeds, Exchange, Serves, Breaks, SoFar}
+use Rattle.journal_port.specs.Served.{IsReplyTo, AreAnswers, text_of, texts, IsSendable, Writes, AppendsFront, Turns, EndsTurn, Replies, RepliesInPart, refuses_long, Feeds, Exchange, IsEnd, Serves, Breaks, SoFar, Pauses, ServesTo, Progresses, IsFencedAsTold}
 use Rattle.journal_port.proofs.Ending.{OnlyExtends-refl}
 use Rattle.journal_port.proofs.Growing.{reply_grows, answers_grow}
 use Rattle.journal_port.proofs.Answering.{answers_after, answers_append, answers_push, answers_later, answers_settled}
@@ -255,11 +260,19 @@ pub ends_too_long : (layout : Shape) (offer : Offer) (end : Turn) (waiting rest 
     → Replies layout offer end waiting rest old new before holds → BeginsTooLong rest
 ends_too_long layout offer end waiting rest old new before holds is replies = subst (λ (t : Turn). EndsTurn t rest replies.answers) is replies.ends
 
-pub is_dry : (from left : Option (List ℕ)) (waiting waits : List ℕ) (goes_on : Bool) → goes_on ≡ false → Feeds from left waiting waits goes_on → Feeds from left waiting waits false
-is_dry from left waiting waits goes_on is fed = subst (Feeds from left waiting waits) is fed
+-- that nothing more comes, of which a reading has told
+pub is_dry : (from left : Option (List ℕ)) (waiting waits : List ℕ) (fed : Fed) → fed ≡ AtEnd → Feeds from left waiting waits fed → Feeds from left waiting waits AtEnd
+is_dry from left waiting waits fed is come = subst (Feeds from left waiting waits) is come
 
-pub has_come : (from left : Option (List ℕ)) (waiting waits : List ℕ) (goes_on : Bool) → goes_on ≡ true → Feeds from left waiting waits goes_on → Feeds from left waiting waits true
-has_come from left waiting waits goes_on is fed = subst (Feeds from left waiting waits) is fed
+-- a reading was made
+pub reads_on : (layout : Shape) (offer : Offer) (from left then before held : Option (List ℕ)) (rest waits : List ℕ) (old mid : SessionState) (fed : Fed)
+    → SoFar layout offer from left before held rest old mid → Feeds left then rest waits fed → SoFar layout offer from then before held waits old mid
+reads_on layout offer from left then before held rest waits old mid Piece so_far come =
+    is_fed layout offer from left before held rest old mid so_far then come.0 waits come.1 come.2
+reads_on layout offer from left then before held rest waits old mid NotYet so_far come =
+    is_fed layout offer from left before held rest old mid so_far then [] waits come.0 (come.1 ∙ sym (append-nil rest))
+reads_on layout offer from left then before held rest waits old mid AtEnd so_far come =
+    is_fed layout offer from left before held rest old mid so_far then [] waits come.0 (come.2 ∙ sym (append-nil rest))
 
 -- it is given up before anything has come
 pub breaks_at_once : (layout : Shape) (offer : Offer) (from before : Option (List ℕ)) (session : SessionState) → Breaks layout offer from from before before session session
@@ -299,3 +312,88 @@ breaks_after layout offer from left before holds old mid new extends is = record
   owed = is.owed;
   wrote = is.wrote;
 }
+
+-- ---- turns that pauses part
+
+frames_joined : (rs qs : List (List ℕ)) (rest : List ℕ) → (frames rs ++ []) ++ (frames qs ++ rest) ≡ frames (rs ++ qs) ++ rest
+frames_joined rs qs rest = ap (λ (l : List ℕ). l ++ (frames qs ++ rest)) (append-nil (frames rs)) ∙ frames_more rs qs (frames rs ++ (frames qs ++ rest)) (frames qs ++ rest) rest refl refl
+
+module _ (layout : Shape) (offer : Offer) (from then left : Option (List ℕ)) (rest : List ℕ) (old mid new : SessionState) where
+  exchange_joined : (answers more : List Answer) → Exchange layout offer from then [] old mid answers → Exchange layout offer then left rest mid new more
+      → Exchange layout offer from left rest old new (answers ++ more)
+  exchange_joined answers more first last = record {
+    records = first.records ++ last.records;
+    read = subst (Consumes from left) (frames_joined first.records last.records rest)
+        (Consumes-trans from then left (frames first.records ++ []) (frames last.records ++ rest) first.read last.read);
+    short = all_append IsShort first.records last.records first.short last.short;
+    answered = answers_append layout offer new.seen first.records last.records old mid new answers more
+        (answers_later layout offer mid.seen new.seen first.records old mid answers (answers_grow layout offer new.seen last.records mid new more last.answered) first.answered) last.answered;
+  }
+
+ends_joined : (end : End) (left : Option (List ℕ)) (rest : List ℕ) (first last behind : List Answer) → IsEnd end left rest last behind → IsEnd end left rest (first ++ last) behind
+ends_joined NoMore left rest first last behind ends = ends
+ends_joined Stopped left rest first last behind ends = ((first ++ ends.0.0, ap (λ (l : List Answer). first ++ l) ends.0.1 ∙ sym (append_assoc first ends.0.0 (Stopping ∷ []))), ends.1)
+ends_joined TooLong left rest first last behind ends = ends
+
+-- nothing was served yet
+pub pauses_at_once : (layout : Shape) (offer : Offer) (from before : Option (List ℕ)) (session : SessionState) → Pauses layout offer from from before before session session
+pauses_at_once layout offer from before session = begins_so_far layout offer from before [] session refl
+
+module _ (layout : Shape) (offer : Offer) (from then left before held holds : Option (List ℕ)) (old mid new : SessionState) (first : Pauses layout offer from then before held old mid) where
+  -- it was served on, to a pause
+  pub pauses_again : Pauses layout offer then left held holds mid new → Pauses layout offer from left before holds old new
+  pauses_again last = record {
+    answers = first.answers ++ last.answers;
+    exchange = exchange_joined layout offer from then left [] old mid new first.answers last.answers first.exchange last.exchange;
+    wrote = writes_more before held holds first.answers last.answers first.wrote last.wrote;
+  }
+
+  -- it was served on, to its end
+  pub pauses_to_end : (end : End) → Serves layout offer end then left held holds mid new → Serves layout offer end from left before holds old new
+  pauses_to_end end last = record {
+    rest = last.rest;
+    answers = first.answers ++ last.answers;
+    behind = last.behind;
+    exchange = exchange_joined layout offer from then left last.rest old mid new first.answers last.answers first.exchange last.exchange;
+    wrote = subst (Writes before holds) (sym (append_assoc first.answers last.answers last.behind))
+        (writes_more before held holds first.answers (last.answers ++ last.behind) first.wrote last.wrote);
+    ends = ends_joined end left last.rest first.answers last.answers last.behind last.ends;
+  }
+
+  -- it was served on, and given up
+  pub pauses_to_break : Breaks layout offer then left held holds mid new → Breaks layout offer from left before holds old new
+  pauses_to_break last = record {
+    rest = last.rest;
+    answers = first.answers ++ last.answers;
+    behind = last.behind;
+    exchange = exchange_joined layout offer from then left last.rest old mid new first.answers last.answers first.exchange last.exchange;
+    owed = last.owed;
+    wrote = subst (λ (l : List Answer). AppendsFront before holds (texts l)) (sym (append_assoc first.answers last.answers last.behind))
+        (writes_front before held holds first.answers (last.answers ++ last.behind) first.wrote last.wrote);
+  }
+
+-- nothing is left of what was read
+pub is_pausing : (layout : Shape) (offer : Offer) (from left before holds : Option (List ℕ)) (rest : List ℕ) (old new : SessionState) → rest ≡ [] → SoFar layout offer from left before holds rest old new
+    → Pauses layout offer from left before holds old new
+is_pausing layout offer from left before holds rest old new none so_far = subst (λ (l : List ℕ). SoFar layout offer from left before holds l old new) none so_far
+
+-- ---- how far a connection was served
+
+pub is_paused : (layout : Shape) (offer : Offer) (from left before holds : Option (List ℕ)) (old new : SessionState) (progress : Progress) → progress ≡ Paused
+    → Progresses layout offer progress from left before holds old new → Pauses layout offer from left before holds old new
+is_paused layout offer from left before holds old new progress is served = subst (λ (p : Progress). Progresses layout offer p from left before holds old new) is served
+
+pub has_ended : (layout : Shape) (offer : Offer) (from left before holds : Option (List ℕ)) (old new : SessionState) (progress : Progress) (served : Served) → progress ≡ Ended served
+    → Progresses layout offer progress from left before holds old new → Serves layout offer served.end from left before holds old new
+has_ended layout offer from left before holds old new progress told is served = subst (λ (p : Progress). Progresses layout offer p from left before holds old new) is served
+
+pub is_told : (progress : Progress) (served : Served) (session : SessionState) → progress ≡ Ended served → IsFencedAsTold progress session → IsFencedAsTold (Ended served) session
+is_told progress served session is told = subst (λ (p : Progress). IsFencedAsTold p session) is told
+
+pub serves_paused : (layout : Shape) (offer : Offer) (from left before holds : Option (List ℕ)) (old new : SessionState) (end : Option End) → end ≡ None
+    → ServesTo layout offer end from left before holds old new → Pauses layout offer from left before holds old new
+serves_paused layout offer from left before holds old new end is served = subst (λ (e : Option End). ServesTo layout offer e from left before holds old new) is served
+
+pub serves_ended : (layout : Shape) (offer : Offer) (from left before holds : Option (List ℕ)) (old new : SessionState) (some : Option End) (end : End) → some ≡ Some end
+    → ServesTo layout offer some from left before holds old new → Serves layout offer end from left before holds old new
+serves_ended layout offer from left before holds old new some end is served = subst (λ (e : Option End). ServesTo layout offer e from left before holds old new) is served

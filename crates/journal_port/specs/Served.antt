@@ -1,9 +1,9 @@
 -- What the records of a connection come to.
-use Rattle.std.specs.Prelude.{ℕ, ◌≡◌, ◌⊎◌, Bool, true, false, Option, Result, Ok, Err, List, [], ◌∷◌, ◌++◌}
+use Rattle.std.specs.Prelude.{ℕ, ◌≡◌, ◌⊎◌, true, IsTrue, Option, None, Some, Result, Ok, Err, List, [], ◌∷◌, ◌++◌}
 use Rattle.std.specs.List.{flat_map, AllByRecursion}
 use Rattle.std.specs.Io.KnownBytes.{Consumes, Appends, IsAtEnd}
 use Rattle.journal_world.specs.Addresses.{Shape}
-use Rattle.journal_world.specs.Histories.{Entry}
+use Rattle.journal_world.specs.Histories.{Entry, is_fenced}
 use Rattle.journal_history.specs.Tokens.{SessionState, OnlyExtends}
 use Rattle.journal_records.specs.declared.fault.ReadFault.{ReadFault}
 use Rattle.journal_records.specs.declared.fault.ReadFault.TheVariants as fault
@@ -18,6 +18,10 @@ use Rattle.journal_records.specs.Frames.{framed, frames, IsShort, FitsRecord, Is
 use Rattle.journal_records.specs.Readings.{ReadsRequest}
 use Rattle.journal_port.specs.declared.serving.End.{End}
 use Rattle.journal_port.specs.declared.serving.End.TheVariants.{NoMore, Stopped, TooLong}
+use Rattle.journal_port.specs.declared.serving.Fed.{Fed}
+use Rattle.journal_port.specs.declared.serving.Fed.TheVariants.{Piece, NotYet, AtEnd}
+use Rattle.journal_port.specs.declared.serving.Progress.{Progress}
+use Rattle.journal_port.specs.declared.serving.Progress.TheVariants.{Paused, Ended}
 use Rattle.journal_port.specs.declared.turns.Turn.{Turn}
 use Rattle.journal_port.specs.declared.turns.Turn.TheVariants as turn
 use Rattle.journal_port.specs.Answers.{Offer, IsAnswerTo}
@@ -112,10 +116,11 @@ pub record RepliesInPart (layout : Shape) (offer : Offer) (waiting : List ℕ) (
   pub turns : Turns layout offer waiting rest old new answers
   pub wrote : AppendsFront before holds (texts answers)
 
--- a piece came after what waited, or nothing more comes
-abbrev pub Feeds : Option (List ℕ) → Option (List ℕ) → List ℕ → List ℕ → Bool → Type 0
-Feeds from left waiting waits true = (piece : List ℕ) × Consumes from left piece × (waits ≡ waiting ++ piece)
-Feeds from left waiting waits false = Consumes from left [] × IsAtEnd left × (waits ≡ waiting)
+-- a piece came after what waited, or nothing came yet, or nothing more comes
+abbrev pub Feeds : Option (List ℕ) → Option (List ℕ) → List ℕ → List ℕ → Fed → Type 0
+Feeds from left waiting waits Piece = (piece : List ℕ) × Consumes from left piece × (waits ≡ waiting ++ piece)
+Feeds from left waiting waits NotYet = Consumes from left [] × (waits ≡ waiting)
+Feeds from left waiting waits AtEnd = Consumes from left [] × IsAtEnd left × (waits ≡ waiting)
 
 -- a piece came at most
 abbrev pub FeedsInPart : Option (List ℕ) → Option (List ℕ) → Type 0
@@ -164,8 +169,27 @@ pub record Breaks (layout : Shape) (offer : Offer) (from left before holds : Opt
   pub owed : IsBehind rest behind
   pub wrote : AppendsFront before holds (texts (answers ++ behind))
 
--- One on its way
+-- One on its way: what the reader gave is some records, which were answered, and a rest, which waits
 pub record SoFar (layout : Shape) (offer : Offer) (from left before holds : Option (List ℕ)) (rest : List ℕ) (old new : SessionState) : Type 0 where
   pub answers : List Answer
   pub exchange : Exchange layout offer from left rest old new answers
   pub wrote : Writes before holds answers
+
+-- One that pauses: all that the reader gave is records, and what was written is the answers to them
+abbrev pub Pauses : Shape → Offer → Option (List ℕ) → Option (List ℕ) → Option (List ℕ) → Option (List ℕ) → SessionState → SessionState → Type 0
+Pauses layout offer from left before holds old new = SoFar layout offer from left before holds [] old new
+
+-- One that was served to an end, or to a pause
+abbrev pub ServesTo : Shape → Offer → Option End → Option (List ℕ) → Option (List ℕ) → Option (List ℕ) → Option (List ℕ) → SessionState → SessionState → Type 0
+ServesTo layout offer None from left before holds old new = Pauses layout offer from left before holds old new
+ServesTo layout offer (Some end) from left before holds old new = Serves layout offer end from left before holds old new
+
+-- the same by how far it has come
+abbrev pub Progresses : Shape → Offer → Progress → Option (List ℕ) → Option (List ℕ) → Option (List ℕ) → Option (List ℕ) → SessionState → SessionState → Type 0
+Progresses layout offer Paused from left before holds old new = Pauses layout offer from left before holds old new
+Progresses layout offer (Ended served) from left before holds old new = Serves layout offer served.end from left before holds old new
+
+-- where it has ended, and its session is said to be fenced, it is
+abbrev pub IsFencedAsTold : Progress → SessionState → Type 0
+IsFencedAsTold Paused session = Unit {0}
+IsFencedAsTold (Ended served) session = IsTrue served.fenced → is_fenced session.number session.seen ≡ true

@@ -8,13 +8,16 @@
 //!
 //! `answer` answers one request. `serve` answers a connection's: it reads pieces, answers all whole
 //! records of a piece in order, waits once until those are stable that are to be, and writes the
-//! answers before it reads on.
+//! answers before it reads on. `serve_to_pause` does the same for a turn: until the connection ends,
+//! or is to pause between two records (`Pace`), so that its thread serves others. `serve` is such
+//! turns, one after another: so a connection that pauses is answered as one that does not.
 #![tactic(auto)]
 
 mod commit;
 mod counting;
 mod greet;
 mod order;
+mod pace;
 mod parts;
 mod read;
 mod respond;
@@ -25,6 +28,7 @@ mod streams;
 mod turns;
 
 pub use counting::Counting;
+pub use pace::{NoPause, Pace};
 pub use respond::{Port, Terms, answer};
 pub use rights::Rights;
-pub use serving::{ConnFault, End, Served, serve};
+pub use serving::{ConnFault, End, Progress, Served, end_session, serve, serve_to_pause};

@@ -2,11 +2,13 @@
 ghost use Rattle.std.specs.Prelude.{◌≡◌, ◌<◌, ◌∷◌, [], true, IsTrue, length, IfOk, OnOk, OnErr};
 ghost use Rattle.journal_world.specs.Histories.{is_fenced};
 ghost use Rattle.journal_port.specs.Answers.{offer};
-ghost use Rattle.journal_port.specs.Served.{AppendsFront, Writes, texts, refuses_long, Serves, Breaks, Feeds, FeedsInPart};
+ghost use Rattle.journal_history.specs.Tokens.{OnlyExtends};
+ghost use Rattle.journal_port.specs.Served.{AppendsFront, Writes, texts, refuses_long, Serves, Breaks, Feeds, FeedsInPart, ServesTo, Progresses, IsFencedAsTold};
 
 use crate::counting::Counting;
+use crate::pace::{NoPause, Pace};
 use crate::respond::Port;
-use crate::streams::read_piece;
+use crate::streams::{NoPiece, read_piece};
 use crate::turns::{Turn, answer_turn, send};
 use journal_disk::BlockDisk;
 use journal_history::{Naming, Session};
@@ -56,8 +58,30 @@ pub enum ConnFault {
     NoRecord,
 }
 
+/// How far a connection was served.
+#[derive(Clone, Copy, Debug, PartialEq, Eq)]
+pub enum Progress {
+    /// It pauses between two records. The answers to all that was read were written, and it may be
+    /// served on.
+    Paused,
+    /// It was served to its end.
+    Ended(Served),
+}
+
+// What has come of a reading.
+#[derive(Clone, Copy, Debug, PartialEq, Eq)]
+pub(crate) enum Fed {
+    // A piece.
+    Piece,
+    // Nothing yet.
+    NotYet,
+    // Nothing, and nothing more comes.
+    AtEnd,
+}
+
 /// Answers the requests that the reader gives, in order, under the session, until no more come, the
-/// service is to end, or a record is too long. The answers go to the writer.
+/// service is to end, or a record is too long. The answers go to the writer. A reader that has
+/// nothing yet, which it says by `WouldBlock`, is asked again.
 ///
 /// It reads at most 128 KiB at once, and does all requests that are whole then, in turns of at most
 /// 1024, before it reads on. Of a turn it waits once until the last of those commits is stable that
@@ -85,48 +109,115 @@ pub fn serve<'b, R: Read, W: Write, D: BlockDisk, J: Naming, C: Counting, H: Wai
     ensures given_up { OnErr result (Breaks J.layout (offer port.now.terms (C.tells port.now.counting.now)) (R.remaining reader.old) (R.remaining reader.new)
         (W.contents writer.old) (W.contents writer.new) session.old session.new) }
 {
-    let outcome = answer_to_end(rt, port, session, reader, writer);
-    let own = session.number();
-    let fenced = port.journal.fence(rt, session, own).is_ok();
-    match outcome {
-        Ok(end) => Ok(Served { end, fenced }),
-        Err(fault) => Err(fault),
-    }
-}
-
-// Answers the requests, with a buffer of its own.
-fn answer_to_end<'b, R: Read, W: Write, D: BlockDisk, J: Naming, C: Counting, H: Wait>(
-    rt: &H,
-    port: &Port<'_, 'b, D, J, C>,
-    session: &mut Session<'b, J, AnyMap>,
-    reader: &mut R,
-    writer: &mut W,
-) -> Result<End, ConnFault>
-    ensures served { IfOk result (λ end. Serves J.layout (offer port.now.terms (C.tells port.now.counting.now)) end (R.remaining reader.old) (R.remaining reader.new)
-        (W.contents writer.old) (W.contents writer.new) session.old session.new) }
-    ensures given_up { OnErr result (Breaks J.layout (offer port.now.terms (C.tells port.now.counting.now)) (R.remaining reader.old) (R.remaining reader.new)
-        (W.contents writer.old) (W.contents writer.new) session.old session.new) }
-{
     let Ok(mut buffer) = vec![in port.alloc; 0u8; PIECE_BYTES] else {
+        end_session(rt, port, session);
         return Err(ConnFault::NoMemory);
     };
-    answer_all(rt, port, session, reader, writer, &mut buffer)
+    serve_in_turns(rt, port, session, reader, writer, &mut buffer)
 }
 
-// Answers the requests, with a buffer that takes a piece.
-fn answer_all<'b, R: Read, W: Write, D: BlockDisk, J: Naming, C: Counting, H: Wait>(
+// Serves a connection to its end, with a buffer that takes a piece: however often it pauses, it is
+// one connection.
+fn serve_in_turns<'b, R: Read, W: Write, D: BlockDisk, J: Naming, C: Counting, H: Wait>(
     rt: &H,
     port: &Port<'_, 'b, D, J, C>,
     session: &mut Session<'b, J, AnyMap>,
     reader: &mut R,
     writer: &mut W,
     buffer: &mut [u8],
-) -> Result<End, ConnFault>
+) -> Result<Served, ConnFault>
     requires { 0 < length buffer.old }
-    ensures served { IfOk result (λ end. Serves J.layout (offer port.now.terms (C.tells port.now.counting.now)) end (R.remaining reader.old) (R.remaining reader.new)
+    ensures served { IfOk result (λ served. Serves J.layout (offer port.now.terms (C.tells port.now.counting.now)) served.end (R.remaining reader.old) (R.remaining reader.new)
+        (W.contents writer.old) (W.contents writer.new) session.old session.new) }
+    ensures fenced { IfOk result (λ served. IsTrue served.fenced → is_fenced session.new.number session.new.seen ≡ true) }
+    ensures given_up { OnErr result (Breaks J.layout (offer port.now.terms (C.tells port.now.counting.now)) (R.remaining reader.old) (R.remaining reader.new)
+        (W.contents writer.old) (W.contents writer.new) session.old session.new) }
+{
+    for _ in rt.forever() {
+        match serve_to_pause(rt, port, session, &NoPause, reader, writer, buffer)? {
+            Progress::Paused => {}
+            Progress::Ended(served) => return Ok(served),
+        }
+    }
+    unreachable!()
+}
+
+/// Answers the requests that the reader gives as `serve` does, until the connection ends, or until
+/// it is to pause: asked before each reading, where no record is begun. Then the session is not
+/// fenced, and what comes later is answered by a further call.
+///
+/// It reads into the buffer, which has room.
+pub fn serve_to_pause<
+    'b,
+    R: Read,
+    W: Write,
+    D: BlockDisk,
+    J: Naming,
+    C: Counting,
+    P: Pace,
+    H: Wait,
+>(
+    rt: &H,
+    port: &Port<'_, 'b, D, J, C>,
+    session: &mut Session<'b, J, AnyMap>,
+    pace: &P,
+    reader: &mut R,
+    writer: &mut W,
+    buffer: &mut [u8],
+) -> Result<Progress, ConnFault>
+    requires room { 0 < length buffer.old }
+    // Where it pauses, what was read is whole records, and what was written is the answers to them.
+    // Where it ends, this is as `serve` has it.
+    ensures served { IfOk result (λ progress. Progresses J.layout (offer port.now.terms (C.tells port.now.counting.now)) progress (R.remaining reader.old) (R.remaining reader.new)
+        (W.contents writer.old) (W.contents writer.new) session.old session.new) }
+    ensures fenced { IfOk result (λ progress. IsFencedAsTold progress session.new) }
+    ensures given_up { OnErr result (Breaks J.layout (offer port.now.terms (C.tells port.now.counting.now)) (R.remaining reader.old) (R.remaining reader.new)
+        (W.contents writer.old) (W.contents writer.new) session.old session.new) }
+    ensures buffer { length buffer.new ≡ length buffer.old }
+{
+    match answer_to_pause(rt, port, session, pace, reader, writer, buffer) {
+        Ok(None) => Ok(Progress::Paused),
+        Ok(Some(end)) => {
+            let fenced = end_session(rt, port, session);
+            Ok(Progress::Ended(Served { end, fenced }))
+        }
+        Err(fault) => {
+            end_session(rt, port, session);
+            Err(fault)
+        }
+    }
+}
+
+/// Fences the session of a connection that pauses, so that nothing is committed under its number
+/// later, and answers whether the fence stands.
+pub fn end_session<'b, D: BlockDisk, J: Naming, C: Counting, H: Wait>(
+    rt: &H,
+    port: &Port<'_, 'b, D, J, C>,
+    session: &mut Session<'b, J, AnyMap>,
+) -> bool
+    ensures fenced { IsTrue result → is_fenced session.new.number session.new.seen ≡ true }
+    ensures extends { OnlyExtends session.old session.new }
+{
+    let own = session.number();
+    port.journal.fence(rt, session, own).is_ok()
+}
+
+// Answers the requests until the connection ends, or is to pause, which `None` says.
+fn answer_to_pause<'b, R: Read, W: Write, D: BlockDisk, J: Naming, C: Counting, P: Pace, H: Wait>(
+    rt: &H,
+    port: &Port<'_, 'b, D, J, C>,
+    session: &mut Session<'b, J, AnyMap>,
+    pace: &P,
+    reader: &mut R,
+    writer: &mut W,
+    buffer: &mut [u8],
+) -> Result<Option<End>, ConnFault>
+    requires { 0 < length buffer.old }
+    ensures served { IfOk result (λ end. ServesTo J.layout (offer port.now.terms (C.tells port.now.counting.now)) end (R.remaining reader.old) (R.remaining reader.new)
         (W.contents writer.old) (W.contents writer.new) session.old session.new) }
     ensures given_up { OnErr result (Breaks J.layout (offer port.now.terms (C.tells port.now.counting.now)) (R.remaining reader.old) (R.remaining reader.new)
         (W.contents writer.old) (W.contents writer.new) session.old session.new) }
+    ensures buffer { length buffer.new ≡ length buffer.old }
 {
     let mut input = Input::new(port.alloc);
     let mut held = Vec::new(port.alloc);
@@ -134,39 +225,46 @@ fn answer_all<'b, R: Read, W: Write, D: BlockDisk, J: Naming, C: Counting, H: Wa
         match answer_turn(rt, port, session, &mut input, &mut held, writer)? {
             Turn::Filled => {}
             Turn::Waiting => {
-                if !feed_piece(reader, buffer, &mut input)? {
-                    return Ok(End::NoMore);
+                if input.is_empty() && pace.is_to_pause() {
+                    return Ok(None);
+                }
+                pace.note_begun(input.len());
+                match feed_piece(reader, buffer, &mut input)? {
+                    Fed::Piece | Fed::NotYet => {}
+                    Fed::AtEnd => return Ok(Some(End::NoMore)),
                 }
             }
-            Turn::Stopped => return Ok(End::Stopped),
+            Turn::Stopped => return Ok(Some(End::Stopped)),
             Turn::TooLong => {
                 refuse_long(port.alloc, writer)?;
-                return Ok(End::TooLong);
+                return Ok(Some(End::TooLong));
             }
         }
     }
     unreachable!()
 }
 
-// Takes a piece of what the reader gives. A no says that nothing more comes.
+// Takes a piece of what the reader gives.
 fn feed_piece<R: Read>(
     reader: &mut R,
     buffer: &mut [u8],
     input: &mut Input,
-) -> Result<bool, ConnFault>
+) -> Result<Fed, ConnFault>
     requires { 0 < length buffer.old }
-    ensures fed { IfOk result (λ goes_on. Feeds (R.remaining reader.old) (R.remaining reader.new) input.old input.new goes_on) }
+    ensures fed { IfOk result (λ fed. Feeds (R.remaining reader.old) (R.remaining reader.new) input.old input.new fed) }
     ensures failed { OnErr result (FeedsInPart (R.remaining reader.old) (R.remaining reader.new)) }
     ensures room { length buffer.new ≡ length buffer.old }
 {
-    let Ok(count) = read_piece(reader, buffer) else {
-        return Err(ConnFault::ReadFailed);
+    let count = match read_piece(reader, buffer) {
+        Ok(count) => count,
+        Err(NoPiece::NotYet) => return Ok(Fed::NotYet),
+        Err(NoPiece::Failed) => return Err(ConnFault::ReadFailed),
     };
     if count == 0 {
-        return Ok(false);
+        return Ok(Fed::AtEnd);
     }
     match input.feed(&buffer[..count]) {
-        Ok(()) => Ok(true),
+        Ok(()) => Ok(Fed::Piece),
         Err(_) => Err(ConnFault::NoMemory),
     }
 }

@@ -9,9 +9,18 @@ use std::io::{ErrorKind, Read, Write};
 #[derive(Clone, Copy, Debug, PartialEq, Eq)]
 pub(crate) struct StreamFailed;
 
+// Why no piece was read.
+#[derive(Clone, Copy, Debug, PartialEq, Eq)]
+pub(crate) enum NoPiece {
+    // Nothing has come yet.
+    NotYet,
+    // The reader failed.
+    Failed,
+}
+
 // Reads a piece, and answers how many bytes it has: none only where the input has ended. A read
 // that a signal broke off is made again.
-pub(crate) fn read_piece<R: Read>(reader: &mut R, buffer: &mut [u8]) -> Result<usize, StreamFailed>
+pub(crate) fn read_piece<R: Read>(reader: &mut R, buffer: &mut [u8]) -> Result<usize, NoPiece>
     requires { 0 < length buffer.old }
     ensures within { IfOk result (λ n. n ≤ length buffer.new) }
     ensures piece { IfOk result (λ n. Consumes (R.remaining reader.old) (R.remaining reader.new) (take n buffer.new)) }
@@ -21,14 +30,14 @@ pub(crate) fn read_piece<R: Read>(reader: &mut R, buffer: &mut [u8]) -> Result<u
     for _ in 0..u64::MAX {
         match reader.read(buffer) {
             Ok(n) => return Ok(n),
-            Err(e) => {
-                if e.kind() != ErrorKind::Interrupted {
-                    return Err(StreamFailed);
-                }
-            }
+            Err(e) => match e.kind() {
+                ErrorKind::Interrupted => {}
+                ErrorKind::WouldBlock => return Err(NoPiece::NotYet),
+                _ => return Err(NoPiece::Failed),
+            },
         }
     }
-    Err(StreamFailed)
+    Err(NoPiece::Failed)
 }
 
 // Writes the bytes. Where that fails, a front of them was written.

@@ -19,7 +19,7 @@ use Rattle.journal_records.specs.Statuses.{refused_of, refused_number}
 use Rattle.journal_records.specs.Arrays.{array}
 use Rattle.journal_records.specs.Requests.{value}
 
--- What is answered
+-- The answers
 pub data Told : Type 0 where
   Hello : (blocks : ℕ) → Told
   Opening : (blocks number slots most_blocks : ℕ) → List ObjectRegion → Told
@@ -49,8 +49,8 @@ told_of (code.Bits bits) = Bits bits.items
 told_of (code.Unsure place commits) = Unsure place commits
 told_of (code.Refused why) = Refused why
 
--- the first word of an answer: 0 where it was done, 65 where a commit stands and is not known to be
--- stable, and else why nothing was done
+-- the first word of an answer: 0 if it was done, 65 for a commit that is in the history and not
+-- known to be stable, and else why nothing was done
 pub data Status : Type 0 where
   Done : Status
   NotSure : Status
@@ -115,7 +115,7 @@ bits_part _ = None
 unfoldable pub opening : Item Told
 opening = variant (pair hyper (pair hyper (pair word (pair word (array REGIONS region))))) (λ p. Opening p.0 p.1.0 p.1.1.0 p.1.1.1.0 p.1.1.1.1) opening_part
 
--- what stands behind the version of the answer to a hello
+-- the item after the version of the answer to a hello
 abbrev pub greeting_arm : Version → Item Told
 greeting_arm One = variant hyper (λ blocks. Hello blocks) hello_part
 greeting_arm Two = opening
@@ -133,7 +133,7 @@ IsGreeting (Hello blocks) = Unit {0}
 IsGreeting (Opening blocks number slots most_blocks regions) = Unit {0}
 IsGreeting other = ⊥
 
--- what stands behind the status of what was done and the number of its operation
+-- the item after the status that it was done and the number of its operation
 abbrev pub done_arm : Operation → Item Told
 done_arm operations.Hello = greeting
 done_arm operations.Commit = variant (pair hyper hyper) (λ p. Committed p.0 p.1) committed_part

@@ -9,7 +9,7 @@ use Rattle.journal_records.specs.declared.limits.TheConstants.{RECORD_BYTES}
 abbrev pub framed : List ℕ → List ℕ
 framed record_bytes = word.spelling (length record_bytes) ++ record_bytes
 
--- records, one behind another
+-- records, one after another
 abbrev pub frames : List (List ℕ) → List ℕ
 frames records = flat_map framed records
 
@@ -39,7 +39,7 @@ pub record FitsRecord {T : Type 0} (item : Item T) (value : T) : Type 0 where
   pub has : item.Has value
   pub short : IsShort (item.spelling value)
 
--- The bytes are the value's record, as it stands on a stream
+-- The bytes are the value's record, as a stream has it
 pub record IsRecordOf {T : Type 0} (item : Item T) (value : T) (bytes : List ℕ) : Type 0 where
   pub fits : FitsRecord item value
   pub text : bytes ≡ framed (item.spelling value)

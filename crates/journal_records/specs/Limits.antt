@@ -32,7 +32,7 @@ is_short_counter c = true
 abbrev pub is_short_bit : ℕ → Bool
 is_short_bit n = true
 
--- what items have is short
+-- the values of items are short
 pub address_short : (a : Addr) → address.Has a → IsTrue (is_short_address a)
 address_short a has = refl
 

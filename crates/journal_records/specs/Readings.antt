@@ -1,4 +1,4 @@
--- What reading answers.
+-- The answers of reading.
 use Rattle.std.specs.Prelude.{◌≡◌, ℕ, List, ◌++◌, Some, None, Result, Ok, Err}
 use Rattle.journal_xdr.specs.Items.{Item, Spelled}
 use Rattle.journal_xdr.specs.Basic.{word}
@@ -17,7 +17,8 @@ use Rattle.journal_records.specs.Requests.{request, message_of}
 use Rattle.journal_records.specs.Answers.{answer, told_of}
 use Rattle.journal_records.specs.Frames.{framed, IsShort, IsPartial, BeginsTooLong}
 
--- What a reader answers, seen by view, is what the bytes read as: new is what is behind the value
+-- The answer of a reader, seen by view, is the reading of the bytes: new is the bytes after the
+-- value
 abbrev pub Reads : {T X : Type 0} → Item T → (X → T) → List ℕ → List ℕ → Result X ReadFault → Type 0
 Reads item view old new (Ok x) = item.reading old ≡ Some (view x, new)
 Reads item view old new (Err fault.Malformed) = item.reading old ≡ None
@@ -35,22 +36,22 @@ SpellsNone {T} item bytes = (value : T) → ¬ (IsSpelling item bytes value)
 abbrev pub AsksUnknown : List ℕ → Type 0
 AsksUnknown bytes = (n : ℕ) × (rest : List ℕ) × Spelled word bytes n rest × (operation_of n ≡ None)
 
--- What reading a record as a request answers
+-- The answer of reading a record as a request
 abbrev pub ReadsRequest : List ℕ → Result Request ReadFault → Type 0
 ReadsRequest bytes (Ok asked) = IsSpelling request bytes (message_of asked)
 ReadsRequest bytes (Err fault.UnknownOperation) = AsksUnknown bytes
 ReadsRequest bytes (Err fault.Malformed) = SpellsNone request bytes × ¬ (AsksUnknown bytes)
 ReadsRequest bytes (Err fault.NoMemory) = Unit {0}
 
--- What reading a record as an answer answers
+-- The answer of reading a record as an answer
 abbrev pub ReadsAnswer : List ℕ → Result Answer ReadFault → Type 0
 ReadsAnswer bytes (Ok told) = IsSpelling answer bytes (told_of told)
 ReadsAnswer bytes (Err fault.UnknownOperation) = ⊥
 ReadsAnswer bytes (Err fault.Malformed) = SpellsNone answer bytes
 ReadsAnswer bytes (Err fault.NoMemory) = Unit {0}
 
--- What is taken from the front of a stream, where reading says what a record reads as: a whole
--- record, or nothing, where none is whole or the next is too long
+-- The part taken from the front of a stream, where reading gives a record's value: a whole record,
+-- or nothing, if none is whole or the next is too long
 abbrev pub Takes : {X : Type 0} → (List ℕ → Result X ReadFault → Type 0) → List ℕ → List ℕ → Next X → Type 0
 Takes reading old new (Record found) = (bytes : List ℕ) × IsShort bytes × (old ≡ framed bytes ++ new) × reading bytes found
 Takes reading old new Partial = (new ≡ old) × IsPartial old
@@ -61,7 +62,7 @@ abbrev pub IsTooLong : {X : Type 0} → Result X WriteFault → Type 0
 IsTooLong (Err refused.TooLong) = Unit {0}
 IsTooLong other = ⊥
 
--- what stands at the front of some bytes
+-- the part at the front of some bytes
 abbrev pub IsFront : List ℕ → Front → Type 0
 IsFront bytes (front.Whole found) = IsShort found.now × ((rest : List ℕ) × (bytes ≡ framed found.now ++ rest))
 IsFront bytes front.Partial = IsPartial bytes

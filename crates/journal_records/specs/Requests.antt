@@ -12,7 +12,7 @@ use Rattle.journal_records.specs.declared.request.Request.TheVariants as code
 use Rattle.journal_records.specs.Operations.{operation, action}
 use Rattle.journal_records.specs.Arrays.{array}
 
--- What is asked
+-- The requests
 pub data Message : Type 0 where
   Hello : (version : ℕ) → Message
   Commit : (parts : List Part) → (waits : Bool) → Message
@@ -41,7 +41,7 @@ value = opaque VALUE_BYTES
 unfoldable pub address : Item Addr
 address = mapped_item (pair hyper word) (λ p. record { block = p.0; off = p.1 }) (λ a. (a.block, a.off))
 
--- a part of a transaction: what it does, its address and its value
+-- a part of a transaction: its action, its address and its value
 unfoldable pub part : Item Part
 part = mapped_item (pair action (pair address value)) (λ p. record { action = p.0; addr = p.1.0; value = p.1.1 }) (λ p. (p.action, (p.addr, p.value)))
 
@@ -61,8 +61,8 @@ abbrev pub scan_part : Message → Option (ℕ × (ℕ × (Bool × ℕ)))
 scan_part (Scan block first wanted most) = Some (block, (first, (wanted, most)))
 scan_part _ = None
 
--- what stands behind the operation's number: of a hello the client's version, of a transaction
--- whether it waits and its parts, of a request to read the addresses, of a scan the block, the first
+-- the item after the operation's number: of a hello the client's version, of a transaction a flag
+-- that it waits and its parts, of a request to read the addresses, of a scan the block, the first
 -- bit, the value and how many bits are wanted
 abbrev pub request_arm : Operation → Item Message
 request_arm operations.Hello = variant word (λ version. Hello version) hello_part

@@ -24,8 +24,8 @@ refused_as (journal.Full cause) = Full
 refused_as (journal.Closed cause) = Closed
 refused_as journal.Fenced = Fenced
 
--- 1 to 14 as the journal numbers its refusals, and the port's own from 64 on. 65 is a commit that
--- stands, so it is none of these
+-- 1 to 14 as the journal numbers its refusals, and the port's own from 64 on. 65 is a commit in the
+-- history, so it is none of these
 abbrev pub reasons : List (ℕ × Refused)
 reasons = (1, NoMemory) ∷ (2, BadAddress) ∷ (3, BadSize) ∷ (4, TooLarge) ∷ (5, Busy) ∷ (6, DeviceFailed) ∷ (7, BadLog) ∷ (8, BadSuper) ∷ (9, Stale) ∷ (10, Stranger) ∷ (11, Worn) ∷ (12, Full) ∷ (13, Closed) ∷ (14, Fenced)
     ∷ (64, Conflict) ∷ (66, UnknownOperation) ∷ (67, Malformed) ∷ (68, TooLong) ∷ (69, OtherVersion) ∷ (70, Forbidden) ∷ (71, ReadOnly) ∷ []

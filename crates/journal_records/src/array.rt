@@ -14,14 +14,14 @@ pub(crate) trait Element: Drop {
     // How it is spelled.
     ghost item: { Item Self };
 
-    // Whether it is no longer than its item's values.
+    // True if it is no longer than its item's values.
     ghost is_short: { Self → Bool };
 
     // Reads the value at the front.
     fn read(alloc: Global, reader: &mut Reader<'_>) -> Result<Self, ReadFault>
         ensures { Reads item (λ value. value) reader.old reader.new result };
 
-    // Whether it is no longer than its item's values.
+    // True if it is no longer than its item's values.
     fn is_short(&self) -> bool
         ensures { result ≡ is_short self.now };
 
@@ -34,7 +34,7 @@ pub(crate) trait Element: Drop {
     ghost has_short: { (value : Self) → item.Has value → IsTrue (is_short value) };
 }
 
-// Reads a list of at most so many values.
+// Reads a list of at most `limit` values.
 #[tactic(auto, unfolding(crate::specs::Arrays::array))]
 pub(crate) fn read_array<T: Element>(
     alloc: Global,
@@ -50,7 +50,7 @@ pub(crate) fn read_array<T: Element>(
     read_several(alloc, reader, count)
 }
 
-// Reads so many values.
+// Reads `count` values.
 fn read_several<T: Element>(
     alloc: Global,
     reader: &mut Reader<'_>,
@@ -65,7 +65,7 @@ fn read_several<T: Element>(
     Ok(values)
 }
 
-// Whether there are at most so many values, each short.
+// True if there are at most `limit` values, each short.
 pub(crate) fn is_array<T: Element>(values: &[T], limit: usize) -> bool
     ensures few { IsTrue result → AreFew limit T.is_short values.now }
     ensures exact { (array limit T.item).Has values.now → IsTrue result }
@@ -73,7 +73,7 @@ pub(crate) fn is_array<T: Element>(values: &[T], limit: usize) -> bool
     values.len() <= limit && are_short(values)
 }
 
-// Whether each value is short.
+// True if each value is short.
 fn are_short<T: Element>(values: &[T]) -> bool
     ensures { result ≡ list_all T.is_short values.now }
 {
@@ -96,7 +96,7 @@ pub(crate) fn write_array<T: Element>(writer: &mut Writer, values: &[T]) -> Resu
     write_several(writer, values)
 }
 
-// Writes short values one behind another.
+// Writes short values one after another.
 fn write_several<T: Element>(writer: &mut Writer, values: &[T]) -> Result<(), AllocError>
     requires { IsTrue (list_all T.is_short values.now) }
     ensures { OnOk result (AddsItem (several (length values.now) T.item) values.now writer.old writer.new) }

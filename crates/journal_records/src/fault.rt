@@ -11,8 +11,8 @@ pub enum ReadFault {
     /// The first word is the number of no operation.
     #[error("no operation has this number")]
     UnknownOperation,
-    /// The bytes are spelled as nothing: too few, too many, a number that is not listed, or above a
-    /// limit.
+    /// The bytes spell nothing: there are too few or too many, a number is not listed, or one is
+    /// above a limit.
     #[error("the record is malformed")]
     Malformed,
 }

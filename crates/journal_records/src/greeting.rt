@@ -1,4 +1,4 @@
-// What a client is told of the disk and of its opening.
+// The disk and its opening, as a client is given them.
 ghost use Rattle.std.specs.Prelude.{◌≡◌};
 
 use journal_xdr::Enumeration;
@@ -6,9 +6,9 @@ use journal_xdr::Enumeration;
 /// A version of the protocol.
 #[derive(Clone, Copy, Debug, PartialEq, Eq)]
 pub enum Version {
-    /// 1: a client is told the number of blocks.
+    /// 1: a client gets the number of blocks.
     One,
-    /// 2: it is told the opening.
+    /// 2: a client gets the opening.
     Two,
 }
 
@@ -48,16 +48,16 @@ pub struct ObjectRegion {
     pub bits: u32,
 }
 
-/// What a client of version 2 is told: the disk, and which opening of it this is.
+/// The opening, as a client of version 2 gets it: the disk, and which opening of it this is.
 #[derive(Debug, Drop)]
 pub struct Opening {
-    /// How many blocks the disk has.
+    /// The number of blocks of the disk.
     pub blocks: u64,
     /// The number of the opening.
     pub number: u64,
-    /// How many slots there are.
+    /// The number of slots.
     pub slots: u32,
-    /// How many distinct blocks a transaction may write.
+    /// The most distinct blocks that a transaction may write.
     pub most_blocks: u32,
     /// The regions, by ascending first blocks.
     pub regions: Vec<ObjectRegion>,

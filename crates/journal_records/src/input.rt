@@ -1,5 +1,5 @@
 // Records out of a stream that comes in pieces.
-ghost use Rattle.std.specs.Prelude.{◌≡◌, ◌++◌, ◌≤◌, ◌+◌, [], List, ℕ, drop, length, OnOk, OnErr};
+ghost use Rattle.std.specs.Prelude.{◌≡◌, ◌↔◌, IsTrue, ◌++◌, ◌≤◌, ◌+◌, [], List, ℕ, drop, length, OnOk, OnErr};
 ghost use Rattle.journal_records.specs.Readings.{Takes, ReadsRequest, ReadsAnswer, IsFront};
 
 use crate::answer::Answer;
@@ -11,18 +11,18 @@ use journal_xdr::Reader;
 use std::alloc::{AllocError, Global};
 use std::marker::Model;
 
-/// What comes next on a stream.
+/// The next part of a stream.
 #[derive(Debug, Drop)]
 pub enum Next<X> {
-    /// A whole record, and what it reads as.
+    /// A whole record, as it is read.
     Record(Result<X, ReadFault>),
     /// Less than a record. It stays, and with more bytes it may be one.
     Partial,
-    /// A record that is longer than a record may be. Nothing behind its length is looked at.
+    /// A record that is longer than a record may be. Nothing after its length is looked at.
     TooLong,
 }
 
-// What stands at the front of some bytes.
+// The part at the front of some bytes.
 #[derive(Clone, Copy, Debug)]
 enum Front<'a> {
     Whole(&'a [u8]),
@@ -32,7 +32,7 @@ enum Front<'a> {
 
 /// A stream that comes in pieces. Contracts see the bytes that came and were not taken.
 ///
-/// It keeps no more than it was fed since the last record was taken, and what was left then.
+/// It keeps no more than the pieces since the last record was taken, and the rest from before.
 #[derive(Drop)]
 pub struct Input {
     bytes: Vec<u8>,
@@ -57,6 +57,20 @@ impl Input {
             bytes: Vec::new(alloc),
             taken: 0,
         }
+    }
+
+    /// How many bytes came and were not taken.
+    pub fn len(&self) -> usize
+        ensures { result ≡ length self.now }
+    {
+        self.left().len()
+    }
+
+    /// True if all that came was taken.
+    pub fn is_empty(&self) -> bool
+        ensures { IsTrue result ↔ (self.now ≡ []) }
+    {
+        self.left().is_empty()
     }
 
     /// A piece comes. Where a growth is refused nothing has changed, and the piece may be fed
@@ -110,7 +124,7 @@ impl Input {
         self.taken = self.taken + LENGTH_BYTES + size;
     }
 
-    // Frees the room of what was taken.
+    // Frees the room of the taken bytes.
     fn forget_taken(&mut self)
         ensures { self.new ≡ self.old }
     {
@@ -121,7 +135,7 @@ impl Input {
     }
 }
 
-// What stands at the front.
+// The part at the front.
 fn front_of(bytes: &[u8]) -> Front<'_>
     ensures { IsFront bytes.now result }
 {

@@ -1,4 +1,4 @@
-// What holds of every record and every stream.
+// Laws of every record and every stream.
 ghost use Rattle.std.specs.Prelude.{◌≡◌, ℕ, List, ◌++◌};
 ghost use Rattle.journal_xdr.specs.Items.{IsGrammar};
 ghost use Rattle.journal_records.specs.Requests.{request};

@@ -1,14 +1,14 @@
-//! The records of the port: what a program in another language asks the journal, and what it is
-//! answered.
+//! The records of the port: the requests of programs in other languages to the journal, and its
+//! answers.
 //!
-//! A connection is a stream of records both ways. A record is its length and so many bytes, and
+//! A connection is a stream of records both ways. A record is its length and that many bytes, and
 //! these are a request or an answer, spelled as XDR (RFC 4506). `specs/Requests.antt` and
-//! `specs/Answers.antt` say once how each is spelled, and `specs/Frames.antt` how records stand on
-//! a stream.
+//! `specs/Answers.antt` say once how each is spelled, and `specs/Frames.antt` how records follow
+//! one another on a stream.
 //!
-//! `read_request` and `read_answer` say what a record's bytes are, or why they are nothing, and
-//! `write_request` and `write_answer` write a whole record behind what was written. An `Input`
-//! takes a stream in pieces, however it is cut, and gives its records in order.
+//! `read_request` and `read_answer` read a record's bytes, or say why they are nothing.
+//! `write_request` and `write_answer` write a whole record. An `Input` takes a stream in pieces,
+//! however it is cut, and gives its records in order.
 #![tactic(auto)]
 
 mod answer;

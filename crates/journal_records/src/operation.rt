@@ -1,13 +1,13 @@
-// What may be asked.
+// The operations.
 ghost use Rattle.std.specs.Prelude.{◌≡◌};
 
 use journal_xdr::Enumeration;
 
-/// What a request asks for. Its number is the first word of a request, and of an answer that it was
-/// done.
+/// The operation that a request asks for. Its number is the first word of a request, and of an
+/// answer that it was done.
 #[derive(Clone, Copy, Debug, PartialEq, Eq)]
 pub enum Operation {
-    /// Which version of the protocol is spoken, and what the disk is.
+    /// To agree on a version of the protocol, and to describe the disk.
     Hello,
     /// To commit a transaction.
     Commit,
@@ -15,13 +15,13 @@ pub enum Operation {
     Read,
     /// To make all commits stable.
     Flush,
-    /// How many commits there are, and how many of them are stable.
+    /// To count the commits, and those that are stable.
     Stat,
     /// To end the service.
     Stop,
-    /// What the service has counted.
+    /// To read the service's counters.
     Counters,
-    /// Which bits of a block have a value.
+    /// To find bits of a block that have a value.
     Scan,
 }
 

@@ -17,8 +17,12 @@ use std::alloc::Global;
 // The room that a record takes at first. Most need no more.
 const ROOM: usize = 64;
 
-/// The record of a request, as it stands on a stream. It is refused as too long exactly where no
-/// record can hold it.
+/// The record of a request, as a stream has it.
+///
+/// # Errors
+/// Nothing was made.
+/// - `NoMemory`: memory is refused.
+/// - `TooLong`: no record can hold it.
 pub fn write_request(alloc: Global, request: &Request) -> Result<Vec<u8>, WriteFault>
     ensures record { IfOk result (λ bytes. IsRecordOf request_item (message_of request.now) bytes.items) }
     ensures too_long { IsTooLong result → ¬ (FitsRecord request_item (message_of request.now)) }
@@ -32,8 +36,12 @@ pub fn write_request(alloc: Global, request: &Request) -> Result<Vec<u8>, WriteF
     finish(writer)
 }
 
-/// The record of an answer, as it stands on a stream. It is refused as too long exactly where no
-/// record can hold it.
+/// The record of an answer, as a stream has it.
+///
+/// # Errors
+/// Nothing was made.
+/// - `NoMemory`: memory is refused.
+/// - `TooLong`: no record can hold it.
 pub fn write_answer(alloc: Global, answer: &Answer) -> Result<Vec<u8>, WriteFault>
     ensures record { IfOk result (λ bytes. IsRecordOf answer_item (told_of answer.now) bytes.items) }
     ensures too_long { IsTooLong result → ¬ (FitsRecord answer_item (told_of answer.now)) }
@@ -47,7 +55,7 @@ pub fn write_answer(alloc: Global, answer: &Answer) -> Result<Vec<u8>, WriteFaul
     finish(writer)
 }
 
-// The record of what was written behind room for its length.
+// The record of the bytes that were written after the room for its length.
 fn finish(writer: Writer) -> Result<Vec<u8>, WriteFault>
     requires { (record_bytes : List ℕ) × (writer ≡ word.spelling 0 ++ record_bytes) }
     ensures record { IfOk result (λ bytes. (record_bytes : List ℕ) → writer ≡ word.spelling 0 ++ record_bytes

@@ -16,7 +16,13 @@ use journal_world::REGIONS;
 use journal_xdr::{Enumeration, Reader};
 use std::alloc::Global;
 
-/// The request that a record's bytes are, its length not among them, or why they are none.
+/// The request of a record's bytes, its length not among them.
+///
+/// # Errors
+/// The bytes stay.
+/// - `NoMemory`: memory is refused.
+/// - `UnknownOperation`: the first word is the number of no operation.
+/// - `Malformed`: the bytes spell no request of their operation.
 pub fn read_request(alloc: Global, bytes: &[u8]) -> Result<Request, ReadFault>
     ensures { ReadsRequest bytes.now result }
 {
@@ -34,7 +40,7 @@ pub fn read_request(alloc: Global, bytes: &[u8]) -> Result<Request, ReadFault>
     Ok(request)
 }
 
-// Reads what stands behind an operation's number.
+// Reads the rest after an operation's number.
 fn read_asked(
     alloc: Global,
     reader: &mut Reader<'_>,
@@ -63,7 +69,12 @@ fn read_asked(
     })
 }
 
-/// The answer that a record's bytes are, its length not among them, or why they are none.
+/// The answer of a record's bytes, its length not among them.
+///
+/// # Errors
+/// The bytes stay.
+/// - `NoMemory`: memory is refused.
+/// - `Malformed`: the bytes spell no answer.
 pub fn read_answer(alloc: Global, bytes: &[u8]) -> Result<Answer, ReadFault>
     ensures { ReadsAnswer bytes.now result }
 {
@@ -94,7 +105,7 @@ fn read_told(alloc: Global, reader: &mut Reader<'_>) -> Result<Answer, ReadFault
     }
 }
 
-// Reads what stands behind the status of what was done.
+// Reads the rest after the status that it was done.
 #[tactic(auto, unfolding(crate::specs::Answers::done))]
 fn read_done(alloc: Global, reader: &mut Reader<'_>) -> Result<Answer, ReadFault>
     ensures { Reads done told_of reader.old reader.new result }

@@ -17,7 +17,7 @@ pub enum Refused {
     BadSize,
     /// 4: more than 128 distinct blocks are written.
     TooLarge,
-    /// 5: what the transaction needs is held by another.
+    /// 5: another transaction holds an object that this one needs.
     Busy,
     /// 6: the device failed in this call or before.
     DeviceFailed,
@@ -31,7 +31,7 @@ pub enum Refused {
     Stranger,
     /// 11: a number of the journal would reach 2^62.
     Worn,
-    /// 12: the log's tail cannot take the blocks.
+    /// 12: the log's tail has no room for the blocks.
     Full,
     /// 13: the journal was stopped.
     Closed,

@@ -1,10 +1,10 @@
-// What is asked.
+// The requests.
 ghost use Rattle.std.specs.Prelude.{◌≡◌};
 
 use journal_world::{Addr, Value};
 use journal_xdr::Enumeration;
 
-/// What a part of a transaction does at its address.
+/// The action of a part of a transaction at its address.
 #[derive(Clone, Copy, Debug, PartialEq, Eq)]
 pub enum Action {
     /// The map has to give the address the part's value.
@@ -43,7 +43,7 @@ impl Enumeration for Action {
 /// A part of a transaction.
 #[derive(Debug, Drop)]
 pub struct Part {
-    /// What it does.
+    /// Its action.
     pub action: Action,
     /// The address.
     pub addr: Addr,
@@ -51,16 +51,16 @@ pub struct Part {
     pub value: Value,
 }
 
-/// What a client asks.
+/// The request of a client.
 #[derive(Debug, Drop)]
 pub enum Request {
-    /// To say what the disk is, in the version of the protocol that it names.
+    /// To describe the disk, in the version of the protocol that it names.
     Hello(u32),
     /// To commit the parts as one transaction.
     Commit {
-        /// What it compares and writes.
+        /// Its compares and writes.
         parts: Vec<Part>,
-        /// Whether it is answered once it is stable.
+        /// True if it is answered once it is stable.
         waits: bool,
     },
     /// To read these addresses.
@@ -71,7 +71,7 @@ pub enum Request {
     Stat,
     /// To end the service.
     Stop,
-    /// To say what the service has counted.
+    /// To give the service's counters.
     Counters,
     /// To find bits of a block that have a value.
     Scan {
@@ -81,7 +81,7 @@ pub enum Request {
         first: u32,
         /// The value.
         value: bool,
-        /// How many bits are wanted at most.
+        /// The most bits that are wanted.
         most: u32,
     },
 }

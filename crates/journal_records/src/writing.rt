@@ -1,4 +1,4 @@
-// Writing what records hold.
+// Writing the content of records.
 ghost use Rattle.std.specs.Prelude.{◌≡◌, IsTrue, OnOk};
 ghost use Rattle.journal_xdr.specs.Items.{AddsItem};
 ghost use Rattle.journal_records.specs.Requests.{request as request_item, message_of};
@@ -15,7 +15,7 @@ use journal_world::REGIONS;
 use journal_xdr::{Enumeration, Writer};
 use std::alloc::AllocError;
 
-// Whether the request is within the limits of its lists and values.
+// True if the request is within the limits of its lists and values.
 pub(crate) fn is_request(request: &Request) -> bool
     ensures within { IsTrue result → IsAskable (message_of request.now) }
     ensures exact { request_item.Has (message_of request.now) → IsTrue result }
@@ -71,7 +71,7 @@ pub(crate) fn write_asked(writer: &mut Writer, request: &Request) -> Result<(), 
     }
 }
 
-// Whether the answer is within the limits of its lists and values.
+// True if the answer is within the limits of its lists and values.
 pub(crate) fn is_answer(answer: &Answer) -> bool
     ensures within { IsTrue result → IsTellable (told_of answer.now) }
     ensures exact { answer_item.Has (told_of answer.now) → IsTrue result }
@@ -113,7 +113,7 @@ pub(crate) fn write_told(writer: &mut Writer, answer: &Answer) -> Result<(), All
     }
 }
 
-// Writes what stands behind the status of what was done.
+// Writes the rest after the status that it was done.
 #[tactic(auto, unfolding(crate::specs::Answers::done))]
 fn write_done(writer: &mut Writer, answer: &Answer) -> Result<(), AllocError>
     requires within { IsTellable (told_of answer.now) }
@@ -155,7 +155,7 @@ fn write_done(writer: &mut Writer, answer: &Answer) -> Result<(), AllocError>
     }
 }
 
-// Writes the answer to a hello behind the number of its operation.
+// Writes the answer to a hello after the number of its operation.
 #[tactic(auto, unfolding(crate::specs::Answers::greeting))]
 fn write_greeting(writer: &mut Writer, answer: &Answer) -> Result<(), AllocError>
     requires within { IsTellable (told_of answer.now) }

@@ -1,4 +1,4 @@
--- What the code's calls stand for, whatever memory they are lent.
+-- The meaning of the code's calls, whatever memory they are lent.
 use Rattle.std.specs.Prelude.{◌≡◌, ◌≢◌, ◌==◌, ℕ, if◌then◌else◌, List, Option, Some, None, Result, Ok, Err}
 use Rattle.journal_rpc.specs.Calls.{Beginning, Auth, Target, Message, Asked, OtherVersion, Procedure, message}
 use Rattle.journal_rpc.specs.declared.calls.Beginning as code_beginning
@@ -20,7 +20,7 @@ auth_of a = record { flavor = a.flavor; body = a.body.now }
 abbrev pub target_of : code_target.Target → Target
 target_of t = record { program = t.program; version = t.version; procedure = t.procedure; credential = auth_of t.credential; verifier = auth_of t.verifier }
 
--- what the code's call asks, in these words
+-- the request of the code's call, in these words
 abbrev pub asked_of : code_asked.Asked → Asked
 asked_of asks.OtherVersion = OtherVersion
 asked_of (asks.Procedure program version procedure arguments) = Procedure program version procedure arguments.now
@@ -28,13 +28,13 @@ asked_of (asks.Procedure program version procedure arguments) = Procedure progra
 abbrev pub message_of : code_call.Call → Message
 message_of c = record { xid = c.xid; asked = asked_of c.asked }
 
--- what reading bytes as a call answers
+-- the answer of reading bytes as a call
 abbrev pub ReadsCall : List ℕ → Option code_call.Call → Type 0
 ReadsCall bytes None = message bytes ≡ None
 ReadsCall bytes (Some call) = message bytes ≡ Some (message_of call)
 
--- What a call asks of a program served in one version: a procedure's number and its arguments, or
--- why it is refused. The first that holds is answered
+-- The request of a call to a program served in one version: a procedure's number and its arguments,
+-- or why it is refused. The first that holds is answered
 abbrev pub routed : ℕ → ℕ → Asked → Result (ℕ × List ℕ) CallRefused
 routed program version OtherVersion = Err RpcMismatch
 routed program version (Procedure asked_program asked_version procedure arguments) =

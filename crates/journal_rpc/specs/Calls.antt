@@ -3,7 +3,7 @@ use Rattle.std.specs.Prelude.{◌≢◌, ℕ, ◌==◌, if◌then◌else◌, Lis
 use Rattle.journal_xdr.specs.Items.{Item, ◌>>=◌, pair, mapped_item, Spelled}
 use Rattle.journal_xdr.specs.Basic.{word, opaque, constant}
 
--- What every call begins with: its number, the message type 0 for a call, and the version of RPC
+-- The beginning of every call: its number, the message type 0 for a call, and the version of RPC
 pub record Beginning : Type 0 where
   pub xid : ℕ
   pub rpc_version : ℕ
@@ -35,8 +35,8 @@ target = mapped_item (pair word (pair word (pair word (pair auth auth))))
     (λ p. record { program = p.0; version = p.1.0; procedure = p.1.1.0; credential = p.1.1.1.0; verifier = p.1.1.1.1 })
     (λ t. (t.program, (t.version, (t.procedure, (t.credential, t.verifier)))))
 
--- What a call asks: something in another version of RPC, or a procedure, whose arguments are all
--- that stands behind the header
+-- The request of a call: something in another version of RPC, or a procedure, whose arguments are
+-- all bytes after the header
 pub data Asked : Type 0 where
   OtherVersion : Asked
   Procedure : (program version procedure : ℕ) → (arguments : List ℕ) → Asked
@@ -46,7 +46,7 @@ pub record Message : Type 0 where
   pub xid : ℕ
   pub asked : Asked
 
--- The bytes ask this under this number: at their front stands the beginning of a call in another
+-- The bytes ask this under this number: at their front is the beginning of a call in another
 -- version, or a whole header of version 2, with any credential and verifier
 abbrev pub Asks : List ℕ → ℕ → Asked → Type 0
 Asks bytes xid OtherVersion = (rpc_version : ℕ) × (rest : List ℕ) × (rpc_version ≢ 2) × Spelled beginning bytes (record { xid = xid; rpc_version = rpc_version }) rest

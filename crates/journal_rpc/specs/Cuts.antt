@@ -37,10 +37,9 @@ cut_text c = spelled c.before ++ fragment true c.last
 abbrev pub IsRecord : Cut → Type 0
 IsRecord c = length (record_of c) ≤ record_limit
 
--- What has come of the record that is begun: front are the bytes of its fragments that are whole,
--- begun those that have come in all, and tail is what stands behind the spellings of the whole
--- ones. It is nothing, less than a header, a header with less than its fragment's bytes, or a
--- header that goes above the limit
+-- The begun record: front are the bytes of its whole fragments, begun those that have come in all,
+-- and tail is the rest after the spellings of the whole ones. It is nothing, less than a header, a
+-- header with less than its fragment's bytes, or a header that goes above the limit
 abbrev pub IsBegun : Part → List ℕ → List ℕ → List ℕ → Type 0
 IsBegun Start front begun tail = (begun ≡ front) × (tail ≡ [])
 IsBegun (First a) front begun tail = (begun ≡ front) × (tail ≡ a ∷ []) × (a < 256)

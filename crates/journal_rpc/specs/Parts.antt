@@ -1,4 +1,4 @@
--- What a stream's next part has to keep.
+-- The invariant of a stream's next part.
 use Rattle.std.specs.Prelude.{◌<◌}
 use Rattle.journal_rpc.specs.declared.part.Part.{Part}
 use Rattle.journal_rpc.specs.declared.part.Part.TheVariants.{Body}

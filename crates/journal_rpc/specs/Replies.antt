@@ -8,7 +8,7 @@ use Rattle.journal_rpc.specs.declared.protocol.AcceptStatus.TheVariants as statu
 use Rattle.journal_rpc.specs.declared.replies.CallRefused.{CallRefused}
 use Rattle.journal_rpc.specs.declared.replies.CallRefused.TheVariants.{RpcMismatch, ProgramUnavailable, ProgramMismatch, ProcedureUnavailable, GarbageArguments}
 
--- integers one behind another
+-- integers one after another
 abbrev pub words : List ℕ → List ℕ
 words numbers = flat_map (λ n. word.spelling n) numbers
 
@@ -16,8 +16,8 @@ words numbers = flat_map (λ n. word.spelling n) numbers
 abbrev pub one_fragment : List ℕ → List ℕ
 one_fragment body = fragment true body
 
--- What stands behind the number of a call that is accepted: the message type 1, a reply; 0,
--- accepted; a verifier of flavor 0 with 0 bytes; and what became of the call
+-- The words after the number of a call that is accepted: the message type 1, a reply; 0, accepted;
+-- a verifier of flavor 0 with 0 bytes; and the result of the call
 abbrev pub accepted : ℕ → List ℕ
 accepted status = 1 ∷ 0 ∷ 0 ∷ 0 ∷ status ∷ []
 
@@ -28,7 +28,7 @@ accept_number status.ProgramMismatch = 2
 accept_number status.ProcedureUnavailable = 3
 accept_number status.GarbageArguments = 4
 
--- What stands behind the number of a call that is refused. Denied is 1, its cause here 0, and the
+-- The words after the number of a call that is refused. Denied is 1, its cause here 0, and the
 -- versions of RPC are from 2 to 2
 abbrev pub why : CallRefused → List ℕ
 why RpcMismatch = 1 ∷ 1 ∷ 0 ∷ 2 ∷ 2 ∷ []
@@ -37,7 +37,7 @@ why (ProgramMismatch version) = accepted 2 ++ version ∷ version ∷ []
 why ProcedureUnavailable = accepted 3
 why GarbageArguments = accepted 4
 
--- what stands before the results of a call that is accepted and ran
+-- the words before the results of a call that is accepted and ran
 abbrev pub success : ℕ → List ℕ
 success xid = words (xid ∷ accepted 0)
 

@@ -4,8 +4,8 @@ use Rattle.std.specs.Int.{w32, from_be_bytes}
 use Rattle.journal_rpc.specs.declared.part.Part.{Part}
 use Rattle.journal_rpc.specs.declared.part.Part.TheVariants.{Start, First, Second, Third, Body, TooLong}
 
--- What has come of a stream: the records that are complete and not yet taken, the bytes of the
--- record that is begun, and what comes next
+-- The part of a stream that has come: the complete records that are not yet taken, the bytes of the
+-- begun record, and the next part
 pub record Stream : Type 0 where
   pub records : List (List ℕ)
   pub begun : List ℕ
@@ -15,7 +15,7 @@ pub record Stream : Type 0 where
 abbrev pub record_limit : ℕ
 record_limit = 16384
 
--- so many complete records wait at most
+-- the most complete records that wait
 abbrev pub waiting_limit : ℕ
 waiting_limit = 1024
 
@@ -28,7 +28,7 @@ abbrev pub stream_ended : List (List ℕ) → List ℕ → Bool → Stream
 stream_ended records begun true = record { records = records ++ begun ∷ []; begun = []; part = Start }
 stream_ended records begun false = record { records = records; begun = begun; part = Start }
 
--- a fragment of so many bytes begins
+-- a fragment of this many bytes begins
 abbrev pub begins : List (List ℕ) → List ℕ → Bool → ℕ → Stream
 begins records begun last size =
     if nat_lt record_limit (length begun + size) then record { records = records; begun = begun; part = TooLong }
@@ -53,7 +53,7 @@ unfoldable pub after : Stream → List ℕ → Stream
 after s [] = s
 after s (b ∷ bs) = after (byte_came s.records s.begun s.part b) bs
 
--- what was taken of a piece: a front, or all where a record was too long
+-- the taken part of a piece: a front, or all if a record was too long
 abbrev pub front_taken : {E : Type 0} → Result ℕ E → List ℕ → List ℕ
 front_taken (Ok taken) piece = take taken piece
 front_taken (Err why) piece = piece

@@ -1,4 +1,4 @@
-// What a record asks.
+// Calls, read from records.
 ghost use Rattle.std.specs.Prelude.{◌≡◌, IfSome, IfNone};
 ghost use Rattle.journal_xdr.specs.Items.{ReadsItem};
 ghost use Rattle.journal_rpc.specs.Calls.{beginning, auth, target, Message, IsCall};
@@ -8,21 +8,21 @@ use crate::protocol::{AUTH_BYTES, CALL, RPC_VERSION};
 use crate::replies::CallRefused;
 use journal_xdr::Reader;
 
-/// A call: its number, which the reply repeats, and what it asks.
+/// A call: its number, which the reply repeats, and the procedure that it asks for.
 #[derive(Clone, Copy, Debug)]
 pub struct Call<'a> {
     /// The number that the caller gave it.
     pub xid: u32,
-    /// What it asks.
+    /// The procedure that it asks for.
     pub asked: Asked<'a>,
 }
 
-/// What a call asks.
+/// The procedure that a call asks for.
 #[derive(Clone, Copy, Debug)]
 pub enum Asked<'a> {
-    /// Something in another version of RPC than 2. What stands behind the version is not read.
+    /// Something in another version of RPC than 2. The bytes after the version are not read.
     OtherVersion,
-    /// A procedure of a version of a program. Any credential and verifier serve.
+    /// A procedure of a version of a program. Any credential and verifier are accepted.
     Procedure {
         /// The program's number.
         program: u32,
@@ -30,21 +30,21 @@ pub enum Asked<'a> {
         version: u32,
         /// The procedure's number.
         procedure: u32,
-        /// All that stands behind the header.
+        /// All bytes after the header.
         arguments: &'a [u8],
     },
 }
 
-/// What a call asks of the program that it names.
+/// A call's request to the program that it names.
 #[derive(Clone, Copy, Debug)]
 pub struct Request<'a> {
     /// The procedure's number.
     pub procedure: u32,
-    /// All that stands behind the call's header.
+    /// All bytes after the call's header.
     pub arguments: &'a [u8],
 }
 
-// What every call begins with.
+// The beginning of every call.
 #[derive(Clone, Copy)]
 struct Beginning {
     xid: u32,
@@ -68,9 +68,9 @@ struct Target<'a> {
     verifier: Auth<'a>,
 }
 
-/// The call that a record's bytes are (RFC 5531, section 9), lent from them, or `None` where they
-/// are none: the header is cut short, is not a call's, or has a credential or a verifier of more
-/// than 400 bytes or with padding other than zeros.
+/// The call of a record's bytes (RFC 5531, section 9), lent from them. `None` if they are none: the
+/// header is cut short, is not a call's, or has a credential or a verifier of more than 400 bytes
+/// or with padding other than zeros.
 pub fn read_call(bytes: &[u8]) -> Option<Call<'_>>
     ensures reading { ReadsCall bytes.now result }
     ensures found { IfSome result (λ call. IsCall bytes.now (message_of call)) }
@@ -80,9 +80,13 @@ pub fn read_call(bytes: &[u8]) -> Option<Call<'_>>
 }
 
 impl<'a> Call<'a> {
-    /// What the call asks of a program that is served in one version, or why it is refused: it is
-    /// in another version of RPC, it asks another program, or another version of this one. The
-    /// first of these that holds is answered.
+    /// The request of the call to a program that is served in one version.
+    ///
+    /// # Errors
+    /// The first that holds is answered. Nothing is done.
+    /// - The call is in another version of RPC.
+    /// - It asks for another program.
+    /// - It asks for another version of this program.
     pub fn request(&self, program: u32, version: u32) -> Result<Request<'a>, CallRefused>
         ensures exact { request_of result ≡ routed program version (asked_of self.now.asked) }
         ensures cases { Routes program version (asked_of self.now.asked) result }

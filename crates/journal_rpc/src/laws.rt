@@ -1,4 +1,4 @@
-// What holds of every stream, call and reply.
+// Laws of every stream, call and reply.
 ghost use Rattle.std.specs.Prelude.{◌≡◌, ℕ, ◌<◌, ◌≤◌, List, [], ◌∷◌, ◌++◌, length, slice_index};
 ghost use Rattle.journal_rpc.specs.Stream.{Stream, fresh, record_limit, after};
 ghost use Rattle.journal_xdr.specs.Items.{IsGrammar};

@@ -1,22 +1,22 @@
-// What comes next on a stream.
+// The next part of a stream.
 
-/// What comes next on a stream: a byte of a fragment's header, of which there are four, or of its
+/// The next part of a stream: a byte of a fragment's header, of which there are four, or of its
 /// body.
 #[derive(Clone, Copy, Debug)]
 pub enum Part {
     /// The first byte of a header.
     Start,
-    /// The second, behind this one.
+    /// The second, after this one.
     First(u8),
-    /// The third, behind these.
+    /// The third, after these.
     Second(u8, u8),
-    /// The fourth, behind these.
+    /// The fourth, after these.
     Third(u8, u8, u8),
-    /// A body's bytes, of which so many are still to come.
+    /// A body's bytes, of which `left` are still to come.
     Body {
-        /// Whether the fragment is its record's last.
+        /// True if the fragment is its record's last.
         last: bool,
-        /// How many bytes are to come: at least one.
+        /// The number of bytes that are to come: at least one.
         left: usize,
     },
     /// Nothing more: a header took a record above the limit.

@@ -3,13 +3,13 @@
 /// The bit of a fragment's header that marks the last of a record (section 11).
 pub const LAST_FRAGMENT: u32 = 1 << 31;
 
-/// How many bytes a fragment's header has.
+/// The number of bytes of a fragment's header.
 pub const HEADER_BYTES: usize = 4;
 
 /// The most bytes of a record that is read, its fragments together.
 pub const RECORD_BYTES: usize = 16384;
 
-/// So many complete records wait at most: no more of a piece is taken then, so that records take
+/// The most complete records that wait. No more of a piece is taken then, so that records take
 /// little memory however short they are.
 pub const WAITING_RECORDS: usize = 1024;
 
@@ -37,7 +37,7 @@ pub const AUTH_NONE: u32 = 0;
 /// The most bytes of a credential or a verifier.
 pub const AUTH_BYTES: u32 = 400;
 
-/// What became of a call that is accepted, with its number.
+/// The result of a call that is accepted, with its number.
 #[derive(Clone, Copy, Debug)]
 pub enum AcceptStatus {
     Success = 0,

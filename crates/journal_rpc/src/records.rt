@@ -42,14 +42,14 @@ pub enum FeedRefused {
     /// A growth was refused. Nothing has changed, and the piece may be fed again.
     #[error("no memory")]
     NoMemory,
-    /// A header took a record above `RECORD_BYTES`. The records before it stand, and no further
-    /// piece changes anything: each is refused so.
+    /// A header took a record above `RECORD_BYTES`. The records before it stay, and no further
+    /// piece changes anything: each is refused in the same way.
     #[error("a record is too long")]
     TooLong,
 }
 
-/// The records of a stream that comes in pieces (RFC 5531, section 11). Contracts see what has come
-/// of it: the records that are complete, and what has come of the next.
+/// The records of a stream that comes in pieces (RFC 5531, section 11). Contracts see the complete
+/// records, and the bytes of the next one.
 #[derive(Drop)]
 pub struct Records {
     alloc: Global,
@@ -71,7 +71,7 @@ impl Model for Records {
 }
 
 impl Records {
-    /// A stream of which nothing has come. It takes no memory.
+    /// A stream of which nothing has come. The call takes no memory.
     pub fn new(alloc: Global) -> Records
         ensures { result ≡ fresh }
     {
@@ -83,7 +83,7 @@ impl Records {
         }
     }
 
-    /// Takes the next record, or answers `None` where none is complete.
+    /// Takes the next record. `None` if none is complete.
     pub fn next(&mut self) -> Option<Record>
         ensures { MatchOption result ((self.old.records ≡ []) × (self.new ≡ self.old))
             (λ first. self.old ≡ record self.new { records = first ∷ self.new.records }) }
@@ -91,7 +91,7 @@ impl Records {
         self.waiting.pop_front()
     }
 
-    /// Whether nothing has come of a record that is not complete: the stream may end here.
+    /// True if no byte of an incomplete record has come: the stream may end here.
     pub fn is_between(&self) -> bool
         ensures { MatchBool result (IsBetween self.now) (IsBetween self.now → ⊥) }
     {
@@ -101,16 +101,18 @@ impl Records {
         }
     }
 
-    /// Takes the next piece of the stream, up to where `WAITING_RECORDS` records wait, and answers
-    /// how many bytes it took. What has come is then what would have come with these in one piece.
+    /// Takes the next piece of the stream, up to the byte at which `WAITING_RECORDS` records wait,
+    /// and answers how many bytes it took. The cutting into pieces makes no difference.
     ///
-    /// Where growing is refused nothing has changed. Where a header takes a record above
-    /// `RECORD_BYTES` the records before it have come, and it stays so.
+    /// # Errors
+    /// - `NoMemory`: memory is refused. Nothing has changed, and the piece may be fed again.
+    /// - `TooLong`: a header takes a record above `RECORD_BYTES`. The records before it have come,
+    ///   and each later piece is refused too.
     pub fn feed(&mut self, piece: &[u8]) -> Result<usize, FeedRefused>
         ensures ok { IfOk result (λ taken. (taken ≤ length piece.now)
             × (self.new ≡ after self.old (take taken piece.now)) × (self.new.part ≢ TooLong)) }
 
-        // It takes all, or so many records wait.
+        // It takes all, or this many records wait.
         ensures all { IfOk result (λ taken. taken < length piece.now → waiting_limit ≤ length self.new.records) }
 
         // No more of them wait, however short they are.
@@ -119,8 +121,8 @@ impl Records {
         ensures too_long { IsErrOf result FeedRefused.TooLong
             → (self.new ≡ after self.old piece.now) × (self.new.part ≡ TooLong) }
 
-        // Where the bytes so far were the spellings of what had come, they are with those that were
-        // taken too.
+        // If the bytes so far were the spellings of the records, so they are with the bytes that
+        // were taken.
         ensures spelled { result ≢ Err FeedRefused.NoMemory → (bytes : List ℕ) → SpellsStream bytes self.old
             → SpellsStream (bytes ++ front_taken result piece.now) self.new }
     {
@@ -135,7 +137,8 @@ impl Records {
         }
     }
 
-    // Takes the piece up to where enough records wait, and answers how many bytes it took.
+    // Takes the piece up to the byte at which enough records wait, and answers how many bytes it
+    // took.
     fn take_in(&mut self, piece: &[u8]) -> Result<usize, AllocError>
         ensures ok { IfOk result (λ taken. (taken ≤ length piece.now)
             × (self.new ≡ after self.old (take taken piece.now))) }
@@ -208,8 +211,8 @@ impl Records {
         } else if left == 0 {
             self.end_fragment(last)?;
         } else {
-            // All of the fragment gets room at once. What may come behind it gets none yet, so that
-            // a record of many small fragments takes no more memory than it has bytes.
+            // All of the fragment gets room at once. Later fragments get none yet, so that a record
+            // of many small fragments takes no more memory than it has bytes.
             self.begun.reserve(left)?;
             self.part = Part::Body { last, left };
         }
@@ -231,7 +234,7 @@ impl Records {
         Ok(())
     }
 
-    // Takes what has come since back.
+    // Undoes all that has come since.
     fn go_back(&mut self, records: usize, bytes: usize, part: Part)
         requires { HasMore part }
         ensures { (old : Stream) → length old.records ≡ records → length old.begun ≡ bytes → old.part ≡ part

@@ -34,7 +34,7 @@ pub enum CallRefused {
     GarbageArguments,
 }
 
-/// What a procedure answers: items that stand behind the header of a reply.
+/// The results of a procedure: the items after the header of a reply.
 pub trait Results {
     // How they are spelled.
     ghost spelling: { Self → List ℕ };
@@ -56,7 +56,10 @@ impl Results for () {
 /// The reply to the call with this number (RFC 5531, section 9): its results, or why it is refused.
 /// It is a record of one fragment, with its header.
 ///
-/// The reply is written in one buffer, for which `room` bytes are reserved; a longer one grows it.
+/// The reply is written in one buffer, for which `room` bytes are reserved. A longer one grows it.
+///
+/// # Errors
+/// - Memory is refused. Nothing was made.
 pub fn write_reply<R: Results>(
     alloc: Global,
     xid: u32,
@@ -75,7 +78,7 @@ pub fn write_reply<R: Results>(
     Ok(writer.into_bytes())
 }
 
-// Writes all that stands behind the record's header.
+// Writes all after the record's header.
 fn write_message<R: Results>(
     writer: &mut Writer,
     xid: u32,
@@ -93,7 +96,7 @@ fn write_message<R: Results>(
     }
 }
 
-// Writes what stands behind the number of a call that is refused.
+// Writes the rest of a refusal, after the call's number.
 fn write_refusal(writer: &mut Writer, refusal: CallRefused) -> Result<(), AllocError>
     ensures { OnOk result (writer.new ≡ writer.old ++ words (why refusal)) }
 {
@@ -114,15 +117,15 @@ fn write_refusal(writer: &mut Writer, refusal: CallRefused) -> Result<(), AllocE
     }
 }
 
-// Writes what stands behind the number of a call that is accepted: a verifier of no bytes, and the
-// status.
+// Writes the rest of an accepted call's reply, after the call's number: a verifier of no bytes, and
+// the status.
 fn write_accepted(writer: &mut Writer, status: AcceptStatus) -> Result<(), AllocError>
     ensures { OnOk result (writer.new ≡ writer.old ++ words (accepted (accept_number status))) }
 {
     write_words(writer, &[REPLY, ACCEPTED, AUTH_NONE, 0, status as u32])
 }
 
-// Writes integers one behind another.
+// Writes integers one after another.
 fn write_words(writer: &mut Writer, numbers: &[u32]) -> Result<(), AllocError>
     ensures { OnOk result (writer.new ≡ writer.old ++ words numbers.now) }
 {

@@ -1,4 +1,4 @@
-// What a line is answered.
+// The answer to a line.
 ghost use Rattle.std.specs.Prelude.{◌≡◌, ◌++◌, ◌∷◌, [], codes, OnOk};
 ghost use Rattle.std.specs.List.{flat_map};
 ghost use Rattle.std.specs.Fmt.{decimal};
@@ -13,22 +13,22 @@ use journal_world::{Refusal, Value};
 use std::io;
 use std::io::Write;
 
-/// What a line is answered.
+/// The answer to a line.
 #[derive(Drop)]
 pub enum Answer {
     /// It was done.
     Done,
     /// The bytes that were asked for.
     Value(Value),
-    /// It was committed, and there are so many commits now.
+    /// It was committed, and there are this many commits now.
     Committed(u64),
     /// There is none to commit or to give up.
     NoTransaction,
-    /// So many commits are marked as stable.
+    /// This many commits are marked as stable.
     Stable(u64),
-    /// So many steps of the logger moved.
+    /// This many steps of the logger moved.
     Logged(u64),
-    /// So many steps of the installer moved.
+    /// This many steps of the installer moved.
     Installed(u64),
     /// The numbers of the journal.
     Stat(Stat),
@@ -49,7 +49,7 @@ pub enum Answer {
 }
 
 impl Answer {
-    /// What a line is answered that says no command.
+    /// The answer to a line that says no command.
     pub fn to_no_command(line: &[u8]) -> Answer
         ensures { result ≡ to_no_command line.now }
     {
@@ -59,7 +59,7 @@ impl Answer {
         }
     }
 
-    /// That it was refused.
+    /// The answer that it was refused.
     pub fn refused<C: Drop>(why: Refusal<C>) -> Answer
         ensures { Refuses why result }
     {
@@ -67,6 +67,9 @@ impl Answer {
     }
 
     /// Prints the answer's line.
+    ///
+    /// # Errors
+    /// - The output fails. Part of the line may be printed.
     pub fn print<O: Write>(&self, output: &mut O) -> io::Result<()>
         ensures { OnOk result (Appends (O.contents output.old) (O.contents output.new) (answer_line self.now)) }
     {

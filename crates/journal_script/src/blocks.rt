@@ -9,6 +9,9 @@ use journal_world::{Refusal, Value};
 use std::alloc::Global;
 
 /// Bytes of a block.
+///
+/// # Errors
+/// - `J1 NoMemory`: memory is refused. Nothing changed.
 pub fn bytes_of<C>(alloc: Global, block: &Block, at: u32, len: u32) -> Result<Value, Refusal<C>>
     requires inside { at + len ≤ 4096 }
     ensures bytes { IfOk result (λ value. value ≡ slice_range block.now at (at + len)) }
@@ -19,7 +22,12 @@ pub fn bytes_of<C>(alloc: Global, block: &Block, at: u32, len: u32) -> Result<Va
     Ok(Value::new(block.as_bytes()[start..end].to_vec(alloc)?))
 }
 
-/// Overwrites bytes of a block, at once stable. After an error the write may be pending.
+/// Overwrites bytes of a block, at once stable.
+///
+/// # Errors
+/// The write may be pending.
+/// - `J1 NoMemory`: memory is refused.
+/// - `J6 DeviceFailed`: the device fails.
 pub fn overwrite(
     alloc: Global,
     disk: &mut MemDisk,
@@ -56,7 +64,7 @@ fn write(disk: &mut MemDisk, block: u64, bytes: &Block) -> Result<(), Refusal<()
     }
 }
 
-// Makes what was written stable.
+// Makes the write stable.
 fn sync(disk: &mut MemDisk) -> Result<(), Refusal<()>>
     ensures size { disk.new.past.size ≡ disk.old.past.size }
     ensures synced { OnOk result (disk.new.past ≡ past_after barrier disk.old.past) }

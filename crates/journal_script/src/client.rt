@@ -24,7 +24,7 @@ use std::sync::Wait;
 /// A journal that admits every map.
 pub type Mount<'b, J> = Journal<'b, MemDisk, AnyMap, J>;
 
-// What a journal answers, or why it refuses.
+// The answer of a journal, or why it refuses.
 type Answered<'b, J> = Result<Answer, JournalRefusal<'b, J, AnyMap>>;
 
 /// How the journal is to end.
@@ -59,7 +59,10 @@ impl<'j, 'b, J: Naming> Model for Client<'j, 'b, J> {
 }
 
 impl<'j, 'b, J: Naming> Client<'j, 'b, J> {
-    /// A client of a journal over so many blocks, with no transaction open.
+    /// A client of a journal over `blocks` blocks, with no transaction open.
+    ///
+    /// # Errors
+    /// - `J11 Worn`: the journal has no number for its session.
     pub fn new<W: Wait>(
         rt: &W,
         alloc: Global,
@@ -86,7 +89,7 @@ impl<'j, 'b, J: Naming> Client<'j, 'b, J> {
         let _blocks = self.blocks;
     }
 
-    /// Does what the line says, and answers it, or tells how the journal is to end.
+    /// Obeys the line and answers it, or returns how the journal has to end.
     pub fn answer<W: Wait>(
         &mut self,
         rt: &W,
@@ -101,7 +104,7 @@ impl<'j, 'b, J: Naming> Client<'j, 'b, J> {
         }
     }
 
-    // Does what the command says, likewise.
+    // Obeys the command, likewise.
     fn obey<W: Wait>(&mut self, rt: &W, command: Command<'_>) -> ControlFlow<Crash, Answer>
         requires inside { IsInside command }
         ensures { Replies J.layout self.old command.entry result self.new }
@@ -126,7 +129,7 @@ impl<'j, 'b, J: Naming> Client<'j, 'b, J> {
         }
     }
 
-    /// Gives the open transaction up, if there is one, and the session back.
+    /// Aborts the open transaction, if there is one, and gives the session back.
     pub fn end<W: Wait>(self, rt: &W) -> Session<'b, J, AnyMap>
         ensures { result ≡ self.entry.session }
     {
@@ -323,7 +326,7 @@ fn ends<C: Drop>(crash: Result<Crash, Refusal<C>>) -> ControlFlow<Crash, Answer>
     }
 }
 
-// At most so many steps, or until there is nothing to do.
+// At most this many steps, or until there is nothing to do.
 fn steps_of(most: Option<u32>) -> u64
     ensures { result ≡ most_of most }
 {

@@ -1,4 +1,4 @@
-// The input of a script, and what is printed.
+// The input of a script, and the output of its answers.
 ghost use Rattle.std.specs.Prelude.{◌≡◌, false, OnOk, IfOk};
 ghost use Rattle.journal_script.specs.Transcripts.{streams, TakesLineOrEnd, Prints};
 
@@ -9,15 +9,15 @@ use std::alloc::Global;
 use std::io::{Read, Write};
 use std::marker::Model;
 
-/// The input of a script, with all the memory that its lines share. What is printed goes to the
-/// output that each call is lent.
+/// The input of a script, with all the memory that its lines share. Answers go to the output that
+/// each call is lent.
 ///
-/// Contracts see what is left of the input, where it is known, the line that was read last, and
-/// whether some line was bad.
+/// Contracts see the bytes that are left of the input, if they are known, the line that was read
+/// last, and whether some line was bad.
 #[derive(Drop)]
 pub struct Console<I: Read> {
     pub lines: Lines<I>,
-    /// For what a line spells.
+    /// Room for the values of a line.
     pub room: Room,
     some_bad: bool,
 }
@@ -36,6 +36,9 @@ impl<I: Read> Model for Console<I> {
 
 impl<I: Read + Drop> Console<I> {
     /// Takes the memory.
+    ///
+    /// # Errors
+    /// - Memory is refused. The input is dropped.
     pub fn new(alloc: Global, input: I) -> Result<Console<I>, ScriptFault>
         ensures left { IfOk result (λ console. console.left ≡ I.remaining input) }
         ensures bad { IfOk result (λ console. console.bad ≡ false) }
@@ -47,8 +50,12 @@ impl<I: Read + Drop> Console<I> {
         })
     }
 
-    /// Reads the next line. `false` at the end of the input. Where the line is not at hand, what
-    /// was printed is written out first, since the writer of the input may wait for that answer.
+    /// Reads the next line. False at the end of the input. If the line is not at hand, the answers
+    /// so far are written out first, because the writer of the input may wait for them.
+    ///
+    /// # Errors
+    /// - `CannotRead`: the input fails.
+    /// - `CannotWrite`: the output fails.
     pub fn advance<O: Write>(&mut self, output: &mut O) -> Result<bool, ScriptFault>
         ensures { IfOk result (TakesLineOrEnd (streams self.old (O.contents output.old)) (streams self.new (O.contents output.new))) }
     {
@@ -59,6 +66,9 @@ impl<I: Read + Drop> Console<I> {
     }
 
     /// Prints an answer.
+    ///
+    /// # Errors
+    /// - `CannotWrite`: the output fails. Part of the line may be printed.
     pub fn print<O: Write>(&mut self, answer: &Answer, output: &mut O) -> Result<(), ScriptFault>
         ensures { OnOk result (Prints answer.now (streams self.old (O.contents output.old)) (streams self.new (O.contents output.new))) }
     {
@@ -68,7 +78,7 @@ impl<I: Read + Drop> Console<I> {
         answer.print(output).map_err(|_| ScriptFault::CannotWrite)
     }
 
-    /// Whether some line was bad.
+    /// True if some line was bad.
     pub fn some_bad(&self) -> bool
         ensures { result ≡ self.now.bad }
     {

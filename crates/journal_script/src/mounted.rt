@@ -20,16 +20,21 @@ use std::marker::Brand;
 use std::ops::ControlFlow;
 use std::sync::Wait;
 
-/// Who opens a disk.
+/// The cause of an opening.
 #[derive(Clone, Copy)]
 pub enum Opening {
     /// The program, before the first line: a refusal ends the program.
     First,
-    /// The line that was read last, which is answered by what comes of it.
+    /// The line that was read last, which the result of the opening answers.
     Asked,
 }
 
 /// Opens the disk, with a history of its own, and answers lines until it is down.
+///
+/// # Errors
+/// - `Refused`: the first opening is refused, or the closing.
+/// - `CannotRead`: the input fails.
+/// - `CannotWrite`: the output fails.
 pub fn run<W: Wait, I: Read + Drop, O: Write>(
     rt: &W,
     alloc: Global,
@@ -72,7 +77,7 @@ fn mount<J: Naming, W: Wait, I: Read + Drop, O: Write>(
     }
 }
 
-// Answers that the disk is not opened, where a line asked for it.
+// Answers that the disk is not opened, if a line asked for it.
 fn refuse<C: Drop, I: Read + Drop, O: Write>(
     why: Refusal<C>,
     disk: MemDisk,
@@ -140,7 +145,7 @@ fn next_after(crash: Option<Crash>, disk: MemDisk) -> Next
     }
 }
 
-// Answers the line that asked for the opening, where one did, and then lines in a session that is
+// Answers the line that asked for the opening, if one did, and then lines in a session that is
 // given back. `None` at the end of the input.
 fn answer_lines<'b, J: Naming, W: Wait, I: Read + Drop, O: Write>(
     rt: &W,
@@ -164,7 +169,7 @@ fn answer_lines<'b, J: Naming, W: Wait, I: Read + Drop, O: Write>(
     Ok((crash?, session))
 }
 
-// Answers the line that asked for the opening, where one did.
+// Answers the line that asked for the opening, if one did.
 fn answer_opening<I: Read + Drop, O: Write>(
     opening: Opening,
     console: &mut Console<I>,

@@ -28,10 +28,15 @@ pub enum Next {
     End,
 }
 
-/// Answers the lines of the input, over a new disk of so many blocks, and tells whether some line
-/// was bad.
+/// Answers the lines of the input, over a new disk of `blocks` blocks. True if some line was bad.
 ///
-/// What was answered is written out as soon as no further line is at hand.
+/// Answers are written out as soon as no further line is at hand.
+///
+/// # Errors
+/// The disk is gone, and part of the answers may be printed.
+/// - `Refused`: the first opening is refused, or the closing.
+/// - `CannotRead`: the input fails.
+/// - `CannotWrite`: the output fails.
 pub fn run<W: Wait, I: Read, O: Write>(
     rt: &W,
     alloc: Global,
@@ -41,8 +46,8 @@ pub fn run<W: Wait, I: Read, O: Write>(
 ) -> Result<bool, ScriptFault>
     requires { IsSize blocks }
 
-    // The output gained the answers of all lines of the input, in order, of which some is a bad
-    // line exactly where it says so. Where it is given up, nothing is said of what was printed.
+    // The output gained the answers of all lines of the input, in order. The result is true exactly
+    // if one of them is a bad line. After an error the output is not specified.
     ensures { Runs (I.remaining input.old) (O.contents output.old) (O.contents output.new) result }
 {
     let mut console = Console::new(alloc, input)?;

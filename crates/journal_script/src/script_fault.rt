@@ -6,7 +6,7 @@ use std::alloc::AllocError;
 /// Why not all lines of a script were read and answered.
 #[derive(Debug, Drop)]
 pub enum ScriptFault {
-    /// What comes before the first line was refused, or what comes after the last.
+    /// The opening before the first line was refused, or the closing after the last.
     Refused(Refusal<()>),
     /// The input failed.
     CannotRead,

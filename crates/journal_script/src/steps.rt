@@ -8,16 +8,20 @@ use journal_twophase::{Journal, JournalRefusal};
 use journal_world::{AnyMap, Step};
 use std::sync::Wait;
 
-/// Who makes steps.
+/// The actor of the steps.
 #[derive(Clone, Copy)]
 pub enum Actor {
     Logger,
     Installer,
-    /// The logger, or the installer where that one is idle, until all commits are marked as stable.
+    /// The logger, or the installer if that one is idle, until all commits are marked as stable.
     Waiter,
 }
 
-/// Steps of the actor until it has nothing to do, at most so many. Answers how many moved.
+/// Makes steps of the actor until it has nothing to do, at most `most`. Answers how many of them
+/// moved.
+///
+/// # Errors
+/// - The refusal of a step. The steps before it are made.
 pub fn drive<'b, J: Naming, W: Wait>(
     rt: &W,
     journal: &Journal<'b, MemDisk, AnyMap, J>,
@@ -50,8 +54,8 @@ fn step<'b, J: Naming, W: Wait>(
     }
 }
 
-// The logger's next step where not all commits are marked, or the installer's where that one waits
-// for a place in the log.
+// The logger's next step if not all commits are marked, or the installer's if the logger waits for
+// room in the log.
 fn wait_step<'b, J: Naming, W: Wait>(
     rt: &W,
     journal: &Journal<'b, MemDisk, AnyMap, J>,

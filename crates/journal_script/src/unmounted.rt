@@ -18,6 +18,10 @@ use std::alloc::Global;
 use std::io::{Read, Write};
 
 /// Answers line after line, until one opens the disk, on which nothing is pending.
+///
+/// # Errors
+/// - `CannotRead`: the input fails.
+/// - `CannotWrite`: the output fails.
 pub fn run<I: Read + Drop, O: Write>(
     alloc: Global,
     disk: MemDisk,

@@ -35,14 +35,27 @@ pub fn check<R: Files<File = File> + Wait, O: Write, E: Write>(
     output: &mut O,
     faults: &mut E,
 ) -> Result<(), ServiceFault> {
-    let opened = match open_to_check(rt, alloc, path, faults) {
-        Ok(opened) => opened,
-        Err(why) => return Err(ServiceFault::unopened(why)),
-    };
-    match count_in::<VersionTwo, R>(rt, alloc, opened.disk)? {
+    match open_to_check(rt, alloc, path, faults) {
+        Ok(opened) => check_disk(rt, alloc, opened.disk, output),
+        Err(why) => Err(ServiceFault::unopened(why)),
+    }
+}
+
+/// Mounts the disk, and prints that it is sound, its version and how many files it has. The files
+/// are not changed, and nothing is written to the disk.
+///
+/// Refused as a mount is: J7 `BadLog` where its log is not well formed, J8 `BadSuper` where its
+/// files are sound in no version.
+pub fn check_disk<W: Wait, O: Write>(
+    rt: &W,
+    alloc: Global,
+    disk: Settled,
+    output: &mut O,
+) -> Result<(), ServiceFault> {
+    match count_in::<VersionTwo, W>(rt, alloc, disk)? {
         Tried::Sound(files) => print_line(output, "sound version 2 files", files),
         Tried::Other(disk) => {
-            let files = count_in::<VersionOne, R>(rt, alloc, disk)?.sound()?;
+            let files = count_in::<VersionOne, W>(rt, alloc, disk)?.sound()?;
             print_line(output, "sound version 1 files", files)
         }
     }

@@ -7,8 +7,8 @@ use std::io;
 /// Why a disk was not made in a file, or not served to the end.
 #[derive(Debug, Drop)]
 pub enum ServiceFault {
-    /// The file could not be made, opened, read to its end, or made stable.
-    BadFile,
+    /// The file could not be made, opened, read to its end, or made stable, for the system's reason.
+    File(io::Error),
     /// The port is not to be had, or the system refused a connection.
     CannotListen,
     /// The label of the disk is not that of the file.
@@ -28,7 +28,7 @@ impl ServiceFault {
     /// refusal.
     pub(crate) fn unopened(why: OpenFault) -> ServiceFault {
         match why {
-            OpenFault::File(_) => ServiceFault::BadFile,
+            OpenFault::File(why) => ServiceFault::File(why),
             OpenFault::NoDisk { .. } => ServiceFault::Refused(Refusal::BadSuper),
             OpenFault::Label(why) => ServiceFault::Label(why),
             OpenFault::Device(why) => ServiceFault::Device(why),

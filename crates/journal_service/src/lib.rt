@@ -1,12 +1,14 @@
 //! The file service: disks in files, and the files of such a disk over TCP.
 //!
-//! `format` makes a disk of version 2 without files in a file, and `check` tells whether a disk is
-//! sound, and of which version. `migrate` makes one of version 1 one of version 2. `serve` mounts a
+//! `format` makes a disk of version 2 without files in a file, and `make` one with a sealed log and a
+//! label in a new file. `check` tells whether a disk is sound, and of which version. `migrate` makes
+//! one of version 1 one of version 2. `serve` mounts a
 //! disk of either version, runs the logger and the installer beside the workers, and answers the
 //! connections that come to a port of this machine. It ends by a flush, a stop, a close and a
 //! barrier, so that all commits are stable in the file then. `export` does the same by other
 //! programs than the nine procedures, for example by NFS and MOUNT, and at any address. It ends
-//! where its device fails, while `serve` answers each call by IO from then on.
+//! where a client asks for it by its `Control`, and where its device fails, while `serve` answers
+//! each call by IO from then on.
 //!
 //! A disk is mounted under the rule of version 2, and where that refuses it by J8 `BadSuper` under
 //! the rule of version 1: each with a book of its own, since a book is of one rule.
@@ -15,8 +17,10 @@
 //! was written to it.
 #![tactic(auto)]
 
+mod attending;
 mod checking;
 mod clock;
+mod control;
 mod fault;
 mod file;
 mod migrating;
@@ -24,8 +28,9 @@ mod mounting;
 mod printing;
 mod serving;
 
-pub use checking::check;
+pub use checking::{check, check_disk};
+pub use control::{Control, FAILED, STOP, STOPPED};
 pub use fault::ServiceFault;
-pub use file::format;
-pub use migrating::migrate;
+pub use file::{format, make};
+pub use migrating::{migrate, migrate_disk};
 pub use serving::{Endpoint, Service, export, serve};

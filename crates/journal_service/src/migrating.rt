@@ -10,7 +10,7 @@ use journal_history::{Book, Naming};
 use journal_inode::FormatVersion;
 use journal_lockmap::SlotCell;
 use journal_migrate::EitherVersion;
-use journal_program::SizedDisk;
+use journal_program::{Settled, SizedDisk};
 use journal_world::Refused;
 use std::alloc::Global;
 use std::fs::{File, Files};
@@ -30,10 +30,24 @@ pub fn migrate<R: Files<File = File> + Wait, O: Write>(
     path: &str,
     output: &mut O,
 ) -> Result<(), ServiceFault> {
-    let disk = file::open(rt, alloc, path)?;
+    migrate_disk(rt, alloc, file::open(rt, alloc, path)?, output)
+}
+
+/// Makes the disk one of version 2, with the same files, gives it up, and prints its version then.
+/// To a disk of version 2 nothing is done.
+///
+/// Refused as `check_disk` is, and by J11 `Worn` where the positions of its log are used up.
+/// Whatever the refusal, and whenever the system stops, the disk has the same files, in version 1 or
+/// in version 2.
+pub fn migrate_disk<W: Wait, O: Write>(
+    rt: &W,
+    alloc: Global,
+    disk: Settled,
+    output: &mut O,
+) -> Result<(), ServiceFault> {
     let book: Book<EitherVersion> = Book::open::<()>().unwrap();
     let cell = slot_cell(alloc)?;
-    let disk = migrated::<Brand, R>(rt, alloc, &book, cell, disk.disk())?;
+    let disk = migrated::<Brand, W>(rt, alloc, &book, cell, disk.disk())?;
     give_up(
         file::settled(disk)?,
         output,

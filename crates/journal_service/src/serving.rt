@@ -2,7 +2,9 @@
 ghost use Rattle.std.specs.Prelude.{◌≡◌};
 ghost use Rattle.journal_world.specs.Files.{files};
 
+use crate::attending::{Attendant, Ending};
 use crate::clock::{WallClock, verifier_of};
+use crate::control::Control;
 use crate::fault::ServiceFault;
 use crate::mounting::{Tried, mount, slot_cell};
 use crate::printing::{give_up, print_line};
@@ -13,10 +15,8 @@ use journal_filestore::FileStore;
 use journal_history::{Book, Naming};
 use journal_inode::{SoundFiles, Version, VersionOne, VersionTwo};
 use journal_lockmap::SlotCell;
-use journal_program::{Daemon, Settled, SizedDisk};
-use journal_server::{
-    Listening, NineProcedures, Programs, Protocol, WaitingConnections, serve_all_by,
-};
+use journal_program::{Settled, SizedDisk};
+use journal_server::{Listening, NineProcedures, Programs, Protocol, serve_all_by};
 use journal_world::{Layout, Refusal, Refused};
 use std::alloc::Global;
 use std::fs::{File, Files};
@@ -49,17 +49,21 @@ pub struct Endpoint {
     pub port: u16,
 }
 
-// Where connections come from, and how many are served.
+// Where connections come from, how many are served, and how the service ends else.
 #[derive(Clone, Copy)]
-struct Plan {
+struct Plan<'c> {
     address: Ipv4Addr,
     port: u16,
     connections: u64,
+    ending: Ending<'c>,
 }
 
-/// Serves the files of the disk, of either version, by the programs `P`, until the program is
-/// ended. It prints the port before the first connection is taken. Else it does as `serve`, and is
-/// refused as that is.
+/// Serves the files of the disk, of either version, by the programs `P`, until a client asks for its
+/// end by the control, if there is one. It prints the port before the first connection is taken.
+/// When it has ended all is stable, and the disk is closed and unlocked.
+///
+/// Where the device fails, the calls under way are answered, and it ends by `DeviceFailed`. Else it
+/// is refused as `serve` is.
 pub fn export<
     P: Programs + Protocol<VersionTwo> + Protocol<VersionOne> + Sync + Drop,
     R: Files<File = File>
@@ -75,6 +79,7 @@ pub fn export<
     alloc: Global,
     disk: Settled,
     endpoint: Endpoint,
+    control: Option<&Control>,
     output: &mut O,
     faults: &mut E,
 ) -> Result<(), ServiceFault> {
@@ -83,8 +88,13 @@ pub fn export<
         address,
         port,
         connections: u64::MAX,
+        ending: Ending::Asked(control),
     };
-    carry_out::<P, R, O, E>(rt, alloc, disk, plan, output, faults)
+    let disk = carry_out::<P, R, O, E>(rt, alloc, disk, plan, output, faults)?;
+    match Settled::by_barrier(disk) {
+        Ok(_) => Ok(()),
+        Err(disk) => Err(ServiceFault::Refused(Refusal::DeviceFailed(())).or_of_device(disk)),
+    }
 }
 
 /// Serves the files of the disk in the file, of either version, and prints the port before the
@@ -118,12 +128,14 @@ pub fn serve<
         address: Ipv4Addr::LOCALHOST,
         port,
         connections,
+        ending: Ending::ByConnections,
     };
     let disk = file::open(rt, alloc, path)?;
-    carry_out::<NineProcedures, R, O, E>(rt, alloc, disk, plan, output, faults)
+    let disk = carry_out::<NineProcedures, R, O, E>(rt, alloc, disk, plan, output, faults)?;
+    give_up(file::settled(disk)?, output, "served", connections)
 }
 
-// Serves the files of the disk as planned, and gives it up.
+// Serves the files of the disk as planned.
 fn carry_out<
     P: Programs + Protocol<VersionTwo> + Protocol<VersionOne> + Sync + Drop,
     R: Files<File = File>
@@ -138,17 +150,16 @@ fn carry_out<
     rt: &R,
     alloc: Global,
     disk: Settled,
-    plan: Plan,
+    plan: Plan<'_>,
     output: &mut O,
     faults: &mut E,
-) -> Result<(), ServiceFault> {
-    let disk = match serve_in::<P, VersionTwo, R, O, E>(rt, alloc, disk, plan, output, faults)? {
-        Tried::Sound(disk) => disk,
+) -> Result<SizedDisk, ServiceFault> {
+    match serve_in::<P, VersionTwo, R, O, E>(rt, alloc, disk, plan, output, faults)? {
+        Tried::Sound(disk) => Ok(disk),
         Tried::Other(disk) => {
-            serve_in::<P, VersionOne, R, O, E>(rt, alloc, disk, plan, output, faults)?.sound()?
+            serve_in::<P, VersionOne, R, O, E>(rt, alloc, disk, plan, output, faults)?.sound()
         }
-    };
-    give_up(file::settled(disk)?, output, "served", plan.connections)
+    }
 }
 
 // Serves the files of the disk, where they are sound in a version, and gives it up.
@@ -162,7 +173,7 @@ fn serve_in<
     rt: &R,
     alloc: Global,
     settled: Settled,
-    plan: Plan,
+    plan: Plan<'_>,
     output: &mut O,
     faults: &mut E,
 ) -> Result<Tried<SizedDisk>, ServiceFault> {
@@ -195,7 +206,7 @@ fn serve_mounted<
     book: &Book<SoundFiles<V>>,
     cell: SlotCell,
     disk: SizedDisk,
-    plan: Plan,
+    plan: Plan<'_>,
     output: &mut O,
     faults: &mut E,
 ) -> Result<Tried<SizedDisk>, ServiceFault>
@@ -217,11 +228,22 @@ fn serve_mounted<
     match (served, closed) {
         (Err(fault), Ok(disk)) => Err(fault.or_of_device(disk)),
         (Err(fault), Err(_)) => Err(fault),
-        (Ok(()), closed) => Ok(Tried::Sound(closed?)),
+        (Ok(()), closed) => Ok(Tried::Sound(unless_failed(closed?, plan)?)),
     }
 }
 
-// Serves while the daemon runs, and ends it. All commits are stable then.
+// The disk, unless a call of it failed and the service ends by that.
+fn unless_failed(disk: SizedDisk, plan: Plan<'_>) -> Result<SizedDisk, ServiceFault> {
+    match plan.ending {
+        Ending::Asked(_) if disk.failures() > 0 => {
+            Err(ServiceFault::Refused(Refusal::DeviceFailed(())).or_of_device(disk))
+        }
+        _ => Ok(disk),
+    }
+}
+
+// Serves while the daemon runs, and ends it. All commits are stable then. The daemon ends by itself
+// only where the device failed.
 fn serve_beside_daemon<
     'b,
     P: Programs + Protocol<V> + Sync,
@@ -234,18 +256,19 @@ fn serve_beside_daemon<
     alloc: Global,
     files: &FileStore<'b, SizedDisk, J, V>,
     programs: &P,
-    plan: Plan,
+    plan: Plan<'_>,
     output: &mut O,
 ) -> Result<(), ServiceFault> {
-    let daemon = Daemon::new();
+    let attendant = Attendant::new(plan.ending);
     thread::scope(
         thread::scope_env(),
         rt,
         |scope| -> Result<(), ServiceFault> {
-            let runs = scope.spawn(|| daemon.run(rt, files.journal())).is_ok()
-                && daemon.is_running(rt);
+            let runs = scope.spawn(|| attendant.run(rt, files.journal())).is_ok()
+                && attendant.is_running(rt)
+                && (!attendant.has_control() || scope.spawn(|| attendant.await_stop(rt)).is_ok());
             let served = if runs {
-                listen(rt, alloc, files, programs, plan, output)
+                listen(rt, alloc, files, programs, plan, &attendant, output)
             } else {
                 Err(ServiceFault::Refused(Refusal::NoMemory))
             };
@@ -270,7 +293,8 @@ fn listen<
     alloc: Global,
     files: &FileStore<'b, SizedDisk, J, V>,
     programs: &P,
-    plan: Plan,
+    plan: Plan<'_>,
+    attendant: &Attendant<'_>,
     output: &mut O,
 ) -> Result<(), ServiceFault> {
     let Ok(listener) = TcpListener::bind(rt, (plan.address, plan.port)) else {
@@ -279,15 +303,20 @@ fn listen<
     let Ok(there) = listener.local_addr() else {
         return Err(ServiceFault::CannotListen);
     };
+    if attendant.watch(rt, &listener).is_err() {
+        return Err(ServiceFault::CannotListen);
+    }
     print_line(output, "listening", u64::from(there.port()))?;
-    let waiting = WaitingConnections::new();
-    let source = Listening::new(rt, listener, plan.connections, &waiting);
+    if attendant.has_ended() {
+        return Ok(());
+    }
+    let source = Listening::new(rt, listener, plan.connections, &attendant.waiting);
     let clock = WallClock(rt);
     let pool = programs.pool();
     let (served, source) = serve_all_by(
         rt, alloc, source, files, programs, &clock, &OpenGate, pool,
     );
-    if source.has_failed() {
+    if source.has_failed() && !attendant.has_ended() {
         return Err(ServiceFault::CannotListen);
     }
     match served {

@@ -7,7 +7,7 @@ use Rattle.journal_world.specs.declared.layout.TheConstants.{SUPERBLOCK, MAX_LAY
 use Rattle.journal_world.specs.Addresses.{Shape}
 use Rattle.journal_world.specs.Files.{region, no_region}
 
--- The layout of a table: block 513 is the head, then come so many blocks of the free list, whose
+-- The layout of a table: block 513 is the head, then come this many blocks of the free list, whose
 -- objects are bits, and then rows of 64 bytes to the end of the disk. A journal over it has 257
 -- slots
 abbrev pub table_shape : ℕ → ℕ → Shape
@@ -27,6 +27,6 @@ HasRoom blocks free_list = (1 ≤ free_list) × (514 + 513 * free_list ≤ block
 abbrev pub bit_of : ℕ → Addr
 bit_of place = record { block = 514 + place / BLOCK_BITS; off = place % BLOCK_BITS }
 
--- the record of a place, where the free list has so many blocks
+-- the record of a place, where the free list has this many blocks
 abbrev pub record_of : ℕ → ℕ → Addr
 record_of free_list place = record { block = 514 + free_list + place / 64; off = place % 64 * 512 }

@@ -5,7 +5,7 @@ use journal_world::Refusal;
 use std::alloc::{AllocError, AllocFailed};
 use std::fmt;
 
-/// Why the table is not used. A server tells by the journal's refusal what to do; this program
+/// Why the table is not used. A server decides by the journal's refusal how to go on. This program
 /// ends.
 #[derive(Clone, Copy, Debug, PartialEq, Eq)]
 pub enum Fault {
@@ -17,7 +17,7 @@ pub enum Fault {
     Full,
     /// A row is not where it was.
     NotThere,
-    /// The free list says that a place has a row, and its record is none.
+    /// The free list has a row at a place, and its record is none.
     Torn,
 }
 

@@ -4,17 +4,18 @@ use journal_world::BLOCK_BYTES;
 use std::fs::{File, Files, OpenFile, OpenOptions};
 use std::{fs, io};
 
-// How many blocks the disk has: 4 TiB. The file takes room for those alone that were written.
+// The number of blocks of the disk: 4 TiB. The file takes room only for those that were written.
 const BLOCKS: u64 = 1 << 30;
 
-// How many it has where the file system takes no file of that size: 256 GiB.
+// The number of blocks if the file system takes no file of that size: 256 GiB.
 const FEWER_BLOCKS: u64 = 1 << 26;
 
-/// Makes a new file of zeros at the path, which is a disk whose objects are all zeros. `false` says
-/// that the file system does not take a file of 4 TiB, and that it has 256 GiB.
+/// Makes a new file of zeros at the path, which is a disk whose objects are all zeros. False if the
+/// file system takes no file of 4 TiB. The file then has 256 GiB.
 ///
-/// Refused where anything is at the path, and as the system refuses the file. A file that was begun
-/// is removed then.
+/// # Errors
+/// - Something is at the path already. It is as it was.
+/// - The system refuses the file. A file that was begun is removed.
 pub fn make<R: Files<File = File>>(rt: &R, path: &str) -> io::Result<bool> {
     let file = OpenOptions::new()
         .write(true)

@@ -1,5 +1,5 @@
-// The head of the table. The disk does not tell its layout, so block 513 has what the layout
-// follows from, and it is compared each time that the table is opened.
+// The head of the table. The disk does not record its layout. So block 513 has the numbers from
+// which the layout follows, and they are compared each time that the table is opened.
 
 use crate::fault::Fault;
 use crate::rows::OpenTable;
@@ -13,8 +13,11 @@ use std::sync::Wait;
 // The first bytes of a head: which form of table it is.
 const FORM: [u8; 8] = *b"TABLE 64";
 
-/// Writes the head where the disk has none, and waits until no crash loses it. `false` says that
-/// the disk has another head: it was not made as this table.
+/// Writes the head if the disk has none, and waits until no crash loses it. False if the disk has
+/// another head: it was not made as this table.
+///
+/// # Errors
+/// - The journal refuses. A head that was begun may be there after a crash.
 pub fn has_head<D: BlockDisk, J: Naming, W: Wait>(
     rt: &W,
     open: &OpenTable<'_, '_, D, J>,
@@ -33,7 +36,7 @@ pub fn has_head<D: BlockDisk, J: Naming, W: Wait>(
     }
 }
 
-// Whether the disk has this head. Where it has none, the transaction writes it.
+// True if the disk has this head. If it has none, the transaction writes it.
 fn compare<'j, 'b, D: BlockDisk, J: Naming, W: Wait>(
     rt: &W,
     txn: &mut Txn<'j, 'b, D, AnyMap, J>,

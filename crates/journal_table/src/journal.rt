@@ -19,7 +19,7 @@ use std::rt::Clock;
 use std::sync::Wait;
 use std::thread::{Threads, join};
 
-/// What is done with a table while it is open.
+/// The work on a table while it is open.
 #[derive(Clone, Copy, Debug, PartialEq, Eq)]
 pub enum Work {
     /// Two threads write. Answers the rows that no crash loses.
@@ -28,8 +28,11 @@ pub enum Work {
     Read,
 }
 
-/// Opens the disk as a table, does the work, and stops. What nobody waited for is then lost where
-/// it was not logged, as by a crash.
+/// Opens the disk as a table, does the work, and stops. Commits that nobody waited for, and that
+/// are not logged yet, are then lost as by a crash.
+///
+/// # Errors
+/// - The fault of the opening or of the work. The disk may be opened again.
 pub fn with_table<R: Threads + Wait + Clock + Sync>(
     rt: &R,
     alloc: Global,
@@ -101,7 +104,7 @@ fn beside_daemon<J: Naming + Send + Sync, R: Threads + Wait + Clock + Sync>(
     if started { done } else { Err(Fault::Refused) }
 }
 
-// Does the work where the disk has this table.
+// Does the work if the disk has this table.
 fn do_work<J: Naming + Send + Sync, R: Threads + Wait + Sync>(
     rt: &R,
     open: &OpenTable<'_, '_, SizedDisk, J>,

@@ -1,14 +1,14 @@
 //! A program over the journal: a table of records in a file, with a list of its free places.
 //!
-//! It is what an author of a database starts from. The disk has a layout of the program's own
-//! (`table`) and 4 TiB, of which the file takes what was written (`file`). Each row is a record of
-//! 64 bytes (`row`). A transaction sets a bit of the free list and writes a record, both or neither
-//! (`rows`). The disk does not tell its layout, so block 513 says of which table it is (`head`).
+//! An author of a database starts from it. The disk has a layout of the program's own (`table`) and
+//! 4 TiB, of which the file takes the written blocks (`file`). Each row is a record of 64 bytes
+//! (`row`). A transaction sets a bit of the free list and writes a record, both or neither
+//! (`rows`). The disk does not record its layout, so block 513 says of which table it is (`head`).
 //! Two threads insert, change and delete rows (`work`) beside the logger and the installer
 //! (`journal`).
 //!
 //! The program makes the disk at a path, writes, and stops as a crash does. Then it opens the disk
-//! again, and looks whether the rows are there for which it had waited. At its end it removes the
+//! again, and checks that the rows are there for which it had waited. At its end it removes the
 //! file.
 #![tactic(auto)]
 
@@ -76,7 +76,7 @@ fn write_and_read<R: Files<File = File> + Threads + Wait + Clock + Sync, O: Writ
     )
 }
 
-/// How many of the rows are among the others.
+/// The number of rows that are among the others.
 fn common(rows: &[Stored], others: &[Stored]) -> usize {
     rows.iter().filter(|row| others.contains(row)).count()
 }
@@ -105,12 +105,12 @@ fn open<R: Files<File = File> + Threads + Wait + Clock + Sync, E: Write>(
 
 /// Prints why the table in the file at the path is not used.
 fn refuse<F: Display, E: Write, T>(path: &str, fault: &F, faults: &mut E) -> io::Result<T> {
-    // Where it cannot be printed, the status says that the program failed.
+    // If it cannot be printed, the status says that the program failed.
     let _ = writeln!(faults, "{path}: {fault}");
     Err(Error::from(ErrorKind::Other))
 }
 
-/// Does that where the program was given one word, the path.
+/// Does that if the program was given one word, the path.
 fn start<
     R: Env + AllocGlobal + Files<File = File> + Threads + Wait + Clock + Sync,
     O: Write,

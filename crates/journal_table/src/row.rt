@@ -1,4 +1,4 @@
-// What a row is, and its record.
+// A row, and its record.
 
 use crate::table::ROW_BYTES;
 
@@ -20,7 +20,7 @@ impl Row {
         record
     }
 
-    /// The row whose record these bytes are, or `None` where they are no row's.
+    /// The row of these record bytes, or `None` if they are no row's.
     pub fn from_record(bytes: &[u8]) -> Option<Row> {
         let row = Row {
             key: number(bytes.get(..8)?)?,

@@ -12,7 +12,7 @@ use journal_world::AnyMap;
 use std::alloc::Global;
 use std::sync::Wait;
 
-// What the bit of a place is.
+// The values of a place's bit.
 const FREE: u8 = 0;
 
 const USED: u8 = 1;
@@ -24,7 +24,7 @@ pub struct Stored {
     pub row: Row,
 }
 
-/// What a place has.
+/// The content of a place.
 #[derive(Clone, Copy, Debug, PartialEq, Eq)]
 pub enum Found {
     /// The bit is 0.
@@ -53,9 +53,12 @@ impl<'j, 'b, D: BlockDisk, J: Naming> Drop for OpenTable<'j, 'b, D, J> {
 }
 
 impl<'j, 'b, D: BlockDisk, J: Naming> OpenTable<'j, 'b, D, J> {
-    /// Inserts a row at the first free place from one on, and says which it is.
+    /// Inserts a row at the first free place from one on, and answers that place.
     ///
-    /// Refused where there is no free place, and where the journal refuses.
+    /// # Errors
+    /// Nothing was inserted.
+    /// - There is no free place.
+    /// - The journal refuses.
     pub fn insert<W: Wait>(
         &self,
         rt: &W,
@@ -73,7 +76,10 @@ impl<'j, 'b, D: BlockDisk, J: Naming> OpenTable<'j, 'b, D, J> {
 
     /// Changes a row: its version becomes one more.
     ///
-    /// Refused where the row is not there, and where the journal refuses.
+    /// # Errors
+    /// The row is as it was.
+    /// - The row is not there.
+    /// - The journal refuses.
     pub fn change<W: Wait>(
         &self,
         rt: &W,
@@ -95,7 +101,10 @@ impl<'j, 'b, D: BlockDisk, J: Naming> OpenTable<'j, 'b, D, J> {
 
     /// Deletes a row. Its place is free then.
     ///
-    /// Refused where the row is not there, and where the journal refuses.
+    /// # Errors
+    /// The row is as it was.
+    /// - The row is not there.
+    /// - The journal refuses.
     pub fn delete<W: Wait>(
         &self,
         rt: &W,
@@ -108,7 +117,11 @@ impl<'j, 'b, D: BlockDisk, J: Naming> OpenTable<'j, 'b, D, J> {
         Ok(())
     }
 
-    /// What a place has.
+    /// The content of a place.
+    ///
+    /// # Errors
+    /// - There is no place of this number.
+    /// - The journal refuses.
     pub fn look<W: Wait>(
         &self,
         rt: &W,
@@ -122,7 +135,7 @@ impl<'j, 'b, D: BlockDisk, J: Naming> OpenTable<'j, 'b, D, J> {
         Ok(found?)
     }
 
-    // The objects of a place, where there is one of this number.
+    // The objects of a place, if there is one of this number.
     fn place(&self, number: u64) -> Result<Place, Fault> {
         match self.table.place(number) {
             Some(place) => Ok(place),
@@ -130,9 +143,9 @@ impl<'j, 'b, D: BlockDisk, J: Naming> OpenTable<'j, 'b, D, J> {
         }
     }
 
-    // Gives a place a row, or none, where it has what is wanted: all of it in one transaction.
-    // `false` says that it had something else, and then nothing was done. It waits for no device,
-    // so a crash may lose it until `Journal::flush`.
+    // Gives a place a row, or none, if it has the wanted content: all of it in one transaction.
+    // False if it had something else, and then nothing was done. It waits for no device, so a crash
+    // may lose it until `Journal::flush`.
     fn exchange<W: Wait>(
         &self,
         rt: &W,
@@ -156,7 +169,7 @@ impl<'j, 'b, D: BlockDisk, J: Naming> OpenTable<'j, 'b, D, J> {
     }
 }
 
-// Overwrites both objects of a place in the transaction, where the place has what is wanted.
+// Overwrites both objects of a place in the transaction, if the place has the wanted content.
 fn prepare<'j, 'b, D: BlockDisk, J: Naming, W: Wait>(
     rt: &W,
     journal: &Journal<'b, D, AnyMap, J>,
@@ -208,7 +221,7 @@ fn find<'j, 'b, D: BlockDisk, J: Naming, W: Wait>(
     Ok(found_in(bit.bytes(), record.bytes()))
 }
 
-// What a place has whose objects have these values.
+// The content of a place whose objects have these values.
 fn found_in(bit: &[u8], record: &[u8]) -> Found {
     match (bit, Row::from_record(record)) {
         ([USED], Some(row)) => Found::Row(row),

@@ -1,4 +1,4 @@
-// Where the rows of the table lie on the disk.
+// The places of the table's rows on the disk.
 ghost use Rattle.std.specs.Prelude.{◌≡◌, ◌≤◌, ◌<◌, ◌+◌, ◌*◌, ◌^◌, ◌↔◌, IsTrue, IsSome, IfSome};
 ghost use Rattle.journal_world.specs.Addresses.{is_valid};
 ghost use Rattle.journal_world.specs.Files.{shape};
@@ -15,21 +15,21 @@ pub const HEAD: Addr = Addr {
     off: 0,
 };
 
-/// How many bytes a row has.
+/// The number of bytes of a row.
 pub const ROW_BYTES: usize = 64;
 
 // The first block of the free list.
 const FIRST_BITS: u64 = SUPERBLOCK + 1;
 
-// How many places a block of the free list has: one for each of its bits.
+// The number of places of a block of the free list: one for each of its bits.
 const PLACES_A_BLOCK: u64 = BLOCK_BITS as u64;
 
-// How many rows a block of rows has, and how many bits of the block each of them takes.
+// The number of rows of a block of rows, and of bits of the block that each of them takes.
 const ROWS_A_BLOCK: u64 = 64;
 
 const ROW_BITS: u32 = 512;
 
-// How many blocks the rows take for which one block of the free list has the bits.
+// The number of blocks of the rows for which one block of the free list has the bits.
 const BLOCKS_OF_ROWS: u64 = PLACES_A_BLOCK / ROWS_A_BLOCK;
 
 // A region that is not in use.
@@ -41,13 +41,13 @@ const NONE: Region = Region {
 /// A table: how a disk is divided into the head, the free list and the rows. It takes no more
 /// memory for a large disk.
 ///
-/// A place has a bit of the free list, which is 1 where the place has a row, and a record of 64
-/// bytes for the row.
+/// A place has a bit of the free list, which is 1 if the place has a row, and a record of 64 bytes
+/// for the row.
 #[derive(Clone, Copy, Debug)]
 pub struct Table {
     /// The layout by which the journal opens the disk.
     pub layout: Layout,
-    // How many blocks the free list has.
+    // The number of blocks of the free list.
     free_list: u64,
     ghost cut: { (shape layout ≡ table_shape layout.blocks free_list) × HasRoom layout.blocks free_list },
 }
@@ -62,9 +62,9 @@ pub struct Place {
 }
 
 impl Table {
-    /// The table on a disk of so many blocks, with as many places as it has room for.
+    /// The table on a disk of `blocks` blocks, with as many places as it has room for.
     ///
-    /// `None` where there are fewer than 1027 or more than 2^40 blocks.
+    /// `None` for fewer than 1027 blocks and for more than 2^40.
     pub fn new(blocks: u64) -> Option<Table>
         ensures valid { IsSome result ↔ ((1027 ≤ blocks) × (blocks ≤ MAX_LAYOUT_BLOCKS)) }
         ensures blocks { IfSome result (λ table. table.layout.blocks ≡ blocks) }
@@ -74,7 +74,7 @@ impl Table {
         Some(Table { layout, free_list })
     }
 
-    /// How many places there are.
+    /// The number of places.
     pub fn places(&self) -> u64
         ensures { result ≡ self.now.free_list * BLOCK_BITS }
     {
@@ -83,7 +83,7 @@ impl Table {
 
     /// The objects of the place of this number, from 0 on. Each has another bit and another record.
     ///
-    /// `None` where there are not so many places.
+    /// `None` if the number is not below the number of places.
     pub fn place(&self, number: u64) -> Option<Place>
         ensures some { IsSome result ↔ number < self.now.free_list * BLOCK_BITS }
         ensures bit { IfSome result (λ place. place.bit ≡ bit_of number) }
@@ -107,8 +107,8 @@ impl Table {
     }
 }
 
-// The head, so many blocks of the free list, and then rows to the end of the disk. A region ends
-// where the next one begins.
+// The head, `free_list` blocks of the free list, and then rows to the end of the disk. A region
+// ends where the next one begins.
 fn regions(free_list: u64) -> [Region; REGIONS]
     requires { 514 + free_list < 2 ^ 64 }
     ensures { result ≡ (table_shape 0 free_list).regions }

@@ -1,4 +1,4 @@
-// What is done with an open table.
+// The work on an open table.
 ghost use Rattle.std.specs.Prelude.{◌≤◌};
 
 use crate::fault::Fault;
@@ -10,19 +10,23 @@ use journal_world::AnyMap;
 use std::sync::Wait;
 use std::thread::{Threads, join};
 
-// How many rows each thread inserts before it waits, and how many after that.
+// The number of rows that each thread inserts before it waits, and after that.
 const ROWS: u64 = 48;
 
 const MORE_ROWS: u64 = 16;
 
-// How many places are looked at, the last of the table. All rows lie there, at the end of the disk.
+// The number of places that are looked at, the last of the table. All rows are there, at the end of
+// the disk.
 const LOOKED_AT: u64 = 1024;
 
 // The first key of each thread.
 const KEYS: (u64, u64) = (0, 1000);
 
-/// Writes in two threads. The rows that no crash loses any more: each thread has waited for its
-/// own, and has then inserted more.
+/// Writes in two threads. Answers the rows that no crash loses any more: each thread has waited for
+/// its own, and has then inserted more.
+///
+/// # Errors
+/// - A thread's fault. Rows of that thread may be lost.
 pub fn write<D: BlockDisk + Send, J: Naming + Send + Sync, R: Threads + Wait + Sync>(
     rt: &R,
     open: &OpenTable<'_, '_, D, J>,
@@ -37,7 +41,7 @@ pub fn write<D: BlockDisk + Send, J: Naming + Send + Sync, R: Threads + Wait + S
     Ok(rows)
 }
 
-// Writes in a session of this thread's. The rows for which it has waited.
+// Writes in a session of this thread's. Answers the rows for which it has waited.
 fn write_rows<D: BlockDisk, J: Naming, W: Wait>(
     rt: &W,
     open: &OpenTable<'_, '_, D, J>,
@@ -53,7 +57,7 @@ fn write_rows<D: BlockDisk, J: Naming, W: Wait>(
     Ok(rows)
 }
 
-// Inserts rows, changes some and deletes some. Those that are left.
+// Inserts rows, changes some and deletes some. Answers those that are left.
 fn write_some<'b, D: BlockDisk, J: Naming, W: Wait>(
     rt: &W,
     open: &OpenTable<'_, 'b, D, J>,
@@ -66,7 +70,7 @@ fn write_some<'b, D: BlockDisk, J: Naming, W: Wait>(
     let mut from = first_place(open);
     for key in first_key..first_key + ROWS {
         let stored = open.insert(rt, session, from, Row { key, version: 1 })?;
-        // The search for the next place begins here, since the place may be free again.
+        // The search for the next place begins here, because the place may be free again.
         from = stored.place;
         if let Some(left) = change_or_delete(rt, open, session, stored)? {
             rows.push(left)?;
@@ -75,8 +79,8 @@ fn write_some<'b, D: BlockDisk, J: Naming, W: Wait>(
     Ok(rows)
 }
 
-// Of four rows in a row the second is changed and the fourth deleted. The row as it is then, if it
-// is left.
+// Of four rows in a row the second is changed and the fourth deleted. Answers the row as it is
+// then, if it is left.
 fn change_or_delete<'b, D: BlockDisk, J: Naming, W: Wait>(
     rt: &W,
     open: &OpenTable<'_, 'b, D, J>,
@@ -111,9 +115,11 @@ fn insert_more<'b, D: BlockDisk, J: Naming, W: Wait>(
     Ok(())
 }
 
-/// The rows that the places have at which this program inserts some.
+/// The rows at the places where this program inserts some.
 ///
-/// Refused where a row is torn, and where the journal refuses.
+/// # Errors
+/// - A row is torn.
+/// - The journal refuses.
 pub fn read<D: BlockDisk, J: Naming, W: Wait>(
     rt: &W,
     open: &OpenTable<'_, '_, D, J>,
@@ -130,7 +136,7 @@ pub fn read<D: BlockDisk, J: Naming, W: Wait>(
     Ok(rows)
 }
 
-// Where the search for a free place begins.
+// The place at which the search for a free place begins.
 fn first_place<D: BlockDisk, J: Naming>(open: &OpenTable<'_, '_, D, J>) -> u64 {
     open.table.places().saturating_sub(LOOKED_AT)
 }

@@ -1,4 +1,4 @@
--- What follows from the definitions for every map of blocks.
+-- Laws of every map of blocks.
 use Rattle.std.proofs.Common.{◌≡◌, Bool, true, false, cond, IsTrue, List, [], ◌∷◌, refl}
 use Rattle.std.specs.List.{list_all, filter}
 use Rattle.std.proofs.lemmas.Bool.{and_from}

@@ -1,5 +1,5 @@
--- What contracts see of an object tail: what memory knows of a block and of an address, from its
--- updates and what was fetched.
+-- An object tail as contracts see it: memory's knowledge of a block and of an address, from its
+-- updates and the fetched blocks.
 use Rattle.std.specs.Prelude.{ℕ, ◌≡◌, ◌⊎◌, Bool, true, false, not, ◌&&◌, IsTrue, if◌then◌else◌, List, [], ◌∷◌, ◌++◌, Option, Some, None}
 use Rattle.journal_world.specs.declared.address.Addr.{Addr}
 use Rattle.journal_world.specs.declared.address.Kind.{Kind}
@@ -34,11 +34,11 @@ abbrev pub known_object : Shape → List Update → Addr → Option Value
 known_object layout updates a =
     if updates_block updates a.block then Some (object_or_zeros layout (updated updates a.block []) a) else None
 
--- what memory knows of an address, with these blocks fetched
+-- memory's knowledge of an address, with these blocks fetched
 abbrev pub known_at : Shape → List Update → TailState → Addr → Option Value
 known_at layout fetched t a = known_object layout (known_updates fetched t) a
 
--- What overwriting looks at, with these blocks fetched. A block that memory does not know has no
+-- The base of overwriting, with these blocks fetched. A block that memory does not know has no
 -- bytes
 abbrev pub tail_base : Shape → List Update → TailState → Base
 tail_base layout fetched t = record {
@@ -48,12 +48,12 @@ tail_base layout fetched t = record {
   next = next_position t.log;
 }
 
--- Whether a block of this kind is one object, so that a write of it needs nothing that it held
+-- A block of this kind is one object, so that a write of it needs nothing of its content
 abbrev pub is_one_object : Option Kind → Bool
 is_one_object (Some Block) = true
 is_one_object other = false
 
--- whether a write of block b needs the block's other objects, and no update has them
+-- a write of block b needs the block's other objects, and no update has them
 abbrev pub is_missing : Shape → List Update → ℕ → Bool
 is_missing layout known b = not (is_one_object (kind_of layout b)) && not (updates_block known b)
 
@@ -69,24 +69,23 @@ missing_blocks layout known (p ∷ later) =
 abbrev pub HasBlocks : Shape → List Update → List Pair → Type 0
 HasBlocks layout known writes = (b : ℕ) → writes_block writes b ≡ true → is_missing layout known b ≡ false
 
--- what an address has after the writes: what the first of it writes, or where none is of it, what
--- it had
+-- the value of an address after the writes: that of the first write of it, or if none is of it, its
+-- value before
 abbrev pub after_writes : List Pair → Option Value → Addr → Option Value
 after_writes [] before a = before
 after_writes (p ∷ later) before a = if is_same a p.0 then Some p.1 else after_writes later before a
 
--- With what is prepared behind what memory knows, each address has what the writes make of what it
--- had
+-- With the prepared updates after those that memory knows, each address has the value that the
+-- writes give it
 pub record OverwritesKnown (layout : Shape) (known prepared : List Update) (writes : List Pair) : Type 0 where
   pub values : (a : Addr) → IsTrue (is_valid layout a)
       → known_object layout (known ++ prepared) a ≡ after_writes writes (known_object layout known a) a
 
--- one update of each written block, where these are prepared for those that do not stand in the
--- tail
+-- one update of each written block, where these are prepared for those that are not in the tail
 abbrev pub updates_with : Shape → TailState → List Pair → List Update → List Update
 updates_with layout t writes prepared = all_updates layout t.log writes prepared
 
--- What is prepared can be applied here with the writes, without memory and without a refusal
+-- The prepared updates can be applied here with the writes, without memory and without a refusal
 pub record TakesPrepared (layout : Shape) (t : TailState) (writes : List Pair) (prepared : List Update) : Type 0 where
   pub objects : IsTrue (are_objects layout writes)
   pub homes : AreHomes (blocks_of t) (updates_with layout t writes prepared)
@@ -101,12 +100,12 @@ IsTailWriteRefusal b writes refusal = IsWriteRefusal false b writes refusal ⊎ 
 abbrev pub with_tail_room : TailState → ℕ → TailState
 with_tail_room t room = record t { log = record t.log { room = room } }
 
--- of an answer: what holds where the writes are prepared
+-- of an answer: the condition where the writes are prepared
 abbrev pub IfReady : (List Update → Type 0) → Preparation → Type 0
 IfReady holds (Ready prepared) = holds prepared
 IfReady holds (Missing blocks) = Unit {0}
 
--- of an answer: what holds where blocks have to be fetched first
+-- of an answer: the condition where blocks have to be fetched first
 abbrev pub IfMissing : (List ℕ → Type 0) → Preparation → Type 0
 IfMissing holds (Ready prepared) = Unit {0}
 IfMissing holds (Missing blocks) = holds blocks.items

@@ -1,4 +1,4 @@
--- What is kept while writes are stored in updates of their blocks, from the last write on.
+-- The invariant while writes are stored in updates of their blocks, from the last write on.
 use Rattle.std.specs.Prelude.{ℕ, ◌≡◌, ◌⊎◌, ◌≤◌, true, IsTrue, List, [], ◌∷◌, length, Option, Some, None}
 use Rattle.std.specs.List.{AllByRecursion}
 use Rattle.journal_world.specs.declared.address.Addr.{Addr}
@@ -50,13 +50,13 @@ pub record IsStaged (b : Base) (writes : List Pair) (updates : List Update) : Ty
   pub blocks : CoversBlocks b.layout.blocks b.tail writes updates
   pub objects : HasObjects (with_updates b.content updates) (overwritten (map_in b) writes)
 
--- What is written and stands in the tail has the bytes of a block
+-- Each written block in the tail has the bytes of a block
 abbrev pub StandsWhole : List Update → List Pair → Type 0
 StandsWhole tail writes =
     (b : ℕ) → writes_block writes b ≡ true → updates_block tail b ≡ true → IsTrue (is_value_of Block (updated tail b []))
 
 -- On a disk of this layout: the writes are objects, no more than a commit may have blocks, and all
--- of their blocks stand in the tail
+-- of their blocks are in the tail
 pub record AreInTail (layout : Shape) (tail : List Update) (writes : List Pair) : Type 0 where
   pub objects : IsTrue (are_objects layout writes)
   pub few : length writes ≤ MAX_UPDATES

@@ -1,4 +1,4 @@
--- What contracts see of a tail: the updates in memory, and the cuts whose updates are still there.
+-- A tail as contracts see it: the updates in memory, and the cuts whose updates are still there.
 use Rattle.std.specs.Prelude.{ℕ, ◌≡◌, ◌⊎◌, ◌<◌, ◌≤◌, ◌+◌, ◌-◌, ◌^◌, true, List, [], ◌∷◌, ◌++◌, length, drop}
 use Rattle.journal_world.specs.declared.refusal.Refusal.{Refusal}
 use Rattle.journal_world.specs.declared.refusal.Refusal.TheVariants.{TooLarge, Worn, Full}
@@ -25,7 +25,7 @@ pub record TailState : Type 0 where
 abbrev pub cut_points : TailState → List CutPoint
 cut_points t = record { end = t.log.start; commits = t.trimmed } ∷ t.cuts
 
--- what memory knows of blocks: their copies, and then the updates
+-- memory's knowledge of blocks: their copies, and then the updates
 abbrev pub known_blocks : TailState → List Update
 known_blocks t = t.cache ++ t.log.updates
 
@@ -48,22 +48,22 @@ abbrev pub RisesTo : ℕ → ℕ → List CutPoint → Type 0
 RisesTo from to [] = from ≡ to
 RisesTo from to (c ∷ cuts) = (from ≤ c.end) × RisesTo c.end to cuts
 
--- What holds of every tail
+-- The invariant of every tail
 pub record IsTail (t : TailState) : Type 0 where
   pub log : IsMemLog t.log
   pub few : length (tail_of t.log) ≤ MAX_TAIL
   pub homes : AreHomes t.log.blocks t.log.updates
-  -- what the disk has logged is not known here
+  -- the number of positions that the disk has logged is not known here
   pub logged : t.log.logged ≡ t.log.start
   pub cuts : RisesTo t.log.start t.log.cut t.cuts
 
--- What each call makes of a tail
+-- The tail after each call
 
--- one of a disk of so many blocks, which begins at a position and knows no block
+-- one of a disk with this many blocks, which begins at a position and knows no block
 abbrev pub empty_tail : ℕ → ℕ → ℕ → TailState
 empty_tail blocks start room = record { log = empty_log blocks start room; trimmed = 0; cuts = []; cache = [] }
 
--- with all updates cut, after so many commits
+-- with all updates cut, after this many commits
 abbrev pub cut_after : TailState → ℕ → TailState
 cut_after t commits = record t {
   log = record t.log { cut = next_position t.log };
@@ -85,7 +85,7 @@ pub record DropsCuts (old : TailState) (upto : ℕ) (new : TailState) : Type 0 w
 
 -- Room
 
--- Nothing but memory refuses updates of so many blocks, of which so many do not stand in the tail
+-- Nothing but memory refuses updates of `blocks` blocks, `fresh` of which are not in the tail
 pub record AdmitsBlocks (log : LogState) (blocks fresh : ℕ) : Type 0 where
   pub few : blocks ≤ MAX_UPDATES
   pub small : next_position log + fresh < 2 ^ 62
@@ -104,6 +104,6 @@ pub record TakesUpdates (log : LogState) (updates : List Update) : Type 0 where
   pub can : CanTake log updates
   pub tail : length (absorbed (tail_of log) updates) ≤ MAX_TAIL
 
--- so can any updates, so many of whose blocks do not stand in the tail
+-- so can any updates, this many of whose blocks are not in the tail
 abbrev pub TakesFresh : LogState → ℕ → Type 0
 TakesFresh log fresh = (updates : List Update) → AreHomes log.blocks updates → fresh_count (tail_of log) updates ≡ fresh → TakesUpdates log updates

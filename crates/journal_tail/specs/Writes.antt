@@ -10,7 +10,7 @@ use Rattle.journal_block.specs.Updates.{updates_block, with_updates, Content}
 use Rattle.journal_tail.specs.Maps.{map_of}
 use Rattle.journal_tail.specs.declared.limits.TheConstants.{MAX_TAIL, MAX_UPDATES}
 
--- What overwrites look at: the layout, what the blocks hold with all updates, the tail, and the
+-- The base of overwrites: the layout, the blocks' content with all updates, the tail, and the
 -- position after it
 pub record Base : Type 0 where
   pub layout : Shape
@@ -22,7 +22,7 @@ pub record Base : Type 0 where
 abbrev pub map_in : Base → Map
 map_in b = map_of b.layout b.content
 
--- whether one of the writes is in block b
+-- one of the writes is in block b
 abbrev pub writes_block : List Pair → ℕ → Bool
 writes_block [] b = false
 writes_block (p ∷ later) b = p.0.block == b || writes_block later b
@@ -32,7 +32,7 @@ abbrev pub written_blocks : List Pair → ℕ
 written_blocks [] = 0
 written_blocks (p ∷ later) = (if writes_block later p.0.block then 0 else 1) + written_blocks later
 
--- how many of these do not stand in the tail
+-- how many of these are not in the tail
 abbrev pub fresh_among : List Update → List Pair → ℕ
 fresh_among tail [] = 0
 fresh_among tail (p ∷ later) =
@@ -57,7 +57,7 @@ pub record CanPrepare (b : Base) (writes : List Pair) : Type 0 where
   pub small : b.next + fresh_blocks b writes < 2 ^ 62
   pub tail : length b.tail + fresh_blocks b writes ≤ MAX_TAIL
 
--- What refuses writes before memory and the device are asked: the first of these that holds
+-- Why writes are refused before memory and the device are asked: the first of these that holds
 abbrev pub IsWriteRefusal : Bool → Base → List Pair → Refusal Unit → Type 0
 IsWriteRefusal faulted b writes (DeviceFailed cause) = IsTrue faulted
 IsWriteRefusal faulted b writes BadAddress = (faulted ≡ false) × (are_valid b.layout writes ≡ false)
@@ -70,7 +70,8 @@ IsWriteRefusal faulted b writes (Full cause) =
     × (b.next + fresh_blocks b writes < 2 ^ 62) × (MAX_TAIL < length b.tail + fresh_blocks b writes)
 IsWriteRefusal faulted b writes other = ⊥
 
--- What is prepared overwrites the map by the writes, where what was read is what the blocks hold
+-- The prepared updates overwrite the map by the writes, if the fetched blocks are the blocks'
+-- content
 pub record IsPrepared (honest : Bool) (b : Base) (prepared : List Update) (writes : List Pair) : Type 0 where
   pub map : IsTrue honest → SameMap (map_of b.layout (with_updates b.content prepared)) (overwritten (map_in b) writes)
   -- it has one update for each block that is written, and no other

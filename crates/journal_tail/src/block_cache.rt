@@ -11,8 +11,8 @@ use std::alloc::Global;
 use std::marker::Model;
 use std::num::NonZeroUsize;
 
-/// Copies of blocks, no more than a number. Where there are too many, the one that was used least
-/// recently goes.
+/// Copies of blocks, with a limit to their number. Above it the one that was used least recently is
+/// dropped.
 ///
 /// Contracts see them as updates, the least recently used first.
 #[derive(Drop)]
@@ -31,9 +31,10 @@ impl Model for BlockCache {
 }
 
 impl BlockCache {
-    /// No copies yet, and never more than so many.
+    /// No copies yet, and never more than `most`.
     ///
-    /// Answers J1 `NoMemory`, and nothing else, where memory for the index is refused.
+    /// # Errors
+    /// - `J1 NoMemory`: the memory for the index is refused. Nothing was made.
     pub(crate) fn new<C>(alloc: Global, most: usize) -> Result<BlockCache, Refusal<C>>
         requires { 0 < most }
         ensures none { IfOk result (λ home. home ≡ []) }
@@ -44,7 +45,7 @@ impl BlockCache {
         Ok(BlockCache { blocks })
     }
 
-    /// The copy of the block, lent, where there is one.
+    /// The copy of the block, lent, if there is one.
     pub(crate) fn find(&self, block: u64) -> Option<&Block>
         ensures found { is_some result ≡ updates_block self.now block }
         ensures content { IfSome result (λ found. (before : Bytes) → updated self.now block before ≡ found.now) }
@@ -52,15 +53,15 @@ impl BlockCache {
         self.blocks.peek(&block)
     }
 
-    /// Makes the block the most recently used, where there is a copy of it.
+    /// Makes the block the most recently used, if there is a copy of it.
     pub(crate) fn touch(&mut self, block: u64)
         ensures { MakeTheSame self.new self.old }
     {
         let _kept = self.blocks.promote(&block);
     }
 
-    /// Keeps the block as the update has it. Where there are too many copies another goes; where
-    /// memory is refused all stay, and the block is not kept.
+    /// Keeps the block as the update has it. Above the limit another copy is dropped. If memory is
+    /// refused all copies stay, and the block is not kept.
     pub(crate) fn keep(&mut self, update: Update)
         ensures { MakesNoOther (self.old ++ update ∷ []) self.new }
     {
@@ -78,8 +79,8 @@ impl BlockCache {
         }
     }
 
-    /// Where there is a copy of the block, it is from now on as the update has it. It takes no
-    /// memory, and moves the block.
+    /// If there is a copy of the block, the update replaces it. It takes no memory, and moves the
+    /// block.
     pub(crate) fn replace(&mut self, update: Update)
         ensures replaces { updates_block self.old update.block ≡ true → MakeTheSame self.new (self.old ++ update ∷ []) }
         ensures leaves { updates_block self.old update.block ≡ false → self.new ≡ self.old }

@@ -1,8 +1,8 @@
-// How much may be appended.
+// The limits of what is appended.
 
-/// How many distinct blocks a transaction may write.
+/// The most distinct blocks that a transaction may write.
 pub const MAX_UPDATES: usize = 128;
-/// How many blocks the tail may have.
+/// The most blocks of the tail.
 pub const MAX_TAIL: u64 = 255;
-/// Positions of the log stay below this.
+/// Each position of the log is below this.
 pub const MAX_POSITION: u64 = 1 << 62;

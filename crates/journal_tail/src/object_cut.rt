@@ -22,7 +22,7 @@ impl ObjectTail {
         self.tail.bounds()
     }
 
-    /// How many blocks stand in the tail, at most 255.
+    /// The number of blocks in the tail, at most 255.
     pub fn tail_len(&self) -> u64
         ensures length { result ≡ length (tail_of self.now.log) }
         ensures few { result ≤ MAX_TAIL }
@@ -30,25 +30,26 @@ impl ObjectTail {
         self.tail.tail_len()
     }
 
-    /// How many commits there were at the last cut whose updates were dropped. All that later ones
-    /// wrote is here.
+    /// The number of commits at the last cut whose updates were dropped. All writes of later
+    /// commits are here.
     pub fn trimmed(&self) -> CommitCount
         ensures { result ≡ self.now.trimmed }
     {
         self.tail.trimmed()
     }
 
-    /// Whether the block stands in the tail, so that a write in it takes no new place.
+    /// True if the block is in the tail, so that a write in it takes no new position.
     pub fn is_in_tail(&self, block: u64) -> bool
         ensures { result ≡ updates_block (tail_of self.now.log) block }
     {
         self.tail.is_in_tail(block)
     }
 
-    /// Cuts after so many commits: hands out a copy of the whole tail, which begins anew.
+    /// Cuts after the first `commits` commits: hands out a copy of the whole tail, which begins
+    /// anew.
     ///
-    /// Answers J1 `NoMemory`, and nothing else, where memory for the copy is refused. The objects
-    /// are then as they were.
+    /// # Errors
+    /// - `J1 NoMemory`: the memory for the copy is refused. The objects are as they were.
     pub fn cut(&mut self, commits: CommitCount) -> Result<Vec<Update>, Refusal<()>>
         ensures group { IfOk result (λ group. group.items ≡ tail_of self.old.log) }
         ensures few { IfOk result (λ group. length group.items ≤ MAX_TAIL) }
@@ -61,7 +62,7 @@ impl ObjectTail {
         self.tail.cut(commits)
     }
 
-    /// Makes the copy of the block the one that was used last, where there is one.
+    /// Makes the copy of the block the most recently used, if there is one.
     pub fn touch(&mut self, block: u64)
         ensures same { MakeTheSame self.new.cache self.old.cache }
         ensures others { self.new ≡ record self.old { cache = self.new.cache } }
@@ -70,7 +71,7 @@ impl ObjectTail {
     }
 
     /// Keeps copies of these blocks, which are at home as these have them but for the updates in
-    /// memory. Where there are too many, those go that were used least recently. One for which
+    /// memory. Above the limit those are dropped that were used least recently. One for which
     /// memory is refused is not kept.
     pub fn keep(&mut self, copies: Vec<Update>)
         ensures known { MakesNoOther (self.old.cache ++ copies.items) self.new.cache }
@@ -79,14 +80,14 @@ impl ObjectTail {
         self.tail.keep(copies);
     }
 
-    /// Drops the updates of each cut that ends at the position or before it: they are at home.
-    /// Copies of their blocks are overwritten by them. It takes no memory, and moves the blocks.
+    /// Drops the updates of each cut that ends at the position or before it: they are at home. They
+    /// overwrite the copies of their blocks. It takes no memory, and moves the blocks.
     pub fn trim(&mut self, upto: Position)
         ensures drops { DropsCuts self.old upto self.new }
         ensures left { All (λ c. upto < c.end) self.new.cuts }
-        // What was updated since a cut that is left is as it was.
+        // The updates since a cut that is left are as they were.
         ensures since { (from : ℕ) → self.new.log.start ≤ from → updates_from self.new.log from ≡ updates_from self.old.log from }
-        // Of each block that memory still knows it knows what it knew.
+        // Memory knows nothing else of a block than it knew before.
         ensures known { MakesNoOther (known_blocks self.old) (known_blocks self.new) }
     {
         self.tail.trim(upto);

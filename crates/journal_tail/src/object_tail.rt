@@ -17,14 +17,13 @@ use journal_world::{Addr, Layout, Refusal};
 use std::alloc::Global;
 use std::marker::Model;
 
-/// The objects that lie in memory, for a lock of their own: it knows no disk, and each call ends
-/// without waiting for one.
+/// The objects in memory, for a lock of their own. It knows no disk, and no call of it blocks.
 ///
-/// It has what was overwritten since a cut that is at home, and copies of blocks that are at home.
-/// A call that needs another block says so. The caller fetches it, and makes the call again with
-/// the block beside. What was fetched may be kept as a copy.
+/// It has all overwrites since a cut that is at home, and copies of blocks that are at home. A call
+/// that needs another block says so. The caller fetches it, and makes the call again with that
+/// block. A fetched block may be kept as a copy.
 ///
-/// It has blocks, and knows no layout: each call that cuts them is told it.
+/// It has blocks, and knows no layout: each call that cuts them into objects is given it.
 #[derive(Drop)]
 pub struct ObjectTail {
     pub(crate) alloc: Global,
@@ -40,10 +39,11 @@ impl Model for ObjectTail {
 }
 
 impl ObjectTail {
-    /// The objects in memory over a disk of so many blocks whose log ends at a position: none yet,
-    /// and no commit was made. It will keep no more than `copies` blocks that are at home.
+    /// The objects in memory over a disk of `blocks` blocks whose log ends at a position: none yet,
+    /// and no commit was made. It will keep at most `copies` blocks that are at home.
     ///
-    /// Answers J1 `NoMemory`, and nothing else, where memory for an index is refused.
+    /// # Errors
+    /// - `J1 NoMemory`: the memory for an index is refused. Nothing was made.
     pub fn new<C>(
         alloc: Global,
         blocks: u64,
@@ -60,10 +60,11 @@ impl ObjectTail {
     }
 
     /// Reads the object of the address into bytes that are as many as it has: as memory has it, or
-    /// where memory does not know its block, as the fetched blocks have it. Answers no where the
-    /// block is to be fetched; the bytes are then as they were. It takes no memory.
+    /// if memory does not know its block, as the fetched blocks have it. Answers false if the block
+    /// has to be fetched. The bytes are then as they were. The call takes no memory.
     ///
-    /// Answers J2 `BadAddress`, and nothing else, where the address is not valid.
+    /// # Errors
+    /// - `J2 BadAddress`: the address is not valid. The bytes are as they were.
     pub fn read(
         &self,
         layout: &Layout,
@@ -89,8 +90,8 @@ impl ObjectTail {
         Ok(true)
     }
 
-    /// The block as memory has it, or where memory does not know it, as the fetched blocks have it.
-    /// Answers none where it is to be fetched.
+    /// The block as memory has it, or if memory does not know it, as the fetched blocks have it.
+    /// `None` if it has to be fetched.
     pub fn get<'a>(&'a self, fetched: &'a [Update], block: u64) -> Option<&'a Block>
         ensures found { is_some result ≡ updates_block (known_updates fetched.now self.now) block }
         ensures content { IfSome result (λ found. updated (known_updates fetched.now self.now) block [] ≡ found.now) }
@@ -102,7 +103,7 @@ impl ObjectTail {
     }
 }
 
-// The block as the last of the updates that is of it has it.
+// The content of the last of the updates that is of this block.
 fn newest(updates: &[Update], block: u64) -> Option<&Block>
     ensures found { is_some result ≡ updates_block updates.now block }
     ensures content { IfSome result (λ found. updated updates.now block [] ≡ found.now) }

@@ -3,10 +3,10 @@ ghost use Rattle.std.specs.Prelude.{◌≡◌};
 
 use std::marker::Model;
 
-/// Which place of the log, counted from the first one that a disk ever had. It rises for ever; at
-/// most 511 of them are used at a time. Contracts see the number.
+/// A place of the log, counted from the first one that a disk ever had. It rises for ever, and at
+/// most 511 positions are used at a time. Contracts see the number.
 ///
-/// It is no number of a block of the disk, and no number of commits, though both are numbers.
+/// Not a block number, not a count of commits.
 #[derive(Clone, Copy, Debug, PartialEq, Eq, PartialOrd, Ord)]
 pub struct Position(u64);
 

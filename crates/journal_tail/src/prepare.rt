@@ -23,8 +23,8 @@ use std::marker::Model;
 /// Overwrites that are ready to be applied, made by [`ObjectTail::prepare`].
 #[derive(Drop)]
 pub struct Prepared {
-    // One for each block that is written and does not stand in the tail, blocks ascending, with its
-    // objects stored.
+    // One for each written block that is not in the tail, blocks ascending, with its objects
+    // stored.
     updates: Vec<Update>,
 }
 
@@ -37,7 +37,7 @@ impl Model for Prepared {
     ghost view = { λ prepared. prepared.updates.items };
 }
 
-/// What `ObjectTail::prepare` answers.
+/// The answer of `ObjectTail::prepare`.
 #[derive(Drop)]
 pub enum Preparation {
     /// The overwrites, ready to be applied.
@@ -48,16 +48,19 @@ pub enum Preparation {
 
 impl ObjectTail {
     /// Makes the overwriting of objects by these values ready for `apply`, with all the memory that
-    /// it takes; it takes what memory the spares have first. Of a block that stands in the tail
-    /// nothing is copied: `apply` overwrites it there. Another block that is written, but not as a
-    /// whole, has to be in memory or among the fetched ones: where some are not, the answer is
-    /// these.
+    /// it takes. It takes the spares' memory first. Blocks in the tail are not copied: `apply`
+    /// overwrites them there. Another block that is written in part has to be in memory or among
+    /// the fetched ones. If some are not, the answer is these. The objects are as they were,
+    /// whatever it answers.
     ///
-    /// The first that applies of these refuses it: J2 `BadAddress` where an address is not valid,
-    /// J3 `BadSize` where a value is not of its address's kind, J4 `TooLarge` where more than 128
-    /// distinct blocks are written, J11 `Worn` where a position of the log would reach 2^62, J12
-    /// `Full` where the tail cannot take the blocks that do not stand in it, then J1 `NoMemory`
-    /// where memory is refused. The objects are as they were, whatever it answers.
+    /// # Errors
+    /// The first that applies is answered.
+    /// - `J2 BadAddress`: an address is not valid.
+    /// - `J3 BadSize`: a value is not of its address's kind.
+    /// - `J4 TooLarge`: more than 128 distinct blocks are written.
+    /// - `J11 Worn`: a position of the log would reach 2^62.
+    /// - `J12 Full`: the tail has no room for the blocks that are not in it.
+    /// - `J1 NoMemory`: memory is refused.
     pub fn prepare(
         &mut self,
         layout: &Layout,
@@ -69,7 +72,7 @@ impl ObjectTail {
         ensures ready { IfOk result (IfReady (TakesPrepared (shape layout.now) self.new writes.now)) }
         ensures prepared { IfOk result (IfReady (λ prepared.
             IsPrepared true (tail_base (shape layout.now) fetched.now self.new) (updates_with (shape layout.now) self.new writes.now prepared) writes.now)) }
-        // Each address that is written then has its value, and each other what it had.
+        // Each written address then has its value, and each other its value before.
         ensures overwrites { IfOk result (IfReady (λ prepared.
             OverwritesKnown (shape layout.now) (known_updates fetched.now self.new) (updates_with (shape layout.now) self.new writes.now prepared) writes.now)) }
         ensures missing { IfOk result (IfMissing (λ blocks.
@@ -88,7 +91,7 @@ impl ObjectTail {
         }))
     }
 
-    // Makes copies of the blocks that do not stand in the tail, and stores the writes there.
+    // Copies the blocks that are not in the tail, and stores the writes in the copies.
     fn make_ready(
         &mut self,
         layout: &Layout,
@@ -100,7 +103,7 @@ impl ObjectTail {
         ensures ready { IfOk result (IfReady (TakesPrepared (shape layout.now) self.new writes.now)) }
         ensures prepared { IfOk result (IfReady (λ prepared.
             IsPrepared true (tail_base (shape layout.now) fetched.now self.new) (updates_with (shape layout.now) self.new writes.now prepared) writes.now)) }
-        // Each address that is written then has its value, and each other what it had.
+        // Each written address then has its value, and each other its value before.
         ensures overwrites { IfOk result (IfReady (λ prepared.
             OverwritesKnown (shape layout.now) (known_updates fetched.now self.new) (updates_with (shape layout.now) self.new writes.now prepared) writes.now)) }
         ensures missing { IfOk result (IfMissing (λ blocks.
@@ -120,17 +123,17 @@ impl ObjectTail {
         Ok(Preparation::Ready(Prepared { updates }))
     }
 
-    /// Overwrites the objects by these writes, which `prepare` made ready by the same layout, where
-    /// no call came between that changes them: in place those whose blocks stand in the tail, and
-    /// the others by appending their blocks. It takes no memory, copies no block, and moves the
-    /// prepared ones.
+    /// Overwrites the objects by these writes, which `prepare` made ready by the same layout. No
+    /// call that changes them may come in between. Objects whose blocks are in the tail are
+    /// overwritten in place, and the other blocks are appended. It takes no memory, copies no
+    /// block, and moves the prepared ones.
     pub fn apply(&mut self, layout: &Layout, prepared: Prepared, writes: &Objects)
         requires { TakesPrepared (shape layout.now) self.old writes.now prepared }
         ensures log { self.new ≡ record self.old { log = appended self.old.log (updates_with (shape layout.now) self.old writes.now prepared) } }
-        // What was updated since any cut is what was, and then these.
+        // The updates since any cut are those before, and then these.
         ensures since { (from : ℕ) → self.old.log.start ≤ from → from ≤ self.old.log.cut →
             MakeTheSame (updates_from self.new.log from) (updates_from self.old.log from ++ updates_with (shape layout.now) self.old writes.now prepared) }
-        // What memory knows of an address is what it knew, with these behind.
+        // Memory knows of an address what it knew, with these writes after it.
         ensures known { (fetched : List Update) (a : Addr) → known_at (shape layout.now) fetched self.new a
             ≡ known_object (shape layout.now) (known_updates fetched self.old ++ updates_with (shape layout.now) self.old writes.now prepared) a }
     {
@@ -138,8 +141,8 @@ impl ObjectTail {
         self.tail.append_reserved(prepared.updates);
     }
 
-    // Overwrites those objects whose blocks stand in the tail. Of two values of one address the
-    // first would stand.
+    // Overwrites the objects whose blocks are in the tail. Of two values of one address the first
+    // would count.
     fn store_standing(&mut self, layout: &Layout, writes: &Objects)
         requires { IsTrue (are_objects (shape layout.now) writes.now) }
         ensures stored { self.new ≡ record self.old { log = stored_log (shape layout.now) writes.now self.old.log } }
@@ -152,7 +155,7 @@ impl ObjectTail {
         }
     }
 
-    // Overwrites the object in its block, where that stands in the tail.
+    // Overwrites the object in its block, if the block is in the tail.
     fn store_in_tail(&mut self, layout: &Layout, addr: Addr, value: &Value)
         requires { IsTrue (is_object (shape layout.now) (addr, value.now)) }
         ensures { self.new ≡ record self.old { log = stored_log (shape layout.now) ((addr, value.now) ∷ []) self.old.log } }
@@ -163,7 +166,8 @@ impl ObjectTail {
         }
     }
 
-    // Refuses what needs no memory: J2, J3, J4, J11 and J12. Tells how many places the writes take.
+    // Gives the number of places that the writes take. Answers the refusals that need no memory:
+    // J2, J3, J4, J11 and J12.
     fn check(&self, layout: &Layout, writes: &Objects) -> Result<Places, Refusal<()>>
         ensures ok { OnOk result ((fetched : List Update) → CanPrepare (tail_base (shape layout.now) fetched self.now) writes.now) }
         ensures places { IfOk result (λ places. (fetched : List Update) → places ≡ places_of (tail_base (shape layout.now) fetched self.now) writes.now) }
@@ -181,7 +185,7 @@ impl ObjectTail {
         Ok(places)
     }
 
-    // How many distinct blocks are written, and how many of these do not stand in the tail.
+    // The number of distinct blocks that are written, and how many of these are not in the tail.
     fn count_blocks(&self, writes: &Objects) -> Places
         requires { AreBelow MAX_LAYOUT_BLOCKS writes.now }
         ensures blocks { result.blocks ≡ written_blocks writes.now }

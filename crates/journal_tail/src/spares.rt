@@ -7,12 +7,12 @@ use journal_world::{BLOCK_BYTES, Objects, Refusal};
 use std::alloc::Global;
 use std::marker::Model;
 
-/// Memory for writes to be made ready in, which their writer makes before it takes a lock. What is
-/// lacking is made later.
+/// Memory in which writes are made ready. Their writer makes it before it takes a lock. Memory that
+/// is missing is made later.
 #[derive(Drop)]
 pub struct Spares {
     blocks: Vec<Block>,
-    // Room alone: no update stands in it.
+    // Room alone, without updates.
     pub(crate) updates: Vec<Update>,
 }
 
@@ -28,7 +28,7 @@ impl Model for Spares {
 
 impl Spares {
     /// A block for each whole block that is written, as far as there is memory. A block that is
-    /// written in part mostly stands in the tail, where it is overwritten.
+    /// written in part is mostly in the tail, where it is overwritten.
     pub fn for_writes(alloc: Global, writes: &Objects) -> Spares {
         let mut blocks = Vec::new(alloc);
         for (_, value) in writes.iter() {
@@ -45,7 +45,7 @@ impl Spares {
         }
     }
 
-    // A block, of the spare ones where there is one.
+    // A block: a spare one, or a new one where there is none.
     pub(crate) fn take<C>(&mut self, alloc: Global) -> Result<Block, Refusal<C>>
         ensures refusal { IsOkUnless result Refusal.NoMemory }
     {
@@ -56,7 +56,7 @@ impl Spares {
     }
 }
 
-// Adds a block, where there is memory for it.
+// Adds a block, if there is memory for it.
 fn add_block(alloc: Global, blocks: &mut Vec<Block>) -> bool {
     match Block::try_new::<()>(alloc) {
         Ok(block) => blocks.push(block).is_ok(),
@@ -64,7 +64,7 @@ fn add_block(alloc: Global, blocks: &mut Vec<Block>) -> bool {
     }
 }
 
-// Room for so many updates, or for none.
+// Room for this many updates, or for none.
 fn room_for(alloc: Global, updates: usize) -> Vec<Update>
     ensures { result.items ≡ [] }
 {

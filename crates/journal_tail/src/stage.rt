@@ -1,5 +1,5 @@
-// The blocks that are written in memory: which have to be fetched first, and what they hold with
-// the writes stored.
+// The blocks that are written in memory: those that have to be fetched first, and their content
+// with the writes stored.
 ghost use Rattle.std.specs.Prelude.{◌≡◌, true, length, ◌⊎◌, ◌≤◌, false, IsTrue, OnOk, IfOk, IsOkUnless, List, [], Some};
 ghost use Rattle.journal_world.specs.Files.{shape};
 ghost use Rattle.journal_world.specs.Addresses.{kind_of, is_valid, is_value_of};
@@ -48,7 +48,7 @@ impl ObjectTail {
         Ok(blocks)
     }
 
-    // Whether a write of the block needs what it holds, and memory does not know it.
+    // True if a write of the block needs its content, and memory does not know it.
     fn is_missing(&self, layout: &Layout, fetched: &[Update], block: u64) -> bool
         ensures { result ≡ is_missing (shape layout.now) (known_updates fetched.now self.now) block }
     {
@@ -58,9 +58,8 @@ impl ObjectTail {
         self.get(fetched, block).is_none()
     }
 
-    /// Whether these are objects whose blocks all stand in the tail, so that nothing has to be made
-    /// ready for them. Of more than 128 it answers no: they may lie in more blocks than may be
-    /// written.
+    /// True if these are objects whose blocks are all in the tail, so that nothing has to be made
+    /// ready for them. False for more than 128: they may be in more blocks than may be written.
     pub(crate) fn are_in_tail(&self, layout: &Layout, writes: &Objects) -> bool
         ensures sure { IsTrue result → AreInTail (shape layout.now) (tail_of self.now.log) writes.now }
         ensures few { length (tail_of self.now.log) ≤ MAX_TAIL }
@@ -79,7 +78,7 @@ impl ObjectTail {
         true
     }
 
-    // Whether it is an object of a block that stands in the tail.
+    // True if it is an object of a block in the tail.
     fn is_object_in_tail(&self, layout: &Layout, addr: Addr, value: &Value) -> bool
         ensures object { IsTrue result → IsTrue (is_object (shape layout.now) (addr, value.now)) }
         ensures stands { IsTrue result → updates_block (tail_of self.now.log) addr.block ≡ true }
@@ -88,8 +87,8 @@ impl ObjectTail {
         self.has_tail_block(addr.block) && is_admitted(layout, addr, value)
     }
 
-    /// One update for each block that is written and does not stand in the tail, blocks ascending,
-    /// with its objects stored.
+    /// One update for each written block that is not in the tail, blocks ascending, with its
+    /// objects stored.
     pub(crate) fn stage(
         &self,
         layout: &Layout,
@@ -106,7 +105,7 @@ impl ObjectTail {
         ensures refusal { IsOkUnless result Refusal.NoMemory }
     {
         let mut updates = StagedUpdates::new(self.alloc, spares);
-        // From the last on: of two values of one address the first would stand.
+        // From the last on, because of two values of one address the first would count.
         for (addr, value) in writes.iter().rev() {
             if self.has_tail_block(addr.block) {
                 continue;
@@ -144,7 +143,7 @@ impl ObjectTail {
         Ok(())
     }
 
-    // The block that is to be overwritten, where not all of it is.
+    // The content of the block before the write, unless all of it is overwritten.
     fn block_before(
         &self,
         layout: &Layout,
@@ -163,7 +162,7 @@ impl ObjectTail {
         Block::copied_from(self.alloc, self.get(fetched, block).unwrap())
     }
 
-    // Whether the block stands in the tail, where `apply` then overwrites it.
+    // True if the block is in the tail, where `apply` then overwrites it.
     fn has_tail_block(&self, block: u64) -> bool
         ensures stands { result ≡ updates_block (tail_of self.now.log) block }
         ensures value { IsTrue result → IsTrue (is_value_of Kind.Block (updated (tail_of self.now.log) block [])) }

@@ -30,7 +30,7 @@ impl Model for StagedUpdates {
 }
 
 impl StagedUpdates {
-    // None yet, in the room that the spares have for them.
+    // None yet, in the spares' room for them.
     pub(crate) fn new(alloc: Global, spares: &mut Spares) -> StagedUpdates
         ensures { result ≡ [] }
     {
@@ -47,7 +47,7 @@ impl StagedUpdates {
         Ok(())
     }
 
-    /// Whether the first of the updates is of the block.
+    /// True if the first of the updates is of the block.
     pub(crate) fn has_first(&self, block: u64) -> bool
         ensures { IsTrue result ↔ (first_update self.now ≡ Some block) }
     {

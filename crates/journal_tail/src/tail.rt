@@ -1,4 +1,4 @@
-// What lies in memory apart from the log on the disk: updates, and where they were cut.
+// The updates in memory apart from the log on the disk, and where they were cut.
 ghost use Rattle.std.specs.Prelude.{ℕ, ◌≡◌, ◌≤◌, ◌<◌, ◌+◌, ◌-◌, ◌^◌, ◌↔◌, ◌∷◌, ◌++◌, List, length, false, is_some, IsTrue, IsOkUnless, OnOk, OnErr, IfOk, IfErr, IfSome};
 ghost use Rattle.std.specs.Borrow.{sem};
 ghost use Rattle.std.specs.List.{All};
@@ -27,17 +27,16 @@ use std::marker::Model;
 pub struct CutPoint {
     /// The position after the group's last.
     pub end: Position,
-    /// How many commits there were.
+    /// The number of commits up to the cut.
     pub commits: CommitCount,
 }
 
-/// The updates in memory, for a lock of their own: it knows no disk, and each call ends without
-/// waiting for one.
+/// The updates in memory, for a lock of their own. It knows no disk, and no call of it blocks.
 ///
 /// A cut hands out a copy of the tail, which the log on the disk takes as its group. The updates
-/// stay here until a trim says that they are at home, so what a commit wrote after the last cut
-/// that was trimmed is found here. So are copies of blocks that were fetched from the disk's part,
-/// which a trim overwrites by what it drops.
+/// stay here until a trim, once they are at home. So all writes of commits after the last trimmed
+/// cut are found here. Copies of blocks that were fetched from the disk's part are here too. A trim
+/// overwrites them by the updates that it drops.
 #[derive(Drop)]
 pub struct Tail {
     alloc: Global,
@@ -58,10 +57,11 @@ impl Model for Tail {
 }
 
 impl Tail {
-    /// The tail of a disk of so many blocks whose log ends at a position. It has no updates and no
-    /// copies, of which it will have no more than `most`, and no commit was made.
+    /// The tail of a disk of `blocks` blocks whose log ends at a position. It has no updates, no
+    /// commit was made, and it will keep at most `most` copies.
     ///
-    /// Answers J1 `NoMemory`, and nothing else, where memory for an index is refused.
+    /// # Errors
+    /// - `J1 NoMemory`: the memory for an index is refused. Nothing was made.
     pub fn new<C>(
         alloc: Global,
         blocks: u64,
@@ -92,7 +92,7 @@ impl Tail {
         self.memory.bounds()
     }
 
-    /// How many blocks stand in the tail, at most 255.
+    /// The number of blocks in the tail, at most 255.
     pub fn tail_len(&self) -> u64
         ensures length { result ≡ length (tail_of self.now.log) }
         ensures few { result ≤ MAX_TAIL }
@@ -100,16 +100,16 @@ impl Tail {
         self.memory.tail_len()
     }
 
-    /// How many commits there were at the last cut whose updates were dropped. All that later ones
-    /// wrote is here.
+    /// The number of commits at the last cut whose updates were dropped. All writes of later
+    /// commits are here.
     pub fn trimmed(&self) -> CommitCount
         ensures { result ≡ self.now.trimmed }
     {
         self.trimmed
     }
 
-    /// The block, lent, where memory knows it: with all updates where one is of it, and else as its
-    /// copy has it.
+    /// The block, lent, if memory knows it: with all its updates, or if it has none as its copy has
+    /// it.
     pub fn get(&self, block: u64) -> Option<&Block>
         ensures found { is_some result ≡ updates_block (known_blocks self.now) block }
         ensures content { IfSome result (λ found.
@@ -121,7 +121,7 @@ impl Tail {
         }
     }
 
-    /// Makes the copy of the block the one that was used last, where there is one.
+    /// Makes the copy of the block the most recently used, if there is one.
     pub fn touch(&mut self, block: u64)
         ensures same { MakeTheSame self.new.cache self.old.cache }
         ensures others { self.new ≡ record self.old { cache = self.new.cache } }
@@ -130,7 +130,7 @@ impl Tail {
     }
 
     /// Keeps copies of these blocks, which are at home as these have them but for the updates in
-    /// memory. Where there are too many, those go that were used least recently. One for which
+    /// memory. Above the limit those are dropped that were used least recently. One for which
     /// memory is refused is not kept.
     pub fn keep(&mut self, copies: Vec<Update>)
         ensures known { MakesNoOther (self.old.cache ++ copies.items) self.new.cache }
@@ -139,14 +139,14 @@ impl Tail {
         self.cache.keep_all(copies);
     }
 
-    /// Whether the block stands in the tail, so that an update of it takes no new place.
+    /// True if the block is in the tail, so that an update of it takes no new position.
     pub fn is_in_tail(&self, block: u64) -> bool
         ensures { result ≡ updates_block (tail_of self.now.log) block }
     {
         self.memory.is_in_tail(block)
     }
 
-    /// The content of the block in the tail, or `None` where it does not stand there.
+    /// The content of the block in the tail, or `None` if it is not there.
     pub fn in_tail(&self, block: u64) -> Option<&Block>
         ensures found { is_some result ≡ updates_block (tail_of self.now.log) block }
         ensures content { IfSome result (λ found.
@@ -155,7 +155,7 @@ impl Tail {
         self.memory.in_tail(block)
     }
 
-    /// The position at which the block stands in the tail, or `None` where it does not.
+    /// The position of the block in the tail, or `None` if it is not there.
     pub fn place_in_tail(&self, block: u64) -> Option<u64>
         ensures found { is_some result ≡ updates_block (tail_of self.now.log) block }
         ensures place { IfSome result (IsLastOf self.now.log block self.now.log.cut) }
@@ -165,7 +165,7 @@ impl Tail {
     }
 
     /// The content of the block at a position of the tail, lent to be overwritten. The tail is then
-    /// what it is with that content appended.
+    /// as it is with that content appended.
     pub fn tail_block(&mut self, position: u64) -> &mut Block
         requires from_cut { self.old.log.cut ≤ position }
         requires to_next { position < next_position self.old.log }
@@ -175,9 +175,13 @@ impl Tail {
         self.memory.tail_block(position)
     }
 
-    /// Refuses updates of so many blocks, of which so many are fresh, that is do not stand in the
-    /// tail: J4 `TooLarge` where there are more than 128, J11 `Worn` where a position would reach
-    /// 2^62, J12 `Full` where the tail and the fresh ones are more than 255. It takes no memory.
+    /// Checks an update of `blocks` blocks, `fresh` of them not in the tail. It takes no memory.
+    ///
+    /// # Errors
+    /// The first that applies is answered. The tail is as it was.
+    /// - `J4 TooLarge`: there are more than 128 blocks.
+    /// - `J11 Worn`: a position would reach 2^62.
+    /// - `J12 Full`: the tail and the fresh blocks are more than 255.
     pub fn check_room(&self, blocks: usize, fresh: usize) -> Result<(), Refusal<()>>
         requires { fresh ≤ blocks }
         ensures ok { OnOk result (AdmitsBlocks self.now.log blocks fresh) }
@@ -195,11 +199,12 @@ impl Tail {
         Ok(())
     }
 
-    /// Makes room for so many fresh blocks, where `check_room` admits them. `append_reserved` takes
-    /// them then, as long as no other call comes between.
+    /// Makes room for `fresh` fresh blocks, where `check_room` admits them. `append_reserved` then
+    /// takes them, if no other call comes in between.
     ///
-    /// Answers J1 `NoMemory`, and nothing else, where memory is refused. Refused or not, the tail
-    /// is as it was, but may have more room where it had too little.
+    /// # Errors
+    /// - `J1 NoMemory`: memory is refused. The tail is as it was, but may have more room where it
+    ///   had too little.
     pub fn reserve(&mut self, fresh: usize) -> Result<(), Refusal<()>>
         requires small { next_position self.old.log + fresh < 2 ^ 62 }
         requires tail { length (tail_of self.old.log) + fresh ≤ MAX_TAIL }
@@ -211,23 +216,24 @@ impl Tail {
         self.memory.reserve(fresh)
     }
 
-    /// Appends updates that `reserve` made room for: each in the place of the update of its block
-    /// in the tail, or at the end. It takes no memory, and moves the blocks.
+    /// Appends updates that `reserve` made room for: each in place of the update of its block in
+    /// the tail, or at the end. It takes no memory, and moves the blocks.
     pub fn append_reserved(&mut self, updates: Vec<Update>)
         requires homes { AreHomes self.old.log.blocks updates.items }
         requires room { TakesUpdates self.old.log updates.items }
         ensures log { self.new ≡ record self.old { log = appended self.old.log updates.items } }
-        // What was updated since any cut is what was, and then these.
+        // The updates since any cut are those before, and then these.
         ensures since { (from : ℕ) → self.old.log.start ≤ from → from ≤ self.old.log.cut →
             MakeTheSame (updates_from self.new.log from) (updates_from self.old.log from ++ updates.items) }
     {
         self.memory.append(updates);
     }
 
-    /// Cuts after so many commits: hands out a copy of the whole tail, which begins anew.
+    /// Cuts after the first `commits` commits: hands out a copy of the whole tail, which begins
+    /// anew.
     ///
-    /// Answers J1 `NoMemory`, and nothing else, where memory for the copy is refused. The tail is
-    /// then as it was.
+    /// # Errors
+    /// - `J1 NoMemory`: the memory for the copy is refused. The tail is as it was.
     pub fn cut(&mut self, commits: CommitCount) -> Result<Vec<Update>, Refusal<()>>
         ensures group { IfOk result (λ group. group.items ≡ tail_of self.old.log) }
         ensures few { IfOk result (λ group. length group.items ≤ MAX_TAIL) }
@@ -262,15 +268,14 @@ impl Tail {
         Ok(group)
     }
 
-    /// Drops the updates of each cut that ends at the position or before it: they are at home.
-    /// Where there is a copy of their block, it is overwritten by them. It takes no memory, and
-    /// moves the blocks.
+    /// Drops the updates of each cut that ends at the position or before it: they are at home. They
+    /// overwrite the copies of their blocks. It takes no memory, and moves the blocks.
     pub fn trim(&mut self, upto: Position)
         ensures drops { DropsCuts self.old upto self.new }
         ensures left { All (λ c. upto < c.end) self.new.cuts }
-        // What was updated since a cut that is left is as it was.
+        // The updates since a cut that is left are as they were.
         ensures since { (from : ℕ) → self.new.log.start ≤ from → updates_from self.new.log from ≡ updates_from self.old.log from }
-        // Of each block that memory still knows it knows what it knew.
+        // Memory knows nothing else of a block than it knew before.
         ensures known { MakesNoOther (known_blocks self.old) (known_blocks self.new) }
     {
         while self.has_cut_by(upto) {
@@ -278,7 +283,7 @@ impl Tail {
         }
     }
 
-    // Whether the first cut ends at the position or before it.
+    // True if the first cut ends at the position or before it.
     fn has_cut_by(&self, upto: Position) -> bool
         ensures yes { IsTrue result → (c : CutPoint) × (later : List CutPoint) × (self.now.cuts ≡ c ∷ later)
             × (self.now.log.start ≤ c.end) × (c.end ≤ upto) }
@@ -310,8 +315,7 @@ impl Tail {
     }
 }
 
-// Drops the updates before the position. Where there is a copy of their block, it is overwritten by
-// them.
+// Drops the updates before the position. They overwrite the copies of their blocks.
 fn move_to_cache(memory: &mut MemLog, cache: &mut BlockCache, upto: u64)
     requires from_start { memory.old.start ≤ upto }
     requires to_logged { upto ≤ memory.old.logged }

@@ -1,4 +1,4 @@
--- What a commit is, and why one is refused.
+-- A commit, and why one is refused.
 use Rattle.std.specs.Prelude.{ℕ, true, ◌≡◌, ◌<◌, ◌≤◌, IsTrue, List, length}
 use mathlib.Core.List.{IsPrefix}
 use Rattle.journal_world.specs.declared.refusal.Refusal.{Refusal}
@@ -45,7 +45,7 @@ abbrev pub ShowsFence : SessionState → Refusal CauseState → Type 0
 ShowsFence s Fenced = is_fenced s.number s.seen ≡ true
 ShowsFence s other = Unit {0}
 
--- Why a transaction is not committed at once. What J14 says is `ShowsFence`
+-- Why a transaction is not committed at once. `ShowsFence` is the case of J14
 abbrev pub IsTryRefusal : TransactionState → SessionState → Refusal CauseState → Type 0
 IsTryRefusal t s (Closed cause) = IsUnexplained J13 cause
 IsTryRefusal t s (DeviceFailed cause) = IsUnexplained J6 cause

@@ -1,4 +1,5 @@
--- What contracts see of a journal that threads share, and why it refuses what is no transaction's.
+-- A journal that threads share, as contracts see it, and why it refuses calls that belong to no
+-- transaction.
 use Rattle.std.specs.Prelude.{ℕ, ◌≡◌, false, IsTrue, List, [], ◌∷◌}
 use mathlib.Core.List.{IsPrefix}
 use Rattle.journal_world.specs.declared.refusal.Refusal.{Refusal}
@@ -40,7 +41,7 @@ pub record LeavesFront (start : List Entry) (disk : DiskState) : Type 0 where
   pub later : IsPrefix start front
   pub images : IsTrue disk.honest → EveryImage disk.past (OpensAfter front)
 
--- What is known of a history that was seen, under the mount's rule, on a disk of this layout
+-- The facts of a history that was seen, under the mount's rule, on a disk of this layout
 pub record IsKnown (rule : Map → Type 0) (layout : Shape) (history : List Entry) : Type 0 where
   pub on_disk : (opened history).layout ≡ layout
   -- where the disk was honest and settled when it was opened, the rule holds of the opened map, and

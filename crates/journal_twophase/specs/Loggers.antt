@@ -13,7 +13,7 @@ IsWakeFrom old None new = new ≡ old
 IsWakeFrom old Work new = (old ≡ Sleeps) × (new ≡ Woken)
 IsWakeFrom old GroupFull new = (old ≡ Delays) × (new ≡ Woken)
 
--- A step of the logger behind which a group is marked, or there is none
+-- A step of the logger after which a group is marked, or there is none
 abbrev pub IsGroupEnd : LogStep → Type 0
 IsGroupEnd (Marked count) = Unit {0}
 IsGroupEnd Idle = Unit {0}

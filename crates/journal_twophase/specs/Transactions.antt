@@ -1,4 +1,4 @@
--- What contracts see of an open transaction, what its calls do, and why they are refused.
+-- An open transaction as contracts see it, the effects of its calls, and why they are refused.
 use Rattle.std.specs.Prelude.{ℕ, ◌≡◌, ◌≢◌, ◌==◌, All, nat_lt, Bool, false, if◌then◌else◌, IsTrue, List, [], ◌∷◌, ◌++◌, MatchOption}
 use Rattle.std.specs.List.{list_any}
 use mathlib.Core.List.{IsPrefix}
@@ -15,10 +15,9 @@ use Rattle.journal_memory.specs.SlotCounts.{AgreeWith, AreUnder}
 use Rattle.journal_memory.specs.Transactions.{TransactionState, ReadResultState, AreUnmoved}
 
 pub record TxnState : Type 0 where
-  -- what its session had seen of the history when it began
+  -- the history that its session had seen when it began
   pub began : List Entry
-  -- what it has read and overwritten, and a history at whose end all that it read is what the map
-  -- gives
+  -- its reads and overwrites, and a history at whose end the map gives all that it read
   pub reads : List Pair
   pub writes : List Pair
   pub seen : List Entry
@@ -60,8 +59,8 @@ pub record Learns (old : TxnState) (a : Addr) (v : Value) (new : TxnState) : Typ
   pub later : IsPrefix old.seen new.seen
   pub others : new ≡ record old { reads = new.reads; seen = new.seen }
 
--- What a read answers and leaves: the transaction's own overwrite, where there is one, else what
--- the map gives
+-- The answer and the effect of a read: the transaction's own overwrite, if there is one, else the
+-- value that the map gives
 abbrev pub ReadsValue : TxnState → Addr → Value → TxnState → Type 0
 ReadsValue old a v new = MatchOption (value_among old.writes a) (Learns old a v new) (λ own. (v ≡ own) × (new ≡ old))
 
@@ -70,9 +69,9 @@ pub record Overwrites (old : TxnState) (a : Addr) (v : Value) (new : TxnState) :
   pub writes : SamePairs new.writes ((a, v) ∷ old.writes)
   pub others : new ≡ record old { writes = new.writes }
 
--- What an open transaction keeps of the slots that it holds, none of which it holds twice: all that
--- it read lies under them, and no commit touched one since, and all that it overwrote lies under
--- them
+-- The invariant of the slots that an open transaction holds, none of them twice: the slots of all
+-- its reads are among them, and no commit touched one since, and so are the slots of all its
+-- overwrites
 pub record KeepsHeld (layout : Shape) (held : List HeldState) (t : TransactionState) : Type 0 where
   pub reads : AreUnder layout held t.seen t.reads
   pub writes : HoldsSlots layout held t.writes
@@ -82,10 +81,10 @@ pub record KeepsHeld (layout : Shape) (held : List HeldState) (t : TransactionSt
 abbrev pub IsClearOf : Shape → ℕ → List Pair → Type 0
 IsClearOf layout slot ps = All (λ p. slot_of layout p.0 ≢ slot) ps
 
--- What a read of an address finds for a transaction: these bytes, and a history. The history goes
--- on from the one that the transaction has seen. No commit in between touched a slot under which
--- the transaction read. Each held slot was touched by as many commits of the history as its token
--- says. The bytes are an object of the address. Where the history is trusted, they are the value
+-- The result of a read of an address for a transaction: these bytes, and a history. The history
+-- goes on from the one that the transaction has seen. No commit in between touched a slot under
+-- which the transaction read. Each held slot was touched by as many commits of the history as its
+-- token says. The bytes are an object of the address. If the history is trusted, they are the value
 -- that the map at its end gives the address.
 pub record ReadsObject (layout : Shape) (t : TransactionState) (a : Addr) (held : List HeldState) (bytes : Value) (found : ReadResultState) : Type 0 where
   pub addr : found.addr ≡ a

@@ -1,4 +1,4 @@
--- What a call that waited for a mark tells, and why one is refused.
+-- The result of a call that waited for a mark, and why one is refused.
 use Rattle.std.specs.Prelude.{ℕ, ◌≡◌, ◌<◌, ◌≤◌, List}
 use Rattle.journal_world.specs.declared.refusal.Refusal.{Refusal}
 use Rattle.journal_world.specs.declared.refusal.Refusal.TheVariants.{DeviceFailed, Stale, Stranger, Closed}
@@ -14,8 +14,8 @@ use Rattle.journal_twophase.specs.declared.waiting.WaitFault.TheVariants.{Refuse
 use Rattle.journal_twophase.specs.Journals.{IsKnown, IsShown}
 use Rattle.journal_twophase.specs.Commits.{IsCommitted, IsCommitRefusal, ShowsStrange, ShowsFence}
 
--- The note says that at least so many commits are stable, by a mark in the history that the session
--- has seen
+-- The note says that at least this many commits are stable, by a mark in the history that the
+-- session has seen
 pub record IsStable (commits : ℕ) (note : StableCount) (session : SessionState) : Type 0 where
   pub covers : commits ≤ note.count
   pub marked : note.count ≤ floor session.seen
@@ -29,7 +29,7 @@ pub record CommitsAndWaits (rule : Map → Type 0) (layout : Shape) (began : Lis
   pub exact : IsExact new
   pub known : IsKnown rule layout new.seen
 
--- why a session that waits is not told that a mark stands
+-- why a session's wait for a mark is refused
 abbrev pub IsWaitRefusal : SessionState → Refusal CauseState → Type 0
 IsWaitRefusal s (Closed cause) = IsUnexplained J13 cause
 IsWaitRefusal s (DeviceFailed cause) = IsUnexplained J6 cause
@@ -43,21 +43,21 @@ HasEnded (Closed cause) = Unit {0}
 HasEnded (DeviceFailed cause) = Unit {0}
 HasEnded other = ⊥
 
--- a stop or a fault ends a wait for so many commits only where not so many are marked: the session
+-- a stop or a fault ends a wait for the first n commits only if they are not marked: the session
 -- has then seen a history that has no such mark
 abbrev pub IsEndedUnmarked : ℕ → SessionState → Refusal CauseState → Type 0
 IsEndedUnmarked commits s (Closed cause) = floor s.seen < commits
 IsEndedUnmarked commits s (DeviceFailed cause) = floor s.seen < commits
 IsEndedUnmarked commits s other = Unit {0}
 
--- why a commit that stands at this place is not known to be stable: the wait was refused, by a stop
--- or a fault only where no mark covers the commit
+-- why a commit at this place is not known to be stable: the wait was refused, by a stop or a fault
+-- only if no mark covers the commit
 abbrev pub IsUnsure : CommitPlace → SessionState → WaitFault CommitPlace CauseState → Type 0
 IsUnsure place s (Refused why) = ⊥
 IsUnsure place s (Unsure at why) = (at ≡ place) × IsWaitRefusal s why × IsEndedUnmarked at.count s why
 
--- Why a commit that waits for its mark has none: the history lacks it, or it stands there and is
--- not known to be stable
+-- Why a commit that waits for its mark has none: the history lacks it, or has it and it is not
+-- known to be stable
 abbrev pub IsWaitFault : (Map → Type 0) → Shape → List Entry → TransactionState → SessionState → SessionState → WaitFault CommitPlace CauseState → Type 0
 IsWaitFault rule layout began t old new (Refused why) = IsCommitRefusal t old why × OnlyExtends old new × ShowsFence new why
 IsWaitFault rule layout began t old new (Unsure place why) = CommitsAndWaits rule layout began t old new place × IsWaitRefusal new why × IsEndedUnmarked place.count new why

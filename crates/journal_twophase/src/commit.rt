@@ -14,19 +14,26 @@ use std::sync::Wait;
 
 impl<'j, 'b, D: BlockDisk, R: MapRule, J: Naming> Txn<'j, 'b, D, R, J> {
     /// Commits the transaction as the session's next one: adds it to the history, which the session
-    /// has then seen, and overwrites the map by its writes, in memory. The receipt says where it
-    /// stands: at or after all that the session had seen when the transaction began, where the map
-    /// gives all that was read. It waits while the log's tail has no room. The transaction is ended
-    /// either way, and its slots are given up.
+    /// has then seen, and overwrites the map by its writes, in memory. The receipt has its place:
+    /// at or after all that the session had seen when the transaction began, where the map gives
+    /// all that was read. It waits while the log's tail has no room. The transaction is ended
+    /// either way, and its slots are released.
     ///
-    /// The first that applies of these refuses it: J13 `Closed` where the journal was stopped, J6
-    /// `DeviceFailed` where the device failed before, J9 `Stale` where the history is longer than
-    /// the core's, J10 `Stranger` where the history has a commit under the session's number that
-    /// the session did not make, J14 `Fenced` where the session is fenced, J4 `TooLarge` where more
-    /// than 128 distinct blocks are written, J11 `Worn` where the history's length, the session's
-    /// number or a position of the log would reach 2^62, then J1 `NoMemory` where memory is
-    /// refused, or J6 where the device fails in this call. The history then lacks the transaction.
-    /// At J14 the session has seen its fence: reads and aborts go on, commits do not.
+    /// # Errors
+    /// The first that applies is answered, and of the last two the one that occurs. The history
+    /// then lacks the transaction.
+    /// - `J13 Closed`: the journal was stopped.
+    /// - `J6 DeviceFailed`: the device failed before.
+    /// - `J9 Stale`: the history is longer than the core's.
+    /// - `J10 Stranger`: the history has a commit under the session's number that the session did
+    ///   not make.
+    /// - `J14 Fenced`: the session is fenced, and has then seen its fence. Reads and aborts go on,
+    ///   commits do not.
+    /// - `J4 TooLarge`: more than 128 distinct blocks are written.
+    /// - `J11 Worn`: the history's length, the session's number or a position of the log would
+    ///   reach 2^62.
+    /// - `J1 NoMemory`: memory is refused.
+    /// - `J6 DeviceFailed`: the device fails in this call.
     pub fn commit<W: Wait>(
         self,
         rt: &W,
@@ -57,8 +64,9 @@ impl<'j, 'b, D: BlockDisk, R: MapRule, J: Naming> Txn<'j, 'b, D, R, J> {
 
     /// Commits the transaction as `commit` does, and waits for no room.
     ///
-    /// It is refused as `commit` is, and by J12 `Full`, after J11, where the log's tail cannot take
-    /// the blocks that do not stand in it.
+    /// # Errors
+    /// Those of `commit`. The history then lacks the transaction.
+    /// - `J12 Full`, after J11: the log's tail has no room for the blocks that are not in it.
     pub fn try_commit<W: Wait>(
         self,
         rt: &W,

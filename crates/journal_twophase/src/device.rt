@@ -1,7 +1,8 @@
-// The disk's lock: device calls, and what needs both parts.
+// The disk's lock: device calls, and the holds of both parts.
 //
-// A hold of the disk's lock makes at most one device call that changes the disk. Once that is over
-// it may take the memory lock inside: to cut, to mark, to trim, or to note that the device failed.
+// A hold of the disk's lock makes at most one device call that changes the disk. Once that call is
+// over the hold may take the memory lock inside: to cut, to mark, to trim, or to note that the
+// device failed.
 ghost use Rattle.std.specs.Prelude.{◌≡◌, ◌≢◌, ◌<◌, [], length, IsTrue, IsOkUnless, IfOk, IfErr, OnOk, OnErr, MatchResult, All};
 ghost use Rattle.journal_world.specs.Addresses.{is_valid};
 ghost use Rattle.journal_world.specs.Maps.{Map, Agrees, overwritten};
@@ -36,7 +37,7 @@ use std::rt::Clock;
 use std::sync::{MutexGuard, Wait};
 
 impl<'b, D: BlockDisk, R: MapRule, J: Naming> LockedParts<'b, D, R, J> {
-    // Does the next thing of the logger.
+    // Makes the next step of the logger.
     pub(crate) fn log_step<W: Wait>(&self, rt: &W) -> Result<LogStep, JournalRefusal<'b, J, R>>
         ensures { IfErr result IsLogRefusal }
     {
@@ -45,10 +46,10 @@ impl<'b, D: BlockDisk, R: MapRule, J: Naming> LockedParts<'b, D, R, J> {
         answer
     }
 
-    // Does the next thing of the logger once as many have committed as the last mark woke, or have
-    // had their time to, and no thread that waits for a mark makes its steps. Else the first of
-    // them that commits again would have a group for itself, and the others would wait for the
-    // next.
+    // Makes the next step of the logger once the group is full: as many threads have committed as
+    // the last mark woke, or have had their time to. No thread that waits for a mark makes the
+    // logger's steps then. Without this wait the first of these threads that commits again would
+    // have a group for itself, and the others would wait for the next.
     pub(crate) fn log_step_grouped<W: Wait + Clock>(
         &self,
         rt: &W,
@@ -59,8 +60,8 @@ impl<'b, D: BlockDisk, R: MapRule, J: Naming> LockedParts<'b, D, R, J> {
         self.log_step(rt)
     }
 
-    // The device call of the group in flight that is due, or where none is in flight what is due of
-    // both parts.
+    // Makes the device call of the group in flight that is due, or if none is in flight does the
+    // work of both parts that is due.
     pub(crate) fn log_call<W: Wait>(&self, rt: &W) -> Result<LogStep, JournalRefusal<'b, J, R>>
         ensures { IfErr result IsLogRefusal }
     {
@@ -74,8 +75,8 @@ impl<'b, D: BlockDisk, R: MapRule, J: Naming> LockedParts<'b, D, R, J> {
         }
     }
 
-    // Marks, cuts, or is idle, in a hold of both locks. Those that a mark is to wake are counted in
-    // the same hold, and after a cut the logger waits for no thread.
+    // Marks, cuts, or is idle, in a hold of both locks. The threads that a mark is about to wake
+    // are counted in the same hold. After a cut the logger waits for no thread.
     fn mark_or_cut<W: Wait>(
         &self,
         rt: &W,
@@ -101,8 +102,8 @@ impl<'b, D: BlockDisk, R: MapRule, J: Naming> LockedParts<'b, D, R, J> {
         answer
     }
 
-    // Wakes those for whom a step of the logger made something, and all where it can be followed by
-    // no other.
+    // Wakes the threads that a step of the logger concerns, and all threads if no other step can
+    // follow it.
     pub(crate) fn wake_after_step<W: Wait>(
         &self,
         rt: &W,
@@ -119,7 +120,7 @@ impl<'b, D: BlockDisk, R: MapRule, J: Naming> LockedParts<'b, D, R, J> {
         }
     }
 
-    // Does the next thing of the installer.
+    // Makes the next step of the installer.
     pub(crate) fn install_step<W: Wait>(
         &self,
         rt: &W,
@@ -135,7 +136,7 @@ impl<'b, D: BlockDisk, R: MapRule, J: Naming> LockedParts<'b, D, R, J> {
         answer
     }
 
-    // The installer's next device call. What is at home then is dropped from memory.
+    // Makes the installer's next device call. Blocks that are then at home are dropped from memory.
     fn install_call<W: Wait>(&self, rt: &W) -> Result<InstallStep, JournalRefusal<'b, J, R>>
         ensures { IfErr result IsInstallRefusal }
     {
@@ -154,8 +155,7 @@ impl<'b, D: BlockDisk, R: MapRule, J: Naming> LockedParts<'b, D, R, J> {
         }
     }
 
-    // Does the next thing of the installer where the log is past its threshold, and is idle
-    // otherwise.
+    // Makes the next step of the installer if the log is past its threshold, and is idle otherwise.
     pub(crate) fn install_past_threshold<W: Wait>(
         &self,
         rt: &W,
@@ -168,9 +168,9 @@ impl<'b, D: BlockDisk, R: MapRule, J: Naming> LockedParts<'b, D, R, J> {
         Ok(InstallStep::Idle)
     }
 
-    // Reads an object, and fetches its block where it still is not in memory. The disk's lock is
-    // held from the fetch to the next look in memory, so that of several threads that need one
-    // block the first fetches it for all. What was fetched and used is kept in memory.
+    // Reads an object, and fetches its block if memory still lacks it. The disk's lock is held from
+    // the fetch to the next look in memory. So if several threads need one block, the first fetches
+    // it for all. A block that was fetched and used is kept in memory.
     pub(crate) fn read_fetched<W: Wait>(
         &self,
         rt: &W,
@@ -199,8 +199,8 @@ impl<'b, D: BlockDisk, R: MapRule, J: Naming> LockedParts<'b, D, R, J> {
         unreachable!()
     }
 
-    // Commits, and fetches the blocks that still are not in memory, as `read_fetched` does. The
-    // memory lock is held in the end.
+    // Commits, and fetches the blocks that memory still lacks, as `read_fetched` does. The memory
+    // lock is held in the end.
     pub(crate) fn commit_fetched<'s, W: Wait>(
         &'s self,
         rt: &W,
@@ -228,7 +228,7 @@ impl<'b, D: BlockDisk, R: MapRule, J: Naming> LockedParts<'b, D, R, J> {
             let answer = memory
                 .volatile
                 .commit(rt, session, transaction, held, spares, &fetched);
-            // Called for its contract: what the session has then seen is sound.
+            // Called for its contract: the history that the session has then seen is sound.
             let _seen = session.seen();
             let missing = match answer {
                 Ok(CommitStep::Missing(blocks)) => blocks,
@@ -247,7 +247,7 @@ impl<'b, D: BlockDisk, R: MapRule, J: Naming> LockedParts<'b, D, R, J> {
         unreachable!()
     }
 
-    // Reads blocks as they are logged. Answers J1, and J6 where the device failed in this call or
+    // Reads blocks as they are logged. Answers J1, and J6 if the device failed in this call or
     // before.
     pub(crate) fn fetch<W: Wait>(
         &self,
@@ -264,8 +264,8 @@ impl<'b, D: BlockDisk, R: MapRule, J: Naming> LockedParts<'b, D, R, J> {
         }
     }
 
-    // Notes in memory that a device call failed, in the hold of the disk's lock in which it did,
-    // and gives the refusal.
+    // Notes in memory that a device call failed, in the same hold of the disk's lock, and gives the
+    // refusal.
     fn note_fault<W: Wait>(
         &self,
         rt: &W,
@@ -280,7 +280,7 @@ impl<'b, D: BlockDisk, R: MapRule, J: Naming> LockedParts<'b, D, R, J> {
         durable.note_fault(&mut memory.volatile, fault)
     }
 
-    // The numbers of commits and of marks, and where the log on the disk lies.
+    // The numbers of commits and of marks, and the log's range on the disk.
     pub(crate) fn stat<W: Wait>(&self, rt: &W) -> Stat {
         let durable = self.durable.lock(rt);
         let memory = self.memory.lock(rt);
@@ -418,7 +418,8 @@ fn disk_left<'b, D: BlockDisk, R: MapRule, J: Naming>(
 }
 
 // Shows the session the whole history, whose marks are all the disk's: each image that a crash may
-// leave of it opens as the map after a front of what the session has then seen. Answers J9.
+// leave of it opens as the map after a front of the history that the session has then seen. Answers
+// J9.
 fn show_images<'b, D: BlockDisk, R: MapRule, J: Naming>(
     durable: &Durable<'b, D, R, J>,
     volatile: &Volatile<'b, R, J>,

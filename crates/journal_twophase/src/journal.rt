@@ -1,4 +1,4 @@
-// The journal, and what is no transaction's.
+// The journal, and its calls that belong to no transaction.
 ghost use Rattle.std.specs.Prelude.{◌≡◌, ◌≢◌, ◌≤◌, ◌<◌, [], length, true, false, IsTrue, IfOk, IfErr, OnOk, MatchResult, IsOkUnless};
 ghost use mathlib.Core.List.{IsPrefix};
 ghost use Rattle.journal_world.specs.Addresses.{slot_of};
@@ -29,14 +29,14 @@ use std::marker::Model;
 use std::rt::Clock;
 use std::sync::Wait;
 
-/// Of how many blocks that are at home `Journal::open` keeps copies in memory at most.
+/// The most blocks at home of which `Journal::open` keeps copies in memory.
 pub const CACHED_BLOCKS: usize = 64;
 
-/// Of how many blocks that are at home `Journal::open_with_cache` may be told to keep copies.
+/// The most copies that `Journal::open_with_cache` keeps.
 pub const MAX_CACHED_BLOCKS: usize = 4096;
 
-/// What is left of a journal that was ended: its disk, as it is, and a front of its history, which
-/// has each commit that a crash may leave of the disk.
+/// The rest of a journal that was ended: its disk, as it is, and a front of its history, which has
+/// each commit that a crash may leave of the disk.
 #[derive(Drop)]
 pub struct DiskLeft<'b, D: BlockDisk, R: MapRule, J: Naming> {
     /// The disk.
@@ -45,7 +45,7 @@ pub struct DiskLeft<'b, D: BlockDisk, R: MapRule, J: Naming> {
     pub front: Front<'b, J, R>,
 }
 
-// Why a journal was not closed, with what is left of it.
+// Why a journal was not closed, with its disk and history.
 #[derive(Drop)]
 pub(crate) struct RefusedClose<'b, D: BlockDisk, R: MapRule, J: Naming> {
     pub(crate) refusal: JournalRefusal<'b, J, R>,
@@ -76,17 +76,18 @@ impl<'b, D: BlockDisk, R: MapRule, J: Naming> Model for Journal<'b, D, R, J> {
 
 impl<'b, D: BlockDisk, R: MapRule, J: Naming> Journal<'b, D, R, J> {
     /// Opens a disk on which nothing is pending: begins the book's history with the map that the
-    /// disk holds, where the rule admits it. What lies in the disk's log is read into memory, and
-    /// nothing is written.
+    /// disk holds, if the rule admits it. The updates in the disk's log are read into memory, and
+    /// nothing is written. Memory keeps copies of at most 64 blocks that are at home.
     ///
-    /// The first that applies of these refuses it: J8 `BadSuper` where the number of blocks is out
-    /// of range, J7 `BadLog` where the disk's log is not well formed, J8 where the rule does not
-    /// hold of the map, J9 `Stale` where the book has a history already. J1 `NoMemory` where memory
-    /// is refused, and J6 `DeviceFailed` where the device fails or the rule says so, come where
-    /// they are met. A refusal hands the disk back, with nothing written, and leaves the book as it
-    /// was; the cell is spent.
-    ///
-    /// Copies of no more than 64 blocks that are at home are kept in memory.
+    /// # Errors
+    /// A refusal gives the disk back, with nothing written, and leaves the book as it was; the cell
+    /// is spent. The first that applies is answered; J1 and J6 are answered where they occur.
+    /// - `J8 BadSuper`: the number of blocks is out of range.
+    /// - `J7 BadLog`: the disk's log is not well formed.
+    /// - `J8 BadSuper`: the rule does not hold of the map.
+    /// - `J9 Stale`: the book has a history already.
+    /// - `J1 NoMemory`: memory is refused.
+    /// - `J6 DeviceFailed`: the device fails, or the rule says so.
     pub fn open(
         alloc: Global,
         book: &'b Book<R>,
@@ -107,10 +108,12 @@ impl<'b, D: BlockDisk, R: MapRule, J: Naming> Journal<'b, D, R, J> {
         Journal::open_with_cache(alloc, book, cell, disk, rule, CACHED_BLOCKS)
     }
 
-    /// Opens a disk as `open` does, and is refused as it is. Copies of no more than so many blocks
-    /// that are at home are kept in memory, from 1 to 4096, those that were used last: a read or a
-    /// commit that finds its block there asks the device for nothing. What a read or a commit
-    /// answers does not depend on it.
+    /// Opens a disk as `open` does. Memory keeps at most `cached` copies of blocks that are at
+    /// home, from 1 to 4096, those that were used last. A read or a commit that finds its block
+    /// there makes no device call. The answers of reads and commits do not depend on it.
+    ///
+    /// # Errors
+    /// Those of `open`.
     pub fn open_with_cache(
         alloc: Global,
         book: &'b Book<R>,
@@ -140,13 +143,15 @@ impl<'b, D: BlockDisk, R: MapRule, J: Naming> Journal<'b, D, R, J> {
         Journal::open_layout(alloc, book, cell, layout, disk, rule, cached)
     }
 
-    /// Opens a disk by a layout, as `open_with_cache` does by that of files. The disk does not tell
-    /// its layout: it has to be opened by the same one each time. Each of its slots takes some 30
-    /// bytes of memory, and 160 where there are no more than 1024.
+    /// Opens a disk by a layout, as `open_with_cache` does by that of files. The disk does not
+    /// record its layout, so each opening needs the same one. Each of its slots takes some 30 bytes
+    /// of memory, and 160 if there are at most 1024.
     ///
-    /// The first that applies of these refuses it: J8 `BadSuper` where the disk has not as many
-    /// blocks as the layout, then what refuses `open`. A refusal hands the disk back, with nothing
-    /// written, and leaves the book as it was; the cell is spent.
+    /// # Errors
+    /// A refusal gives the disk back, with nothing written, and leaves the book as it was; the cell
+    /// is spent.
+    /// - `J8 BadSuper`: the disk has another number of blocks than the layout.
+    /// - All others: those of `open`.
     pub fn open_layout(
         alloc: Global,
         book: &'b Book<R>,
@@ -179,8 +184,7 @@ impl<'b, D: BlockDisk, R: MapRule, J: Naming> Journal<'b, D, R, J> {
                 disk,
             });
         };
-        // Nothing but the core's opening can be refused from here on, so a refusal leaves the book
-        // as it was.
+        // Only the core's opening can refuse from here on, so a refusal leaves the book as it was.
         let OpenedCore { core, start, slots } = LockedParts::open(
             alloc, book, cell, layout, disk, rule, cached,
         )?;
@@ -192,11 +196,12 @@ impl<'b, D: BlockDisk, R: MapRule, J: Naming> Journal<'b, D, R, J> {
         })
     }
 
-    /// A session of a number that no session had before and that the history has no commit and no
-    /// fence of. It has seen the whole history, which goes on from the journal's opening. It takes
+    /// A session of a number that no session had before. The history has no commit and no fence of
+    /// it. It has seen the whole history, which goes on from the journal's opening. The call takes
     /// no memory.
     ///
-    /// Answers J11 `Worn` where the number would reach 2^62.
+    /// # Errors
+    /// - `J11 Worn`: the number would reach 2^62. Nothing changed.
     pub fn session<W: Wait>(&self, rt: &W) -> Result<Session<'b, J, R>, JournalRefusal<'b, J, R>>
         ensures made { IfOk result (λ session. made session ≡ 0) }
         ensures exact { IfOk result IsExact }
@@ -210,20 +215,23 @@ impl<'b, D: BlockDisk, R: MapRule, J: Naming> Journal<'b, D, R, J> {
         Ok(session)
     }
 
-    /// Fences a session by its number, by an entry of the history where no fence of it stands: none
-    /// of its commits is added from then on, and no session gets the number. Reads and aborts go
-    /// on. The session that is lent has then seen the fence. It may be the one that is fenced.
-    /// Whoever waits for room under it is refused by J14 `Fenced`. The call adds this fence alone,
-    /// and no other session's.
+    /// Fences a session by its number, by an entry of the history, if it has no fence yet. None of
+    /// its commits is added from then on, and no session gets the number. Reads and aborts go on.
+    /// The session that is lent has then seen the fence. It may be the one that is fenced. A commit
+    /// under the fenced number that waits for room is refused by J14 `Fenced`. The call adds this
+    /// fence alone, and no other session's.
     ///
     /// Sessions have later numbers than any that is fenced: after a fence of 2^62 - 1, the greatest
     /// number that can be fenced, each later `session` answers J11 `Worn`.
     ///
-    /// The first that applies of these refuses it: J13 `Closed` where the journal was stopped, J6
-    /// `DeviceFailed` where the device failed before, J9 `Stale` where the history is longer than
-    /// the core's, and where no fence of it stands J11 `Worn` where the history's length or the
-    /// number that is to be fenced would reach 2^62, then J1 `NoMemory` where memory is refused. No
-    /// fence is then added.
+    /// # Errors
+    /// The first that applies is answered. No fence is then added.
+    /// - `J13 Closed`: the journal was stopped.
+    /// - `J6 DeviceFailed`: the device failed before.
+    /// - `J9 Stale`: the history is longer than the core's.
+    /// - `J11 Worn`: it has no fence yet, and the history's length or the number to fence would
+    ///   reach 2^62.
+    /// - `J1 NoMemory`: memory is refused.
     pub fn fence<W: Wait>(
         &self,
         rt: &W,
@@ -238,8 +246,8 @@ impl<'b, D: BlockDisk, R: MapRule, J: Naming> Journal<'b, D, R, J> {
     }
 
     /// The slot of an address, below the number of slots. A transaction that takes its slots in
-    /// ascending order waits for each of them, and no call of it is refused because another holds
-    /// one.
+    /// ascending order waits for each of them, and no call of it is refused because another
+    /// transaction holds one.
     pub fn slot_of(&self, addr: Addr) -> u16
         ensures slot { result ≡ slot_of J.layout addr }
         ensures in_range { result < J.layout.slots }
@@ -247,8 +255,8 @@ impl<'b, D: BlockDisk, R: MapRule, J: Naming> Journal<'b, D, R, J> {
         self.layout.slot_of(addr)
     }
 
-    // Called for its contract: what a session has seen begins with the journal's opening, since
-    // both are of one history, and what is known of it.
+    // Called for its contract: all that a session has seen begins with the journal's opening,
+    // because both are of one history.
     fn prove_begins(&self, session: &Session<'b, J, R>)
         ensures start { IsPrefix self.now.start session.now.seen }
         ensures known { IsKnown R.statement J.layout session.now.seen }
@@ -260,7 +268,7 @@ impl<'b, D: BlockDisk, R: MapRule, J: Naming> Journal<'b, D, R, J> {
 
     /// A transaction that has done nothing yet, after all of the history as it is now, which the
     /// session has then seen. It must be ended, by `commit`, `try_commit` or `abort`, and a commit
-    /// is under this session. It waits for nobody and takes no memory.
+    /// is under this session. The call does not block and takes no memory.
     pub fn begin<'j>(
         &'j self,
         alloc: Global,
@@ -273,29 +281,34 @@ impl<'b, D: BlockDisk, R: MapRule, J: Naming> Journal<'b, D, R, J> {
         Txn::new(self, alloc, session)
     }
 
-    /// Does the next thing of the logger: the device call of the group in flight that is due, else
-    /// a mark, else a cut, with at most one device call that changes the disk. It is idle where
-    /// there is nothing to log and to mark.
+    /// Makes the next step of the logger, with at most one device call that changes the disk: the
+    /// device call of the group in flight that is due, else a mark, else a cut. It is idle if there
+    /// is nothing to log and nothing to mark.
     ///
-    /// Answers J13 `Closed` where the journal was stopped, J6 `DeviceFailed` where the device
-    /// failed in this call or before, J9 `Stale` where the history is longer than the core's, J11
-    /// `Worn` where its length would reach 2^62, and J1 `NoMemory` where memory is refused.
+    /// # Errors
+    /// Nothing is then marked. J13 comes before all others.
+    /// - `J13 Closed`: the journal was stopped.
+    /// - `J6 DeviceFailed`: the device failed, in this call or before.
+    /// - `J9 Stale`: the history is longer than the core's.
+    /// - `J11 Worn`: the history's length would reach 2^62.
+    /// - `J1 NoMemory`: memory is refused. The step can be tried again.
     pub fn log_step<W: Wait>(&self, rt: &W) -> Result<Step, JournalRefusal<'b, J, R>>
         ensures { IfErr result IsLogRefusal }
     {
         Ok(log_moved(self.core.log_step(rt)?))
     }
 
-    /// Does the next thing of the logger as `log_step` does, but first waits until as many commits
-    /// came as threads were woken by the last mark, or as many wait for the next one, so that their
-    /// next commits share a group. While it waits, a thread that waits for a mark may make the
-    /// logger's steps in its place, and it goes on waiting as long as one does. Since a thread may
-    /// have nothing to commit, it looks again after 200 microseconds where several threads wait or
-    /// are awaited, else after a millisecond, and logs what it found at the look before. Where 128
-    /// blocks are to be logged it waits for nobody, and a stop or a device that failed ends the
-    /// wait.
+    /// Makes the next step of the logger as `log_step` does, but first waits for a full group. The
+    /// group is full once as many commits came as threads were woken by the last mark, or as many
+    /// threads wait for the next one. So their next commits share a group. While it waits, a thread
+    /// that waits for a mark may make the logger's steps in its place, and it goes on waiting as
+    /// long as one does. A thread may have nothing to commit. So it looks again after 200
+    /// microseconds if several threads wait or are awaited, else after a millisecond, and logs the
+    /// commits that it found at the look before. It does not wait if 128 blocks are to be logged,
+    /// and a stop or a device that failed ends the wait.
     ///
-    /// It is refused as `log_step` is.
+    /// # Errors
+    /// Those of `log_step`.
     pub fn log_step_grouped<W: Wait + Clock>(
         &self,
         rt: &W,
@@ -305,30 +318,36 @@ impl<'b, D: BlockDisk, R: MapRule, J: Naming> Journal<'b, D, R, J> {
         Ok(log_moved(self.core.log_step_grouped(rt)?))
     }
 
-    /// Does the next thing of the installer, with at most one device call that changes the disk. It
-    /// is idle where nothing is logged that is not at home.
+    /// Makes the next step of the installer, with at most one device call that changes the disk. It
+    /// is idle if all that is logged is at home.
     ///
-    /// Answers J13 `Closed` where the journal was stopped, J6 `DeviceFailed` where the device
-    /// failed in this call or before, and J1 `NoMemory` where memory is refused.
+    /// # Errors
+    /// The history stays. J13 comes before all others.
+    /// - `J13 Closed`: the journal was stopped.
+    /// - `J6 DeviceFailed`: the device failed, in this call or before.
+    /// - `J1 NoMemory`: memory is refused. The step can be tried again.
     pub fn install_step<W: Wait>(&self, rt: &W) -> Result<Step, JournalRefusal<'b, J, R>>
         ensures { IfErr result IsInstallRefusal }
     {
         Ok(install_moved(self.core.install_step(rt)?))
     }
 
-    /// The numbers of commits and of marks, and where the log on the disk lies.
+    /// The numbers of commits and of marks, and the log's range on the disk.
     pub fn stat<W: Wait>(&self, rt: &W) -> Stat {
         self.core.stat(rt)
     }
 
-    /// Waits until the commit of the receipt is stable: until a mark says that it is on the disk,
-    /// so that no crash loses it. The session has then seen the mark, and is exact.
+    /// Waits until the commit of the receipt is stable: until a mark covers it, so that no crash
+    /// loses it. The session has then seen the mark, and is exact.
     ///
-    /// The first that applies of these refuses it: J9 `Stale` where the history is longer than the
-    /// core's, J10 `Stranger` where it has a commit under the session's number that the session did
-    /// not make; J13 `Closed` where the journal was stopped and J6 `DeviceFailed` where the device
-    /// failed, both only where no mark covers the receipt: the session has then seen a history that
-    /// has none.
+    /// # Errors
+    /// The first that applies is answered.
+    /// - `J9 Stale`: the history is longer than the core's.
+    /// - `J10 Stranger`: it has a commit under the session's number that the session did not make.
+    /// - `J13 Closed`: the journal was stopped, and no mark covers the receipt. The session has
+    ///   then seen a history without one.
+    /// - `J6 DeviceFailed`: the device failed, and no mark covers the receipt. The session has then
+    ///   seen a history without one.
     pub fn wait_stable<W: Wait>(
         &self,
         rt: &W,
@@ -345,14 +364,17 @@ impl<'b, D: BlockDisk, R: MapRule, J: Naming> Journal<'b, D, R, J> {
     }
 
     /// Waits until all commits are stable that the session has seen, as `wait_stable` does, and for
-    /// no others. The session has then seen such a mark, and is exact. Where they are marked
-    /// already it waits for nothing, also after a stop or a fault of the device.
+    /// no others. The session has then seen such a mark, and is exact. If they are marked already
+    /// it does not wait, even after a stop or a fault of the device.
     ///
-    /// The first that applies of these refuses it: J9 `Stale` where the history is longer than the
-    /// core's, J10 `Stranger` where it has a commit under the session's number that the session did
-    /// not make; J13 `Closed` where the journal was stopped and J6 `DeviceFailed` where the device
-    /// failed, both only where not all of these commits are marked: the session has then seen a
-    /// history in which they are not.
+    /// # Errors
+    /// The first that applies is answered.
+    /// - `J9 Stale`: the history is longer than the core's.
+    /// - `J10 Stranger`: it has a commit under the session's number that the session did not make.
+    /// - `J13 Closed`: the journal was stopped, and not all of these commits are marked. The
+    ///   session has then seen a history in which they are not.
+    /// - `J6 DeviceFailed`: the device failed, and not all of these commits are marked. The session
+    ///   has then seen a history in which they are not.
     pub fn flush<W: Wait>(
         &self,
         rt: &W,
@@ -367,17 +389,18 @@ impl<'b, D: BlockDisk, R: MapRule, J: Naming> Journal<'b, D, R, J> {
         self.core.flush(rt, session)
     }
 
-    /// Stops the journal: reads, commits and steps, and waits for marks that do not stand, are
-    /// refused by J13 `Closed` from then on. Whoever waits is woken.
+    /// Stops the journal. Reads, commits and steps are refused by J13 `Closed` from then on, and so
+    /// are waits for marks that are not made yet. All waiting threads are woken.
     pub fn stop<W: Wait>(&self, rt: &W) {
         self.core.stop(rt);
     }
 
-    /// Does the next thing of the installer as `install_step` does, but only where more than 256
-    /// positions of the log are used. It is idle otherwise, so that the device's time is the
+    /// Makes the next step of the installer as `install_step` does, but only if more than 256
+    /// positions of the log are used. Otherwise it is idle, so that the device's time is the
     /// logger's until the log needs room.
     ///
-    /// It is refused as `install_step` is.
+    /// # Errors
+    /// Those of `install_step`.
     pub fn install_past_threshold<W: Wait>(&self, rt: &W) -> Result<Step, JournalRefusal<'b, J, R>>
         ensures { IfErr result IsInstallRefusal }
     {
@@ -387,7 +410,7 @@ impl<'b, D: BlockDisk, R: MapRule, J: Naming> Journal<'b, D, R, J> {
     /// Waits until `log_step` has something to do or is refused for good: a commit was made,
     /// positions of a full log became free, the journal was stopped, or the device failed. While it
     /// waits, a thread that waits for a mark may make the logger's steps in its place, and wakes it
-    /// where something is left to do.
+    /// if something is left to do.
     pub fn await_log_work<W: Wait>(&self, rt: &W) {
         self.core.await_log_work(rt);
     }
@@ -398,9 +421,9 @@ impl<'b, D: BlockDisk, R: MapRule, J: Naming> Journal<'b, D, R, J> {
     }
 
     /// Ends the journal, and gives the disk up as it is, with the history as far as the disk's part
-    /// has seen it, which goes on from the journal's opening: each image that a crash may leave of
-    /// the disk opens as the map after some first commits of that history. For whoever has a
-    /// session, `close` says more.
+    /// has seen it, which goes on from the journal's opening. Each image that a crash may leave of
+    /// the disk opens as the map after some first commits of that history. If there is a session,
+    /// `close` says more.
     pub fn into_disk(self) -> DiskLeft<'b, D, R, J>
         ensures size { (D.state result.disk).past.size ≡ J.layout.blocks }
         ensures images { IsTrue (D.state result.disk).honest → EveryImage (D.state result.disk).past (OpensAfter result.front) }
@@ -422,9 +445,10 @@ impl<'b, D: BlockDisk, R: MapRule, J: Naming> Journal<'b, D, R, J> {
     /// history, and each image that a crash may leave of the disk opens as the map after a front of
     /// it that has every marked commit.
     ///
-    /// Answers J9 `Stale` where the session had seen more of the history than the core, and nothing
-    /// else. The disk is then given up too: each image that a crash may leave of it opens as the
-    /// map after some first commits of a history that goes on from the journal's opening.
+    /// # Errors
+    /// - `J9 Stale`: the session had seen more of the history than the core. The disk is given up
+    ///   too: each image that a crash may leave of it opens as the map after some first commits of
+    ///   a history that goes on from the journal's opening.
     pub fn close(self, session: &mut Session<'b, J, R>) -> Result<D, Refused<D, Cause<'b, J, R>>>
         ensures session { OnlyExtends session.old session.new }
         ensures size { IfOk result (λ disk. (D.state disk).past.size ≡ J.layout.blocks) }
@@ -455,7 +479,7 @@ impl<'b, D: BlockDisk, R: MapRule, J: Naming> Journal<'b, D, R, J> {
 }
 
 impl<'b, R: MapRule, J: Naming> Journal<'b, MemDisk, R, J> {
-    /// Copies a block of the disk as a read of it would. It is no device call.
+    /// Copies a block of the disk as a read of it would. It makes no device call.
     pub fn inspect<W: Wait>(&self, rt: &W, block: u64, into: &mut Block)
         requires { block < J.layout.blocks }
     {
@@ -465,7 +489,8 @@ impl<'b, R: MapRule, J: Naming> Journal<'b, MemDisk, R, J> {
     /// Each block that has pending writes and their number, blocks ascending. It takes the disk's
     /// lock alone.
     ///
-    /// Answers J1 `NoMemory`, and nothing else, where memory for the list is refused.
+    /// # Errors
+    /// - `J1 NoMemory`: the memory for the list is refused. Nothing changed.
     pub fn pending<W: Wait>(&self, rt: &W) -> Result<Vec<(u64, u64)>, JournalRefusal<'b, J, R>>
         ensures { IsOkUnless result Refusal.NoMemory }
     {
@@ -476,8 +501,10 @@ impl<'b, R: MapRule, J: Naming> Journal<'b, MemDisk, R, J> {
     /// session has then seen the whole history, and the image opens as the map after a front of it
     /// that has every marked commit.
     ///
-    /// Answers J9 `Stale` where the session had seen more of the history than the core, else J1
-    /// `NoMemory` where memory for the image is refused.
+    /// # Errors
+    /// The first that applies is answered. The disk is as it was.
+    /// - `J9 Stale`: the session had seen more of the history than the core.
+    /// - `J1 NoMemory`: the memory for the image is refused.
     pub fn image<W: Wait>(
         &self,
         rt: &W,
@@ -500,8 +527,8 @@ impl<'b, R: MapRule, J: Naming> Journal<'b, MemDisk, R, J> {
     }
 }
 
-// Called for its contract: each history that has an entry goes on from the journal's opening, since
-// both are of one book.
+// Called for its contract: each history that has an entry goes on from the journal's opening,
+// because both are of one book.
 fn prove_goes_on<'b, R: MapRule, J: Naming>(start: &Front<'b, J, R>, front: &Front<'b, J, R>)
     requires one { length start.now ≡ 1 }
     requires begun { front.now ≢ [] }
@@ -511,7 +538,7 @@ fn prove_goes_on<'b, R: MapRule, J: Naming>(start: &Front<'b, J, R>, front: &Fro
     longer.see(front);
 }
 
-// Whether the logger did anything.
+// The step of a journal that a step of the logger is.
 fn log_moved(step: LogStep) -> Step {
     match step {
         LogStep::Idle => Step::Idle,
@@ -519,7 +546,7 @@ fn log_moved(step: LogStep) -> Step {
     }
 }
 
-// Whether the installer did anything.
+// The step of a journal that a step of the installer is.
 fn install_moved(step: InstallStep) -> Step {
     match step {
         InstallStep::Idle => Step::Idle,

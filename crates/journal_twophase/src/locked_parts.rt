@@ -1,9 +1,9 @@
 // The core's two parts, as threads share them: one function for each of their events.
 //
-// The memory lock stands here and in `device.rt`, `scanning.rt` and `waiting.rt`, the disk's in
-// `device.rt` and `scanning.rt`, and neither a part nor a guard of it leaves these four. The
-// contracts speak of sessions, transactions and receipts, because no fact of a part stays true
-// after its lock is released.
+// Only this file, `device.rt`, `scanning.rt` and `waiting.rt` take the memory lock, and only
+// `device.rt` and `scanning.rt` take the disk's. Neither a part nor a guard of it leaves these
+// four. The contracts speak of sessions, transactions and receipts, because no fact of a part stays
+// true after its lock is released.
 ghost use Rattle.std.specs.Prelude.{◌≡◌, ◌≢◌, ◌↔◌, ◌<◌, ◌≤◌, ◌⊎◌, true, false, length, IsTrue, IfOk, IfErr, IsErrAnd, IfSome, OnOk, OnErr, All};
 ghost use Rattle.journal_world.specs.Addresses.{is_valid};
 ghost use Rattle.journal_world.specs.Files.{shape};
@@ -42,26 +42,26 @@ use std::time::Duration;
 /// Why a journal refuses.
 pub type JournalRefusal<'b, J, R> = Refusal<Cause<'b, J, R>>;
 
-// What stands under the memory lock. Nobody who has it waits for a device.
+// The state under the memory lock. No thread that holds the lock waits for a device.
 #[derive(Drop)]
 pub(crate) struct UnderMemoryLock<'b, R: MapRule, J: Naming> {
-    // Keeps the lock's word and what stands under it on lines of memory of their own: each who
-    // tries the lock takes the word's line from its holder, who writes the others.
+    // Keeps the lock's word and the state under it on separate cache lines: each thread that tries
+    // the lock takes the word's line from the holder, which writes the other lines.
     pub(crate) padding: [u64; PADDING_WORDS],
     pub(crate) volatile: Volatile<'b, R, J>,
-    // Where the log on the disk starts. What was in it when it was opened stands in no part of
-    // memory, but takes room.
+    // The start of the log on the disk. Updates that were in the log at its opening are in no part
+    // of memory, but take room.
     pub(crate) log_start: Position,
     pub(crate) logger: LoggerState,
-    // A thread that waits for a mark makes the logger's steps, up to a mark.
+    // True while a thread that waits for a mark makes the logger's steps, up to a mark.
     pub(crate) is_led: bool,
-    // How many commits there were when the logger looked last.
+    // The number of commits at the logger's last look.
     pub(crate) seen_commits: CommitCount,
-    // Those that wait for a mark.
+    // The threads that wait for a mark.
     pub(crate) waiters: MarkWaiters,
 }
 
-// What a commit does where the log's tail has no room.
+// How a commit acts while the log's tail has no room.
 #[derive(Clone, Copy, Drop)]
 pub(crate) enum WhenFull {
     // It waits for the room that a cut makes.
@@ -71,7 +71,7 @@ pub(crate) enum WhenFull {
 }
 
 impl WhenFull {
-    // Whether a commit that is answered so waits for room, to be tried again.
+    // True if a commit with this answer waits for room, to be tried again.
     fn waits<T, C>(self, answer: &Result<T, Refusal<C>>) -> bool
         ensures { IsTrue result ↔ IsErrAnd answer.now (IsAwaited self) }
     {
@@ -82,7 +82,7 @@ impl WhenFull {
     }
 }
 
-// A commit that was answered, with the memory lock under which it was.
+// A commit that was answered, and the memory lock, still held.
 #[derive(Drop)]
 pub(crate) struct AnsweredCommit<'s, 'b, R: MapRule, J: Naming> {
     pub(crate) memory: MutexGuard<'s, UnderMemoryLock<'b, R, J>>,
@@ -90,32 +90,33 @@ pub(crate) struct AnsweredCommit<'s, 'b, R: MapRule, J: Naming> {
     pub(crate) spent: SpentTransaction<'b, J, R>,
 }
 
-// What the logger does. While it does not step, its steps may be made by whoever waits for a mark.
+// The state of the logger. While it does not step, a thread that waits for a mark may make its
+// steps.
 #[derive(Clone, Copy, Drop)]
 pub(crate) enum LoggerState {
     // It makes a step, or is between two of them.
     Steps,
-    // It sleeps until there is something to do, and nobody woke it yet.
+    // It sleeps until there is something to do, and no thread woke it yet.
     Sleeps,
-    // It waits for a while, and nobody ended that yet.
+    // It waits for a while, and no thread ended that wait yet.
     Delays,
-    // It is to go on, and has not had the lock again.
+    // It was woken, and has not had the lock again.
     Woken,
 }
 
-// For which of its waits the logger is to be woken.
+// The wait from which the logger has to be woken.
 #[derive(Clone, Copy, Drop)]
 pub(crate) enum LoggerWake {
     None,
     // There is something to do.
     Work,
-    // There is as much as the next group is to have.
+    // The next group is full.
     GroupFull,
 }
 
 impl<'b, R: MapRule, J: Naming> UnderMemoryLock<'b, R, J> {
-    // For which wait the logger is to be woken after this answer to a commit that nobody waits for
-    // yet. Who asks has to wake it: the next commit does not wake it for the same wait again.
+    // Which condition variable to notify after a commit that no thread waits for yet. The caller
+    // must notify it: the flag is cleared here, and the next commit does not notify it again.
     pub(crate) fn wake_after<T>(
         &mut self,
         answer: &Result<T, JournalRefusal<'b, J, R>>,
@@ -139,7 +140,7 @@ impl<'b, R: MapRule, J: Naming> UnderMemoryLock<'b, R, J> {
         wake
     }
 
-    // Whether the logger waits and nobody else makes its steps.
+    // True if the logger waits and no other thread makes its steps.
     fn is_unled(&self) -> bool
         ensures rests { IsTrue result → self.now.logger ≢ LoggerState.Steps }
         ensures alone { IsTrue result → self.now.is_led ≡ false }
@@ -147,7 +148,7 @@ impl<'b, R: MapRule, J: Naming> UnderMemoryLock<'b, R, J> {
         !self.is_led && !matches!(self.logger, LoggerState::Steps)
     }
 
-    // Whether all have come that are awaited, and there is something to log.
+    // True if all awaited threads have come, and there is something to log.
     fn has_whole_group(&self) -> bool
         ensures work { IsTrue result → HasNothingToLog self.now.volatile self.now.log_start → ⊥ }
         ensures come { IsTrue result → (self.now.waiters.awaited ≤ self.now.waiters.asleep) ⊎ (self.now.waiters.enough ≤ count self.now.volatile.ledger.history) }
@@ -157,8 +158,8 @@ impl<'b, R: MapRule, J: Naming> UnderMemoryLock<'b, R, J> {
             && self.volatile.check_running().is_ok()
     }
 
-    // Whether the next group is one for which a thread that waits may make the logger's steps: few
-    // are awaited, and where they are several, they wrote few blocks.
+    // True if the next group is one for which a waiting thread may make the logger's steps: few
+    // threads are awaited, and if they are several, they wrote few blocks.
     fn is_small_group(&self) -> bool
         ensures few { IsTrue result → self.now.waiters.awaited ≤ FEW }
     {
@@ -166,8 +167,8 @@ impl<'b, R: MapRule, J: Naming> UnderMemoryLock<'b, R, J> {
             && (!self.waiters.are_several() || self.volatile.tail_len() <= FEW_BLOCKS)
     }
 
-    // Whether a thread that is to sleep until a mark makes the logger's steps. It is the last of
-    // those that are awaited, and the group is small.
+    // True if a thread that is about to sleep until a mark makes the logger's steps. It is the last
+    // of the awaited threads, and the group is small.
     pub(crate) fn may_lead(&self) -> bool
         ensures rests { IsTrue result → self.now.logger ≢ LoggerState.Steps }
         ensures alone { IsTrue result → self.now.is_led ≡ false }
@@ -178,9 +179,9 @@ impl<'b, R: MapRule, J: Naming> UnderMemoryLock<'b, R, J> {
         self.is_unled() && self.is_small_group() && self.has_whole_group()
     }
 
-    // For which wait the logger is to be woken by a thread that is to sleep until a mark, or that
-    // has made the logger's steps. It has to make the steps of many, and to look after those of
-    // whom some come too late or not at all. Who asks has to wake it.
+    // Which condition variable to notify before a thread sleeps until a mark, or after it made the
+    // logger's steps. The logger makes the steps of many threads, and watches over threads of which
+    // some come too late or not at all. The caller must notify it.
     pub(crate) fn wake_to_watch(&mut self) -> LoggerWake
         ensures { IsWakeFrom self.old.logger result self.new.logger }
     {
@@ -193,23 +194,24 @@ impl<'b, R: MapRule, J: Naming> UnderMemoryLock<'b, R, J> {
         }
     }
 
-    // Whether there is something to log, or somebody waits with others, and nobody makes the
-    // logger's steps.
+    // True if no thread makes the logger's steps, and there is something to log or several threads
+    // wait or are awaited.
     fn is_to_watch(&self) -> bool {
         !self.is_led && (self.waiters.are_several() || may_log(self))
     }
 
-    // Whether all have come that are awaited, and the group is none for one of them.
+    // True if all awaited threads have come, no thread makes the logger's steps, and the group is
+    // not small.
     fn is_for_logger(&self) -> bool {
         !self.is_led && !self.is_small_group() && self.has_whole_group()
     }
 
-    // Whether the logger has something to do that no other thread does, or would be refused.
+    // True if the logger has something to do that no other thread does, or would be refused.
     fn has_log_work(&self) -> bool {
         self.volatile.check_running().is_err() || (!self.is_led && may_log(self))
     }
 
-    // For how long the logger waits before it looks again, or none where it makes its next step.
+    // How long the logger waits before it looks again, or none if it makes its next step.
     fn pause(&mut self) -> Option<Duration> {
         let seen = self.seen_commits;
         self.seen_commits = self.volatile.commits();
@@ -224,9 +226,9 @@ impl<'b, R: MapRule, J: Naming> UnderMemoryLock<'b, R, J> {
         Some(Duration::from_micros(micros))
     }
 
-    // Whether the logger makes its next step, where so many commits had come at its last look. It
-    // logs what was there then, whoever is missing. While commits come it does not go to sleep, so
-    // that no commit has to wake it.
+    // True if the logger makes its next step, where `seen` commits had come at its last look. It
+    // logs the commits of that look, whichever threads are missing. While commits come it does not
+    // go to sleep, so that no commit has to wake it.
     fn is_logger_due(&self, seen: CommitCount) -> bool {
         if self.volatile.check_running().is_err() {
             return true;
@@ -242,8 +244,8 @@ impl<'b, R: MapRule, J: Naming> UnderMemoryLock<'b, R, J> {
         have_come || self.volatile.floor() < seen || self.has_full_group()
     }
 
-    // Whether there are so many blocks to be cut that the group is delayed no more. With fewer
-    // there is room for any commit.
+    // True if there are enough blocks to cut that the group is delayed no more. With fewer there is
+    // room for any commit.
     fn has_full_group(&self) -> bool {
         self.volatile.tail_len() >= GROUP_BLOCKS
     }
@@ -251,9 +253,10 @@ impl<'b, R: MapRule, J: Naming> UnderMemoryLock<'b, R, J> {
 
 /// The core of a journal, a part under each of two locks.
 ///
-/// There is one condition variable for each reason to wait, so that nobody is woken for another's.
-/// All are the memory lock's, so that nobody who waits has the disk's. Each is notified after
-/// unlocking, unless the notifying thread is about to wait itself and still holds the lock.
+/// There is one condition variable for each reason to wait, so that no thread is woken for
+/// another's reason. All belong to the memory lock, so that no waiting thread has the disk's. Each
+/// is notified after unlocking, unless the notifying thread is about to wait itself and still holds
+/// the lock.
 #[derive(Drop)]
 pub(crate) struct LockedParts<'b, D: BlockDisk, R: MapRule, J: Naming> {
     pub(crate) alloc: Global,
@@ -268,29 +271,28 @@ pub(crate) struct LockedParts<'b, D: BlockDisk, R: MapRule, J: Naming> {
     pub(crate) memory: Mutex<UnderMemoryLock<'b, R, J>>,
     // A commit waits for room in the log's tail, which a cut makes.
     pub(crate) room: Condvar,
-    // A commit that is to be stable waits for its mark.
+    // A commit that has to be stable waits for its mark.
     pub(crate) marked: Condvar,
-    // The logger waits for a commit, or for positions that are free.
+    // The logger waits for a commit, or for free positions.
     pub(crate) logging: Condvar,
-    // The logger waits for a while: until there are as many commits as a mark woke threads, or as
-    // many of them sleep again, until a group that nobody waits for has grown, or while another
+    // The logger waits for a while: until as many commits have come as a mark woke threads, or as
+    // many of them sleep again; until a group that no thread waits for has grown; or while another
     // thread makes its steps.
     pub(crate) group_full: Condvar,
     // The installer waits for a log past its threshold.
     pub(crate) installing: Condvar,
-    // It was stopped, or the device failed. It is set before the memory lock is let go under which
-    // that was noted, so whoever has learned of it finds it set: a step that finds it unset may be
-    // thought of as made before.
+    // The journal was stopped, or the device failed. Set before the memory lock is released under
+    // which the end was noted. A step that reads it unset is ordered before the end.
     pub(crate) ended: Hint,
-    // A group is cut and not marked. The logger waits for nothing then: the group's commits wait
-    // for it.
+    // A group is cut and not marked. Meanwhile the logger does not wait, because the group's
+    // commits wait for it.
     pub(crate) group_in_flight: Hint,
-    // A thread that waits for a mark makes the logger's steps, as `is_led` says under the memory
+    // A thread that waits for a mark makes the logger's steps. Copies `is_led` under the memory
     // lock.
     pub(crate) led: Hint,
 }
 
-// What an opening gives: the core, the history that it begins with, and the slots, all free.
+// The result of an opening: the core, the history that it begins with, and the slots, all free.
 #[derive(Drop)]
 pub(crate) struct OpenedCore<'b, D: BlockDisk, R: MapRule, J: Naming> {
     pub(crate) core: LockedParts<'b, D, R, J>,
@@ -373,8 +375,8 @@ impl<'b, D: BlockDisk, R: MapRule, J: Naming> LockedParts<'b, D, R, J> {
         self.memory.lock(rt).volatile.session()
     }
 
-    // Fences a session. Answers J13, J6 of an earlier fault, J9, J11 and J1. Who waits for room is
-    // woken: it may wait under the session that is fenced, and is refused then.
+    // Fences a session. Answers J13, J6 of an earlier fault, J9, J11 and J1. The threads that wait
+    // for room are woken: one may wait under the fenced session, and is then refused.
     pub(crate) fn fence<W: Wait>(
         &self,
         rt: &W,
@@ -394,16 +396,16 @@ impl<'b, D: BlockDisk, R: MapRule, J: Naming> LockedParts<'b, D, R, J> {
         answer
     }
 
-    // Answers J13 where the core was stopped, J6 where the device failed before, and nothing else.
+    // Answers J13 if the core was stopped, J6 if the device failed before, and nothing else.
     pub(crate) fn check_running<W: Wait>(&self, rt: &W) -> Result<(), JournalRefusal<'b, J, R>>
         ensures { IfErr result IsEndRefusal }
     {
         self.memory.lock(rt).volatile.check_running()
     }
 
-    // Answers as `check_running` does, and takes the memory lock only where something may be
-    // refused. A step is asked for this inside the disk's lock, so the hold of the memory lock
-    // would be one for each device call.
+    // Answers as `check_running` does, and takes the memory lock only if something may be refused.
+    // Each step asks this inside the disk's lock, so a hold of the memory lock would be one for
+    // each device call.
     pub(crate) fn check_step<W: Wait>(&self, rt: &W) -> Result<(), JournalRefusal<'b, J, R>>
         ensures { IfErr result IsEndRefusal }
     {
@@ -430,9 +432,9 @@ impl<'b, D: BlockDisk, R: MapRule, J: Naming> LockedParts<'b, D, R, J> {
         memory.volatile.check_read(rt, transaction, held, addr)
     }
 
-    // Reads what the map gives the address, for the transaction to remember. What is held agrees
-    // with the history that it found. It answers J13, J6 of an earlier fault, and J9, then a new
-    // J6.
+    // Reads the value that the map gives the address, for the transaction to remember. The held
+    // slots agree with the history that it found. It answers J13, J6 of an earlier fault, and J9,
+    // then a new J6.
     pub(crate) fn read<W: Wait>(
         &self,
         rt: &W,
@@ -453,7 +455,7 @@ impl<'b, D: BlockDisk, R: MapRule, J: Naming> LockedParts<'b, D, R, J> {
         answer
     }
 
-    // Reads it from memory, or where its block is not there, with it.
+    // Reads it from memory, or if memory lacks its block, fetches the block first.
     fn read_or_fetch<W: Wait>(
         &self,
         rt: &W,
@@ -476,7 +478,7 @@ impl<'b, D: BlockDisk, R: MapRule, J: Naming> LockedParts<'b, D, R, J> {
         }
     }
 
-    // Reads it in one hold of the memory lock. Answers none where its block is to be fetched.
+    // Reads it in one hold of the memory lock. Answers none if its block has to be fetched.
     pub(crate) fn read_in<W: Wait>(
         &self,
         rt: &W,
@@ -504,8 +506,8 @@ impl<'b, D: BlockDisk, R: MapRule, J: Naming> LockedParts<'b, D, R, J> {
         answer
     }
 
-    // Reads it as `read_in` does, with what was fetched, and keeps that in memory where it is used.
-    // Answers none also where the fetch has seen more of the history than there is, which no fetch
+    // Reads it as `read_in` does, with the fetched block, and keeps that in memory if it is used.
+    // Answers none also if the fetch has seen more of the history than there is, which no fetch
     // from the same core has.
     pub(crate) fn read_with<W: Wait>(
         &self,
@@ -539,7 +541,7 @@ impl<'b, D: BlockDisk, R: MapRule, J: Naming> LockedParts<'b, D, R, J> {
         }
     }
 
-    // No block is fetched yet.
+    // The fetch of no block.
     pub(crate) fn empty_fetch(&self, transaction: &Transaction<'b, J, R>) -> Fetched<'b, J, R>
         ensures { result.front ≡ transaction.now.seen }
     {
@@ -578,7 +580,7 @@ impl<'b, D: BlockDisk, R: MapRule, J: Naming> LockedParts<'b, D, R, J> {
 
     // Commits under the memory lock, which is held in the end. Blocks that it needs and memory
     // lacks are fetched first. One that waits for room is tried again in each hold of the lock
-    // after a cut. The transaction is spent, so nobody above commits it a second time.
+    // after a cut. The transaction is spent, so no caller commits it a second time.
     pub(crate) fn commit_under<'s, W: Wait>(
         &'s self,
         rt: &W,
@@ -603,7 +605,7 @@ impl<'b, D: BlockDisk, R: MapRule, J: Naming> LockedParts<'b, D, R, J> {
             let step = memory
                 .volatile
                 .commit(rt, session, &transaction, held, spares, &nothing);
-            // Called for its contract: what the session has then seen is sound.
+            // Called for its contract: the history that the session has then seen is sound.
             let _seen = session.seen();
             let (guard, answer) = match step {
                 Ok(CommitStep::Done(receipt)) => (memory, Ok(receipt)),
@@ -636,7 +638,7 @@ impl<'b, D: BlockDisk, R: MapRule, J: Naming> LockedParts<'b, D, R, J> {
     }
 
     // Waits until the logger has something to do that no other thread does, or would be refused. It
-    // looks at memory alone: what it does not know of the log on the disk it is woken for.
+    // looks at memory alone. Changes of the log on the disk wake it.
     pub(crate) fn await_log_work<W: Wait>(&self, rt: &W) {
         let mut memory = self.memory.lock(rt);
         memory.logger = LoggerState::Sleeps;
@@ -649,10 +651,10 @@ impl<'b, D: BlockDisk, R: MapRule, J: Naming> LockedParts<'b, D, R, J> {
         }
     }
 
-    // Waits while another thread makes the logger's steps, and while a group is to grow: until as
-    // many have committed, or wait for a mark, as the last mark woke, or where nobody waits, until
-    // it has many blocks. It looks again and again, but for two waits at most where there is
-    // something to log and nobody else logs it.
+    // Waits while another thread makes the logger's steps, and while a group is growing: until as
+    // many threads have committed, or wait for a mark, as the last mark woke. If no thread waits,
+    // it waits until the group has many blocks. It looks again and again, but waits at most twice
+    // if there is something to log and no other thread logs it.
     pub(crate) fn wait_for_group<W: Wait + Clock>(&self, rt: &W) {
         if self.group_in_flight.is_set() && !self.led.is_set() {
             return;
@@ -679,12 +681,12 @@ impl<'b, D: BlockDisk, R: MapRule, J: Naming> LockedParts<'b, D, R, J> {
         }
     }
 
-    // Whether the log is past its threshold, or a step of the installer would be refused.
+    // True if the log is past its threshold, or a step of the installer would be refused.
     pub(crate) fn has_install_work<W: Wait>(&self, rt: &W) -> bool {
         may_install(&self.memory.lock(rt))
     }
 
-    // Stops the core, and wakes all.
+    // Stops the core, and wakes all threads.
     pub(crate) fn stop<W: Wait>(&self, rt: &W) {
         let mut memory = self.memory.lock(rt);
         self.ended.set(true);
@@ -693,7 +695,7 @@ impl<'b, D: BlockDisk, R: MapRule, J: Naming> LockedParts<'b, D, R, J> {
         self.wake_all();
     }
 
-    // Wakes all where the device failed.
+    // Wakes all threads if the device failed.
     pub(crate) fn wake_after_fault<T>(&self, answer: &Result<T, JournalRefusal<'b, J, R>>) {
         if matches!(answer, Err(Refusal::DeviceFailed(_))) {
             self.wake_all();
@@ -709,48 +711,47 @@ impl<'b, D: BlockDisk, R: MapRule, J: Naming> LockedParts<'b, D, R, J> {
     }
 }
 
-// How long the logger waits at most before it cuts a group for fewer than the last one was for, in
-// microseconds: some barriers of a fast device, or what a client at the other end of a connection
-// takes from a reply to its next call.
+// How long, in microseconds, the logger waits for woken threads to commit again: a few barriers of
+// a fast device, or one round trip of a client.
 const GROUP_DELAY_MICROS: u64 = 200;
 
-// Two lines of memory: processors fetch them by pairs.
+// Two cache lines, because processors fetch them by pairs.
 pub(crate) const PADDING_WORDS: usize = 16;
 
 // How often the memory lock is tried before a thread sleeps.
 const LOCK_TURNS: u32 = 40;
 
-// How long the logger delays a group at most that nobody waits for, in microseconds.
+// How long, in microseconds, the logger delays a group at most that no thread waits for.
 const UNAWAITED_DELAY_MICROS: u64 = 1000;
 
-// How many blocks end that delay. A tail takes 255 blocks, and a commit has 128 at most, so none
-// waits for room while there are fewer.
+// The number of blocks that ends that delay. A tail takes 255 blocks, and a commit has 128 at most,
+// so with fewer blocks none waits for room.
 const GROUP_BLOCKS: u64 = 128;
 
-// A group of several threads with more blocks is the logger's. A group's blocks are copied into
-// memory of the thread that cuts it, and other threads free that. Where each group is another
+// A group of several threads with more blocks is logged by the logger. A group's blocks are copied
+// into memory of the thread that cuts it, and other threads free that. If each group is another
 // thread's, much of such memory goes back to the system every time.
 const FEW_BLOCKS: u64 = 16;
 
-// The installer waits until so many positions of the log are used. A tail has at most 255 blocks,
-// so it fits then. So many are those of two groups at least, of which one is logged, so that the
-// installer has something to do.
+// The installer waits until more positions of the log than this are used. The log has 511
+// positions, so a full tail of 255 still fits. More than 256 are at least two groups, so one of
+// them is logged and can be installed.
 const INSTALL_THRESHOLD: u64 = 256;
 
-// Whether the log is so full that positions are to be freed.
+// True if the log is so full that positions have to be freed.
 pub(crate) fn is_past_threshold<'b, R: MapRule, J: Naming>(
     memory: &UnderMemoryLock<'b, R, J>,
 ) -> bool {
     memory.volatile.used_positions(memory.log_start) > INSTALL_THRESHOLD
 }
 
-// Whether the logger has something to do, or would be refused.
+// True if the logger has something to do, or would be refused.
 fn may_log<'b, R: MapRule, J: Naming>(memory: &UnderMemoryLock<'b, R, J>) -> bool {
     memory.volatile.check_running().is_err()
         || !memory.volatile.has_nothing_to_log(memory.log_start)
 }
 
-// Whether the log is past its threshold, or the installer would be refused.
+// True if the log is past its threshold, or the installer would be refused.
 fn may_install<'b, R: MapRule, J: Naming>(memory: &UnderMemoryLock<'b, R, J>) -> bool {
     memory.volatile.check_running().is_err() || is_past_threshold(memory)
 }

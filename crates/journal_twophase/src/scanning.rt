@@ -1,7 +1,7 @@
 // The bits of a block at one moment.
 //
-// Each hold is as one of a read: one of the memory lock alone where the block is in memory, else
-// one of the disk's lock with holds of the memory lock inside. No slot is taken. A hold copies the
+// Each hold is like one of a read: one of the memory lock alone if the block is in memory, else one
+// of the disk's lock with holds of the memory lock inside. No slot is taken. A hold copies the
 // block, and the bits are looked at in the copy, with no lock held.
 ghost use Rattle.std.specs.Prelude.{◌≡◌, ◌<◌, IsTrue, IfOk, IfErr, OnOk};
 ghost use Rattle.journal_world.specs.Histories.{is_trusted, latest};
@@ -24,20 +24,19 @@ impl<'b, D: BlockDisk, R: MapRule, J: Naming> Journal<'b, D, R, J> {
     /// map has them after the history that the session has then seen, which is the whole history at
     /// that moment. No commit comes in between two of them.
     ///
-    /// It takes no slot, so it neither waits for a transaction nor keeps one waiting, and what it
-    /// tells may change at once: who writes a bit reads it in a transaction. A block that is not in
-    /// memory is read from the disk. It goes on under a fence of the session.
+    /// It takes no slot, so it neither waits for a transaction nor keeps one waiting, and the bits
+    /// may change at once. A caller that writes a bit reads it in a transaction first. A block that
+    /// is not in memory is read from the disk. A scan is allowed under a fence of the session.
     ///
     /// # Errors
-    ///
-    /// The first that applies of these refuses it. The journal is then as it was, and the session
-    /// may have seen more:
-    ///
-    /// - J13 `Closed` where the journal was stopped;
-    /// - J6 `DeviceFailed` where the device failed before;
-    /// - J2 `BadAddress` where the block has no bits, or the first bit is above 32767;
-    /// - J9 `Stale` where the session has seen more of the history than the core;
-    /// - J1 `NoMemory` where memory is refused, or J6 where the device fails in this call.
+    /// The first that applies is answered, and of the last two the one that occurs. The journal is
+    /// as it was, and the session may have seen more.
+    /// - `J13 Closed`: the journal was stopped.
+    /// - `J6 DeviceFailed`: the device failed before.
+    /// - `J2 BadAddress`: the block has no bits, or the first bit is above 32767.
+    /// - `J9 Stale`: the session has seen more of the history than the core.
+    /// - `J1 NoMemory`: memory is refused.
+    /// - `J6 DeviceFailed`: the device fails in this call.
     pub fn scan<W: Wait>(
         &self,
         rt: &W,
@@ -51,7 +50,7 @@ impl<'b, D: BlockDisk, R: MapRule, J: Naming> Journal<'b, D, R, J> {
         ensures session { OnlyExtends session.old session.new }
         ensures refusal { IfErr result (IsScanRefusal J.layout scan) }
     {
-        // Memory that is taken under no lock.
+        // The memory is taken under no lock.
         let mut copy = match Block::try_new(alloc) {
             Ok(copy) => copy,
             Err(refusal) => {
@@ -65,7 +64,7 @@ impl<'b, D: BlockDisk, R: MapRule, J: Naming> Journal<'b, D, R, J> {
 }
 
 impl<'b, D: BlockDisk, R: MapRule, J: Naming> LockedParts<'b, D, R, J> {
-    // Refuses a scan by what is known before its block is looked for: J13, J6 of an earlier fault,
+    // Refuses a scan by what is known before its block is looked up: J13, J6 of an earlier fault,
     // J2, J9.
     fn check_scan<W: Wait>(
         &self,
@@ -97,7 +96,7 @@ impl<'b, D: BlockDisk, R: MapRule, J: Naming> LockedParts<'b, D, R, J> {
         answer
     }
 
-    // Copies it as memory has it, or where the block is not there, with it.
+    // Copies it as memory has it, or if memory lacks the block, fetches the block first.
     fn copy_or_fetch<W: Wait>(
         &self,
         rt: &W,
@@ -119,7 +118,7 @@ impl<'b, D: BlockDisk, R: MapRule, J: Naming> LockedParts<'b, D, R, J> {
         self.copy_fetched(rt, session, scan, nothing, into)
     }
 
-    // Copies it in one hold of the memory lock. Answers no where the block is to be fetched.
+    // Copies it in one hold of the memory lock. False if the block has to be fetched.
     fn copy_in<W: Wait>(
         &self,
         rt: &W,
@@ -140,8 +139,8 @@ impl<'b, D: BlockDisk, R: MapRule, J: Naming> LockedParts<'b, D, R, J> {
         answer
     }
 
-    // Copies it, and fetches the block where it still is not in memory. The disk's lock is held
-    // from the fetch to the next look in memory, as for a read.
+    // Copies it, and fetches the block if memory still lacks it. The disk's lock is held from the
+    // fetch to the next look in memory, as for a read.
     fn copy_fetched<W: Wait>(
         &self,
         rt: &W,
@@ -167,7 +166,7 @@ impl<'b, D: BlockDisk, R: MapRule, J: Naming> LockedParts<'b, D, R, J> {
         unreachable!()
     }
 
-    // Copies it as `copy_in` does, with what was fetched, and keeps that in memory where it is used.
+    // Copies it as `copy_in` does, with the fetched block, and keeps that in memory if it is used.
     fn copy_with<W: Wait>(
         &self,
         rt: &W,

@@ -1,11 +1,11 @@
-// A transaction that was handed to a commit.
+// A transaction that was passed to a commit.
 
 use journal_history::Naming;
 use journal_memory::Transaction;
 use journal_world::MapRule;
 
-// Nothing can be done with it but to let it go, so no body commits a transaction twice. Its memory
-// is given back where it is let go: after the memory lock.
+// It can only be dropped, so no body commits a transaction twice. Its memory is freed where it is
+// dropped: after the memory lock.
 #[derive(Drop)]
 pub(crate) struct SpentTransaction<'b, J: Naming, R: MapRule> {
     _transaction: Transaction<'b, J, R>,

@@ -18,11 +18,11 @@ use std::alloc::{AllocError, AllocFailed, Global};
 use std::marker::Model;
 use std::sync::Wait;
 
-/// An open transaction. Contracts see what its session had seen when it began, what it has read and
-/// overwritten, a history at whose end all that it read is what the map gives, and the slots that
+/// An open transaction. Contracts see the history that its session had seen when it began, its
+/// reads and overwrites, a history at whose end the map gives all that it read, and the slots that
 /// it holds.
 ///
-/// It must be ended, by `commit`, `try_commit` or `abort`: it can't be dropped.
+/// It must be ended, by `commit`, `try_commit` or `abort`: it cannot be dropped.
 #[must_use]
 pub struct Txn<'j, 'b, D: BlockDisk, R: MapRule, J: Naming> {
     pub(crate) journal: &'j Journal<'b, D, R, J>,
@@ -51,7 +51,7 @@ impl<'j, 'b, D: BlockDisk, R: MapRule, J: Naming> Model for Txn<'j, 'b, D, R, J>
 }
 
 impl<'j, 'b, D: BlockDisk, R: MapRule, J: Naming> Txn<'j, 'b, D, R, J> {
-    // One that has done nothing yet, after all that the session has seen.
+    // A transaction that has done nothing yet, after all that the session has seen.
     pub(crate) fn new(
         journal: &'j Journal<'b, D, R, J>,
         alloc: Global,
@@ -68,9 +68,8 @@ impl<'j, 'b, D: BlockDisk, R: MapRule, J: Naming> Txn<'j, 'b, D, R, J> {
         }
     }
 
-    /// The history that it has seen last, which goes on from the one at its beginning. All that it
-    /// has read is what the map gives at the end of it, whether the transaction is committed later
-    /// or not.
+    /// The history that it has seen last, which goes on from the one at its beginning. The map at
+    /// its end gives all that the transaction has read, whether it is committed later or not.
     pub fn front(&self) -> &Front<'b, J, R>
         ensures seen { result.now ≡ self.now.seen }
         ensures began { IsPrefix self.now.began self.now.seen }
@@ -79,18 +78,22 @@ impl<'j, 'b, D: BlockDisk, R: MapRule, J: Naming> Txn<'j, 'b, D, R, J> {
         self.transaction.front()
     }
 
-    /// The address's value: the transaction's own, where it has overwritten it, else what the map
-    /// gives, which it remembers. It takes the address's slot: it waits for one that is greater
-    /// than all that it holds, and tries a lower one once. All that it has read is what the map
-    /// gives at the end of one history, which it has then seen: also each value that it had read
-    /// before this one, of the same address too.
+    /// The address's value: the transaction's own, if it has overwritten it, else the one that the
+    /// map gives, which it remembers. It takes the address's slot: it waits for one that is greater
+    /// than all that it holds, and tries a lower one once. The map at the end of one history, which
+    /// it has then seen, gives all that it has read, with each value that it had read before this
+    /// one, of the same address too.
     ///
-    /// The first that applies of these refuses it: J13 `Closed` where the journal was stopped, J6
-    /// `DeviceFailed` where the device failed before, J2 `BadAddress` where the address is not
-    /// valid, J5 `Busy` where another holds the slot and this transaction a greater one, J9 `Stale`
-    /// where the transaction has seen more of the history than the core, then J1 `NoMemory` where
-    /// memory is refused, or J6 where the device fails in this call. The transaction is then as it
-    /// was, with the slots that it held.
+    /// # Errors
+    /// The first that applies is answered, and of the last two the one that occurs. The transaction
+    /// is as it was, with the slots that it held.
+    /// - `J13 Closed`: the journal was stopped.
+    /// - `J6 DeviceFailed`: the device failed before.
+    /// - `J2 BadAddress`: the address is not valid.
+    /// - `J5 Busy`: another transaction holds the slot, and this one holds a greater one.
+    /// - `J9 Stale`: the transaction has seen more of the history than the core.
+    /// - `J1 NoMemory`: memory is refused.
+    /// - `J6 DeviceFailed`: the device fails in this call.
     pub fn read<W: Wait>(&mut self, rt: &W, addr: Addr) -> Result<Value, JournalRefusal<'b, J, R>>
         ensures reads { IfOk result (λ value. ReadsValue (holding J.layout self.old addr) addr value self.new) }
         ensures object { IfOk result (λ value. IsTrue (is_object J.layout (addr, value))) }
@@ -112,12 +115,12 @@ impl<'j, 'b, D: BlockDisk, R: MapRule, J: Naming> Txn<'j, 'b, D, R, J> {
         if answer.is_err() {
             self.give_back(rt, took);
         }
-        // Called for its contract: all that was read is what one map gives.
+        // Called for its contract: one map gives all that was read.
         let _front = self.front();
         answer
     }
 
-    // The refusal of a read that the core was not asked for. That the journal goes on no more comes
+    // The refusal of a read that the core was not asked for. A stop or a fault of the journal comes
     // before it.
     fn unless_ended<W: Wait>(
         &self,
@@ -133,8 +136,7 @@ impl<'j, 'b, D: BlockDisk, R: MapRule, J: Naming> Txn<'j, 'b, D, R, J> {
         }
     }
 
-    // The refusal of a read for which there is no memory. All that would refuse it otherwise comes
-    // before.
+    // The refusal of a read for which there is no memory. All other refusals come before it.
     fn no_memory<W: Wait>(&mut self, rt: &W, addr: Addr) -> JournalRefusal<'b, J, R>
         requires valid { IsTrue (is_valid J.layout addr) }
         ensures refusal { IsCheckRefusal (core_of self.old) result }
@@ -152,8 +154,8 @@ impl<'j, 'b, D: BlockDisk, R: MapRule, J: Naming> Txn<'j, 'b, D, R, J> {
         }
     }
 
-    // Its own overwrite, else what the map gives, which it remembers. `kind` is that of the
-    // address's object.
+    // Its own overwrite, else the value that the map gives, which it remembers. `kind` is that of
+    // the address's object.
     fn find_value<W: Wait>(
         &mut self,
         rt: &W,
@@ -170,7 +172,7 @@ impl<'j, 'b, D: BlockDisk, R: MapRule, J: Naming> Txn<'j, 'b, D, R, J> {
         ensures same { OnErr result (self.new ≡ self.old) }
     {
         let journal = self.journal;
-        // Called for its contract: all that was read is what one map gives.
+        // Called for its contract: one map gives all that was read.
         let _front = self.front();
         if let Some(own) = self.own(addr) {
             journal.core.check_running(rt)?;
@@ -189,8 +191,8 @@ impl<'j, 'b, D: BlockDisk, R: MapRule, J: Naming> Txn<'j, 'b, D, R, J> {
         Ok(vec![in self.alloc; 0u8; kind.bytes()]?)
     }
 
-    // What the map gives, which it remembers. Only the look-up has a lock of the core: the value's
-    // memory is made outside of it.
+    // The value that the map gives, which it remembers. Only the look-up has a lock of the core:
+    // the value's memory is made outside of it.
     fn read_map<W: Wait>(
         &mut self,
         rt: &W,
@@ -207,7 +209,7 @@ impl<'j, 'b, D: BlockDisk, R: MapRule, J: Naming> Txn<'j, 'b, D, R, J> {
         ensures same { OnErr result (self.new ≡ self.old) }
     {
         let journal = self.journal;
-        // Called for its contract: what was read before is what the map gave.
+        // Called for its contract: the map gave all that was read before.
         let _before = self.transaction.front();
         let mut bytes = room;
         let Txn {
@@ -221,23 +223,26 @@ impl<'j, 'b, D: BlockDisk, R: MapRule, J: Naming> Txn<'j, 'b, D, R, J> {
         Ok(value)
     }
 
-    // What it gave the address, if it has overwritten it.
+    // The value that it gave the address, if it has overwritten it.
     fn own(&self, addr: Addr) -> Option<&Value>
         ensures own { option_copied result ≡ value_among self.now.writes addr }
         ensures object { IfSome (option_copied result) (λ value. IsTrue (is_object J.layout (addr, value))) }
     {
-        // Called for its contract: what it overwrites are objects.
+        // Called for its contract: its overwrites are objects.
         let _front = self.transaction.front();
         self.transaction.own(addr)
     }
 
     /// Overwrites the address, in this transaction alone until it is committed. It takes the
-    /// address's slot, as `read` does. It does not ask the device, and goes on where that failed.
+    /// address's slot, as `read` does. It makes no device call, and goes on after a fault.
     ///
-    /// The first that applies of these refuses it: J2 `BadAddress` where the address is not valid,
-    /// J3 `BadSize` where the bytes are no value of its kind, J5 `Busy` where another holds the
-    /// slot and this transaction a greater one, then J1 `NoMemory` where memory is refused. The
-    /// transaction is then as it was, with the slots that it held.
+    /// # Errors
+    /// The first that applies is answered. The transaction is as it was, with the slots that it
+    /// held.
+    /// - `J2 BadAddress`: the address is not valid.
+    /// - `J3 BadSize`: the bytes are no value of its kind.
+    /// - `J5 Busy`: another transaction holds the slot, and this one holds a greater one.
+    /// - `J1 NoMemory`: memory is refused.
     pub fn overwrite<W: Wait>(
         &mut self,
         rt: &W,
@@ -264,7 +269,7 @@ impl<'j, 'b, D: BlockDisk, R: MapRule, J: Naming> Txn<'j, 'b, D, R, J> {
         answer
     }
 
-    // Remembers what is to be written.
+    // Remembers the value that is to be written.
     fn remember(&mut self, addr: Addr, bytes: &[u8]) -> Result<(), JournalRefusal<'b, J, R>>
         requires object { IsTrue (is_object J.layout (addr, bytes.now)) }
         requires slot { IsTrue (holds self.old.held (slot_number J.layout addr)) }
@@ -277,7 +282,7 @@ impl<'j, 'b, D: BlockDisk, R: MapRule, J: Naming> Txn<'j, 'b, D, R, J> {
         Ok(())
     }
 
-    // Takes the slot, and says whether the transaction did not hold it already.
+    // Takes the slot. True if the transaction did not hold it already.
     fn take<W: Wait>(&mut self, rt: &W, slot: u16) -> Result<bool, JournalRefusal<'b, J, R>>
         requires in_range { slot < J.layout.slots }
         ensures taken { OnOk result (self.new ≡ record self.old { held = with_slot self.old.held slot }) }
@@ -304,22 +309,22 @@ impl<'j, 'b, D: BlockDisk, R: MapRule, J: Naming> Txn<'j, 'b, D, R, J> {
         }
     }
 
-    // Whether it holds the slot.
+    // True if it holds the slot.
     fn holds(&self, slot: u16) -> bool
         ensures { result ≡ holds self.now.held slot }
     {
         self.held.iter().any(|held| held.slot() == slot)
     }
 
-    // Whether it holds a greater one.
+    // True if it holds a greater one.
     fn holds_above(&self, slot: u16) -> bool
         ensures { result ≡ holds_above self.now.held slot }
     {
         self.held.iter().any(|held| held.slot() > slot)
     }
 
-    // Gives back the slot that a refused call took, where it took one. Nothing that was read or
-    // overwritten lies under it.
+    // Releases the slot that a refused call took, if it took one. No read and no overwrite is under
+    // it.
     fn give_back<W: Wait>(&mut self, rt: &W, took: bool)
         requires clear { IsTrue took → (before : List ℕ) (slot : ℕ) → self.old.held ≡ before ++ slot ∷ [] → IsClearOf J.layout slot self.old.reads × IsClearOf J.layout slot self.old.writes }
         ensures { (t : TxnState) (slot : ℕ) → self.old ≡ record t { held = (if took then t.held ++ slot ∷ [] else t.held) } → self.new ≡ t }
@@ -333,7 +338,7 @@ impl<'j, 'b, D: BlockDisk, R: MapRule, J: Naming> Txn<'j, 'b, D, R, J> {
         }
     }
 
-    /// Gives the transaction up, with its slots. It takes no memory.
+    /// Ends the transaction without a commit, and releases its slots. The call takes no memory.
     pub fn abort<W: Wait>(self, rt: &W) {
         let Txn {
             journal,
@@ -346,7 +351,7 @@ impl<'j, 'b, D: BlockDisk, R: MapRule, J: Naming> Txn<'j, 'b, D, R, J> {
     }
 }
 
-// Gives all these slots back.
+// Releases all these slots.
 pub(crate) fn release_all<J: Naming, W: Wait>(rt: &W, slots: &LockMap<J>, held: Vec<Held<J>>) {
     let mut held = held;
     while let Some(last) = held.pop() {

@@ -22,13 +22,13 @@ use std::time::Duration;
 // it before.
 const LONGEST_SLEEP: u64 = 3600;
 
-/// Why a commit that waits to be stable has no note of it.
+/// Why a commit that has to be stable has no note of it.
 #[derive(Debug, Drop)]
 pub enum WaitFault<P, C> {
     /// The transaction was refused, and the history lacks it.
     Refused(Refusal<C>),
-    /// It was committed: it stands in the history at this place. But the wait was refused, so it is
-    /// not known to be stable: after a crash it may be there or not.
+    /// It was committed: the history has it at this place. But the wait was refused, so it is not
+    /// known to be stable: after a crash it may be there or not.
     Unsure(P, Refusal<C>),
 }
 
@@ -39,7 +39,7 @@ pub type Waited<'b, J, R> = Result<
 >;
 
 impl<'b, D: BlockDisk, R: MapRule, J: Naming> LockedParts<'b, D, R, J> {
-    // Waits until so many commits are marked as stable. Answers J13, J6, J9 and J10.
+    // Waits until the first n commits are marked as stable. Answers J13, J6, J9 and J10.
     pub(crate) fn wait_stable<W: Wait>(
         &self,
         rt: &W,
@@ -56,7 +56,7 @@ impl<'b, D: BlockDisk, R: MapRule, J: Naming> LockedParts<'b, D, R, J> {
         self.wait_in(rt, memory, session, commits)
     }
 
-    // Waits until all commits are marked that the session has seen, and for no others. Answers J9,
+    // Waits until all commits that the session has seen are marked, and for no others. Answers J9,
     // J10, J13 and J6.
     pub(crate) fn flush<W: Wait>(
         &self,
@@ -79,7 +79,7 @@ impl<'b, D: BlockDisk, R: MapRule, J: Naming> LockedParts<'b, D, R, J> {
         unreachable!()
     }
 
-    // Waits, with the lock held at first, until so many commits are marked.
+    // Waits, with the lock held at first, until the first n commits are marked.
     fn wait_in<'s, W: Wait>(
         &'s self,
         rt: &W,
@@ -104,8 +104,8 @@ impl<'b, D: BlockDisk, R: MapRule, J: Naming> LockedParts<'b, D, R, J> {
         unreachable!()
     }
 
-    // Waits until a mark is made or all are woken. Where it may lead, the thread makes the logger's
-    // steps itself up to a mark, for all that have come.
+    // Waits until a mark is made or all are woken. If it may lead, the thread makes the logger's
+    // steps itself up to a mark, for all commits that have come.
     fn lead_or_sleep<'s, W: Wait>(
         &'s self,
         rt: &W,
@@ -126,8 +126,8 @@ impl<'b, D: BlockDisk, R: MapRule, J: Naming> LockedParts<'b, D, R, J> {
         memory
     }
 
-    // Makes the logger's steps up to one that is a mark, idle or refused. Nobody is woken for that
-    // one before another may lead: whom it wakes may make the next group.
+    // Makes the logger's steps up to one that is a mark, idle or refused. Another thread may lead
+    // before any thread is woken for that step: the woken threads may make the next group.
     fn lead<'s, W: Wait>(&'s self, rt: &W) -> MutexGuard<'s, UnderMemoryLock<'b, R, J>> {
         let answer = self.make_group(rt);
         let mut memory = self.lock_memory(rt);
@@ -141,14 +141,14 @@ impl<'b, D: BlockDisk, R: MapRule, J: Naming> LockedParts<'b, D, R, J> {
         self.lock_memory(rt)
     }
 
-    // Leaves what is to be logged to the logger, where nobody waits for it.
+    // Leaves the logging to the logger, if no thread waits for it.
     fn let_log<W: Wait>(&self, rt: &W) {
         let wake = self.lock_memory(rt).wake_to_watch();
         self.wake_logger(wake);
     }
 
-    // Makes the logger's steps, and answers the first that is a mark, idle or refused. Who waits
-    // for one of the others is woken.
+    // Makes the logger's steps, and answers the first that is a mark, idle or refused. Threads that
+    // wait for one of the others are woken.
     fn make_group<W: Wait>(&self, rt: &W) -> Result<LogStep, JournalRefusal<'b, J, R>>
         ensures ends { IfOk result IsGroupEnd }
         ensures refusal { IfErr result IsLogRefusal }
@@ -164,7 +164,7 @@ impl<'b, D: BlockDisk, R: MapRule, J: Naming> LockedParts<'b, D, R, J> {
     }
 
     // Sleeps until a mark is made or all are woken. `wait` ends in the lock's own wait, where each
-    // that is woken sleeps once more. Where few sleep they try for the lock in place of that.
+    // woken thread sleeps once more. If few threads sleep, they try for the lock in place of that.
     fn sleep<'s, W: Wait>(
         &'s self,
         rt: &W,
@@ -180,8 +180,8 @@ impl<'b, D: BlockDisk, R: MapRule, J: Naming> LockedParts<'b, D, R, J> {
         self.lock_memory(rt)
     }
 
-    // Sleeps, in the hold of the lock in which it was committed, until the commit of the receipt is
-    // marked. The session is exact before and after.
+    // Sleeps until the commit of the receipt is marked, in the hold of the lock of that commit. The
+    // session is exact before and after.
     fn await_mark<'s, W: Wait>(
         &'s self,
         rt: &W,
@@ -197,7 +197,7 @@ impl<'b, D: BlockDisk, R: MapRule, J: Naming> LockedParts<'b, D, R, J> {
         ensures known { IsKnown R.statement J.layout session.new.seen }
     {
         let answer = self.wait_in(rt, memory, session, receipt.count());
-        // Called for its contract: what the session has then seen is sound.
+        // Called for its contract: the history that the session has then seen is sound.
         let _seen = session.seen();
         match answer {
             Ok(note) => Ok((receipt, note)),
@@ -210,17 +210,21 @@ impl<'b, D: BlockDisk, R: MapRule, J: Naming> LockedParts<'b, D, R, J> {
 }
 
 impl<'j, 'b, D: BlockDisk, R: MapRule, J: Naming> Txn<'j, 'b, D, R, J> {
-    /// Commits the transaction as `commit` does, and waits until it is stable: until a mark says
-    /// that it is on the disk, so that no crash loses it. Its slots are given up before it waits.
-    /// The note covers it; the session has seen the mark, and is exact.
+    /// Commits the transaction as `commit` does, and waits until it is stable: until a mark covers
+    /// it, so that no crash loses it. Its slots are released before it waits. The note covers it.
+    /// The session has seen the mark, and is exact.
     ///
-    /// Answers `Refused` where `commit` would refuse it: the history then lacks it. Answers
-    /// `Unsure` where it stands in the history, by the receipt, but the wait is refused: by J9
-    /// `Stale` where the history is longer than the core's, by J10 `Stranger` where it has a commit
-    /// under the session's number that the session did not make, by J13 `Closed` where the journal
-    /// was stopped, and by J6 `DeviceFailed` where the device failed. The last two come only where
-    /// no mark covers the commit: the session has then seen a history that has none. The session is
-    /// exact then too.
+    /// # Errors
+    /// - `Refused`: `commit` refuses it, for the same reasons. The history then lacks it.
+    /// - `Unsure`: it is in the history, by the receipt, but the wait is refused. The session is
+    ///   exact. The reason is one of the next four.
+    /// - `J9 Stale`: the history is longer than the core's.
+    /// - `J10 Stranger`: the history has a commit under the session's number that the session did
+    ///   not make.
+    /// - `J13 Closed`: the journal was stopped, and no mark covers the commit. The session has then
+    ///   seen a history without one.
+    /// - `J6 DeviceFailed`: the device failed, and no mark covers the commit. The session has then
+    ///   seen a history without one.
     pub fn commit_wait<W: Wait>(self, rt: &W, session: &mut Session<'b, J, R>) -> Waited<'b, J, R>
         requires rule { (m : Map) → m.layout ≡ J.layout → R.statement m → Agrees m self.reads
             → R.statement (overwritten m self.writes) }
@@ -253,14 +257,14 @@ impl<'j, 'b, D: BlockDisk, R: MapRule, J: Naming> Txn<'j, 'b, D, R, J> {
     }
 }
 
-// Whether a step of the logger is one of those that come before a mark.
+// True if a step of the logger is one of those that come before a mark.
 fn is_within_group<C>(answer: &Result<LogStep, Refusal<C>>) -> bool
     ensures { IsTrue result ⊎ IfOk answer.now IsGroupEnd }
 {
     matches!(answer, Ok(LogStep::Cut | LogStep::Put | LogStep::Logged))
 }
 
-// Asks the volatile part whether so many commits are marked. Where a stop or a fault refuses that,
+// Asks the volatile part whether the first n commits are marked. If a stop or a fault refuses that,
 // the session has then seen the history that has no such mark: a wait for no commit shows it.
 fn wait_step<'b, R: MapRule, J: Naming, W: Wait>(
     rt: &W,
@@ -283,15 +287,15 @@ fn wait_step<'b, R: MapRule, J: Naming, W: Wait>(
     answer
 }
 
-// Whether the answer is that the journal goes on no more.
+// True if the answer is that the journal goes on no more.
 fn is_end<T, C>(answer: &Result<T, Refusal<C>>) -> bool
     ensures { IsTrue result ↔ IsErrAnd answer.now HasEnded }
 {
     matches!(answer, Err(Refusal::Closed(_) | Refusal::DeviceFailed(_)))
 }
 
-// Asks the volatile part whether all commits are marked that the session has seen, and notes it. If
-// not, the session stays as it was, so that it is asked of the same commits again.
+// Asks the volatile part whether all commits that the session has seen are marked, and notes it. If
+// not, the session stays as it was, so that the same commits are asked for again.
 fn flush_step<'b, R: MapRule, J: Naming, W: Wait>(
     rt: &W,
     volatile: &mut Volatile<'b, R, J>,

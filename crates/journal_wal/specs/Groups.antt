@@ -9,14 +9,14 @@ use Rattle.journal_tail.specs.Homes.{SameBlocks}
 use Rattle.journal_wal.specs.Wal.{WalState, size_of, blocks_now, blocks_cut, blocks_logged, log_steps, barriers_before, tail_length, free_positions}
 use Rattle.journal_tail.specs.declared.limits.TheConstants.{MAX_TAIL}
 
--- There is a place for a group of so many blocks: none is in flight, it has a block, and the log a
--- position for each
+-- There is a place for a group of this many blocks: none is in flight, it has a block, and the log
+-- a position for each
 pub record FitsGroup (w : WalState) (blocks : ℕ) : Type 0 where
   pub rest : log_steps w ≡ 0
   pub some : 0 < blocks
   pub fits : blocks ≤ free_positions w
 
--- Any group of so many blocks can be taken, without memory and without a refusal
+-- Any group of this many blocks can be taken, without memory and without a refusal
 pub record HasGroupRoom (w : WalState) (blocks : ℕ) : Type 0 where
   pub fine : w.ring.faulted ≡ false
   pub place : FitsGroup w blocks
@@ -24,8 +24,8 @@ pub record HasGroupRoom (w : WalState) (blocks : ℕ) : Type 0 where
   pub room : blocks ≤ w.log.room
   pub small : next_position w.log + blocks < 2 ^ 62
 
--- The updates are the group in flight, and no tail is left. What was logged stays, and no device
--- call was made
+-- The updates are the group in flight, and no tail is left. The logged updates stayed, and no
+-- device call was made
 pub record TakesGroup (old : WalState) (updates : List Update) (new : WalState) : Type 0 where
   pub disk : new.ring ≡ old.ring
   -- their positions are the next ones
@@ -37,7 +37,7 @@ pub record TakesGroup (old : WalState) (updates : List Update) (new : WalState) 
   pub logged : SameBlocks (size_of old) (blocks_logged new) (blocks_logged old)
   pub installing : new.installing ≡ old.installing
 
--- Why a group of so many blocks is refused: the first of these that holds
+-- Why a group of this many blocks is refused: the first of these that holds
 abbrev pub IsGroupRefusal : WalState → ℕ → Refusal Unit → Type 0
 IsGroupRefusal w blocks (DeviceFailed cause) = w.ring.faulted ≡ true
 IsGroupRefusal w blocks (Worn cause) = (w.ring.faulted ≡ false) × FitsGroup w blocks × (2 ^ 62 ≤ next_position w.log + blocks)

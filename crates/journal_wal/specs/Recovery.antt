@@ -1,4 +1,4 @@
--- What a recovery does to the disk, and how far it is.
+-- The effect of a recovery on the disk, and its progress.
 use Rattle.std.specs.Prelude.{ℕ, ◌≡◌, ◌-◌, IsTrue, take}
 use Rattle.journal_disk.specs.Disks.{Keeps}
 use Rattle.journal_circ.specs.Ring.{Ring, log_of}

@@ -1,5 +1,5 @@
--- What holds of every write-ahead log: of its numbers, of its two cycles, and of each image of an
--- honest disk.
+-- The invariant of every write-ahead log: of its numbers, of its two cycles, and of each image of
+-- an honest disk.
 use Rattle.std.specs.Prelude.{ℕ, ◌≡◌, ◌⊎◌, ◌<◌, ◌≤◌, ◌+◌, ◌-◌, ◌^◌, false, IsTrue, List, take, Some, None}
 use Rattle.journal_block.specs.declared.update.Update.{Update}
 use Rattle.journal_block.specs.Updates.{with_updates}
@@ -16,7 +16,7 @@ use Rattle.journal_wal.specs.Wal.{planned, IsLast, Logging, log_blocks, log_end,
 use Rattle.journal_circ.specs.declared.layout.TheConstants.{FIRST_HOME, LOG_POSITIONS}
 use Rattle.journal_tail.specs.declared.limits.TheConstants.{MAX_TAIL}
 
--- what the logger's state says, and the installer's
+-- the meaning of the logger's state, and of the installer's
 abbrev pub logging_of : Logger → Logging
 logging_of (Blocks state) = log_blocks
 logging_of (Synced state) = log_end
@@ -43,20 +43,20 @@ pub record IsInLog (log : LogState) (upto : ℕ) : Type 0 where
 abbrev pub IsHomeOf : Ring → LogState → ℕ → ℕ → Type 0
 IsHomeOf ring log upto b = with_updates (home_of ring) (updates_to log upto) b ≡ home_of ring b
 
--- What holds while home blocks are put: those that are not left are at home
+-- The invariant while home blocks are put: those that are not left are at home
 pub record PutsHomes (ring : Ring) (log : LogState) (upto : ℕ) (plan : List (ℕ × ℕ)) : Type 0 where
   pub idle : ring.extent.freed ≡ ring.extent.start
   pub position : IsInLog log upto
   pub last : (b q : ℕ) → planned plan b ≡ Some q → IsLast (updates_to log upto) log.start b q
   pub done : IsTrue ring.disk.honest → (b : ℕ) → FIRST_HOME ≤ b → b < ring.disk.past.size → planned plan b ≡ None → IsHomeOf ring log upto b
 
--- What holds once all are at home, where block 1 has this start or may have it
+-- The invariant once all are at home, where block 1 has this start or may have it
 pub record HasHomes (ring : Ring) (log : LogState) (upto freed : ℕ) : Type 0 where
   pub idle : ring.extent.freed ≡ freed
   pub position : IsInLog log upto
   pub done : IsTrue ring.disk.honest → (b : ℕ) → FIRST_HOME ≤ b → b < ring.disk.past.size → IsHomeOf ring log upto b
 
--- What the installer's cycle keeps
+-- The invariant of the installer's cycle
 abbrev pub IsInstalling : Ring → LogState → Installing → Type 0
 IsInstalling ring log install_none = ring.extent.freed ≡ ring.extent.start
 IsInstalling ring log (install_homes upto plan) = PutsHomes ring log upto plan
@@ -64,7 +64,7 @@ IsInstalling ring log (install_start upto) = HasHomes ring log upto ring.extent.
 IsInstalling ring log (install_sync upto) = HasHomes ring log upto upto
 IsInstalling ring log install_spent = IsTrue ring.faulted
 
--- What the logger's cycle keeps
+-- The invariant of the logger's cycle
 abbrev pub IsLogging : Ring → LogState → Logging → Type 0
 IsLogging ring log log_blocks = ring.extent.coming ≡ ring.extent.end
 IsLogging ring log log_end = (ring.extent.coming ≡ ring.extent.end) × (ring.extent.stable ≡ ring.next) × (ring.next ≡ log.cut) × (log.logged < log.cut) × (ring.sealed ≡ false)
@@ -89,11 +89,11 @@ pub record AreTied (ring : Ring) (log : LogState) : Type 0 where
   -- block 0 has the last end or that of the last cut, the latter only once the whole group was put
   pub coming : (ring.extent.coming ≡ log.logged) ⊎ ((ring.extent.coming ≡ log.cut) × (ring.next ≡ log.cut))
 
--- What the type keeps: the two logs go together, the cycles are where their states say, and each
--- image is possible, with the label
+-- The invariant of the type: the two logs go together, the cycles are where their states say, and
+-- each image is possible, with the label
 pub record IsWal (w : WalState) : Type 0 where
   pub tied : AreTied w.ring w.log
-  -- what was put is what memory has
+  -- the updates that were put are those in memory
   pub log : IsTrue w.ring.disk.honest → log_of w.ring ≡ take (w.ring.next - w.log.start) w.log.updates
   pub images : IsTrue w.ring.disk.honest → EveryImage w.ring.disk.past (MayStandFor w)
   pub label : IsTrue w.ring.disk.honest → EveryImage w.ring.disk.past (HasLabel w.ring.label)

@@ -1,5 +1,5 @@
--- What contracts see of a write-ahead log: the blocks now, those that a crash may leave, and what
--- the next steps are.
+-- A write-ahead log as contracts see it: the blocks now, those that a crash may leave, and the next
+-- steps.
 use Rattle.std.specs.Prelude.{ℕ, zero, suc, Bool, ◌≡◌, ◌⊎◌, ◌<◌, ◌≤◌, ◌+◌, ◌-◌, ◌^◌, true, false, IsTrue, if◌then◌else◌, List, [], ◌∷◌, length, take, slice_index_or, Option, Some, None}
 use Rattle.std.specs.List.{slice_get}
 use Rattle.std.specs.List.Sorted.{IsStrictlySortedBy}
@@ -25,7 +25,7 @@ use Rattle.journal_wal.specs.declared.step.InstallStep.{InstallStep}
 use Rattle.journal_wal.specs.declared.step.InstallStep.TheVariants.{Idle as InstallIdle, Put as InstallPut, Freed}
 use Rattle.journal_tail.specs.Homes.{SameBlocks}
 
--- What the logger does next
+-- The logger's next step
 pub data Logging : Type 0 where
   -- the next log block of the group, if one is left, else of a plain log a barrier, of a sealed one
   -- block 0; nothing where no group is in flight
@@ -37,7 +37,7 @@ pub data Logging : Type 0 where
   -- a device call failed: nothing more
   log_spent : Logging
 
--- What the installer does next
+-- The installer's next step
 pub data Installing : Type 0 where
   -- nothing is being installed
   install_none : Installing
@@ -97,7 +97,7 @@ tail_length w = length (tail_of w.log)
 abbrev pub free_positions : WalState → ℕ
 free_positions w = LOG_POSITIONS - (w.log.logged - w.log.start)
 
--- how many barriers stand between a group's log blocks and block 0: that of a plain log
+-- the number of barriers between a group's log blocks and block 0: that of a plain log
 abbrev pub barriers_before : Bool → ℕ
 barriers_before sealed = if sealed then 0 else 1
 
@@ -159,7 +159,7 @@ install_call label log (install_start upto) = Some (write 1 (start_block label u
 install_call label log (install_sync upto) = Some barrier
 install_call label log install_spent = None
 
--- what it does next once that is done
+-- its next step once that one is done
 abbrev pub after_call : Installing → Installing
 after_call install_none = install_none
 after_call (install_homes upto []) = install_start upto
@@ -182,8 +182,8 @@ TriesDueCall (Some event) old new = TriesCall event old new
 abbrev pub with_room : WalState → ℕ → WalState
 with_room w room = record w { log = record w.log { room = room } }
 
--- What each call says of the disk: at every moment of it each image is one that a crash might have
--- left before, with the label, and at its end one that a crash may leave now
+-- The clause of each call on the disk: at every moment of it each image is one that a crash might
+-- have left before, with the label, and at its end one that a crash may leave now
 pub record Crashes (old new : WalState) : Type 0 where
   pub keeps : Keeps old.ring.disk new.ring.disk
   pub moments : IsTrue old.ring.disk.honest → LeavesOnly old.ring.disk.past new.ring.disk.past (MayStandFor old)
@@ -231,7 +231,7 @@ pub record IsLogIdle (w : WalState) : Type 0 where
   pub steps : log_steps w ≡ 0
   pub tail : tail_length w ≡ 0
 
--- what a step of the logger answers, and does
+-- the answers of a step of the logger, and their effects
 abbrev pub LogAnswers : WalState → GroupStep → WalState → Type 0
 LogAnswers old Idle new = IsLogIdle old × (new ≡ old)
 LogAnswers old Put new = LogsOn old new
@@ -264,8 +264,8 @@ pub record IsPlanOf (updates : List Update) (start : ℕ) (plan : List (ℕ × �
   pub none : (b : ℕ) → planned plan b ≡ None → updates_block updates b ≡ false
   pub ascending : IsStrictlySortedBy nat_cmp (keys_of plan)
 
--- What the installer has ahead: what it has begun, or where it has begun nothing a plan of all that
--- is logged
+-- The installer's work ahead: the steps that it has begun, or if it has begun none a plan of all
+-- that is logged
 pub record IsAhead (w : WalState) (ahead : Installing) : Type 0 where
   pub begins : install_steps w ≡ 0
       → (plan : List (ℕ × ℕ)) × (IsPlanOf (logged_updates w) w.log.start plan × (ahead ≡ install_homes w.log.logged plan))
@@ -291,7 +291,7 @@ pub record Frees (old new : WalState) : Type 0 where
   pub below : upto ≤ old.log.logged
   pub log : new.log ≡ trimmed old.log upto
 
--- What a step of the installer that moves does, where so many steps are left
+-- The effect of a step of the installer that moves, where this many steps are left
 abbrev pub InstallMoves : ℕ → WalState → WalState → Type 0
 InstallMoves zero old new = BeginsInstall old new
 InstallMoves (suc zero) old new = Frees old new
@@ -333,13 +333,13 @@ IsInstallRefusal old new NoMemory =
 IsInstallRefusal old new (DeviceFailed cause) = (IsTrue old.ring.faulted ⊎ HasFailed old.ring.disk new.ring.disk) × Fails old new
 IsInstallRefusal old new other = ⊥
 
--- what a step of the installer answers, and does
+-- the answers of a step of the installer, and their effects
 abbrev pub InstallAnswers : WalState → InstallStep → WalState → Type 0
 InstallAnswers old InstallIdle new = IsInstallIdle old × (new ≡ old)
 InstallAnswers old InstallPut new = Installs old new × (0 < install_steps new)
 InstallAnswers old (Freed upto) new = Installs old new × (old.installing ≡ install_sync upto)
 
--- The log begins and ends where an image of the disk tells
+-- The log begins and ends where an image of the disk says
 pub record HasBoundsIn (image : List Bytes) (w : WalState) : Type 0 where
   pub start : w.log.start ≡ start_in image
   pub end : w.log.logged ≡ end_in image

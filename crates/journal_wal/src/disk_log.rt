@@ -1,9 +1,9 @@
-// The part of the log that lies on the disk, and how far its two cycles are.
+// The part of the log on the disk, and the progress of its two cycles.
 use crate::plan::Plan;
 use journal_circ::{Circ, EndPut, HomesPut, HomesSynced, LogBlocksPut, LogBlocksSynced, StartPut};
 use journal_disk::BlockDisk;
 
-/// The circular log with the states of its two cycles, which stand side by side.
+/// The circular log with the states of its two cycles.
 #[derive(Drop)]
 pub(crate) struct DiskLog<D: BlockDisk> {
     pub(crate) circ: Circ<D>,
@@ -11,10 +11,10 @@ pub(crate) struct DiskLog<D: BlockDisk> {
     pub(crate) installer: Installer,
 }
 
-/// How far the group in flight is.
+/// The progress of the group in flight.
 #[derive(Drop)]
 pub(crate) enum Logger {
-    /// Its log blocks are put, one a step; where no group is in flight there are none.
+    /// Its log blocks are put, one a step. If no group is in flight there are none.
     Blocks(LogBlocksPut),
     /// All its log blocks are stable.
     Synced(LogBlocksSynced),
@@ -24,7 +24,7 @@ pub(crate) enum Logger {
     Spent,
 }
 
-/// How far the installing is.
+/// The progress of the installing.
 #[derive(Drop)]
 pub(crate) enum Installer {
     /// Nothing is being installed.

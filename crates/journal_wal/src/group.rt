@@ -14,14 +14,16 @@ use journal_tail::MAX_POSITION;
 use journal_world::Refusal;
 
 impl<D: BlockDisk> Wal<D> {
-    /// Makes room for a group of so many blocks, so that `take_reserved` takes it, as long as no
-    /// other call comes between. Answers no where a group is in flight, where there are no blocks,
-    /// and where the log lacks a position for one of them.
+    /// Makes room for a group of `blocks` blocks, so that `take_reserved` takes it, if no other
+    /// call comes in between. False if a group is in flight, if there are no blocks, and if the log
+    /// lacks a position for one of them. The log is as it was, but may have more room in memory.
     ///
-    /// The first that applies of these refuses it: J6 `DeviceFailed` where the device failed
-    /// before, J11 `Worn` where a position would reach 2^62, J1 `NoMemory` where memory is refused.
-    /// Refused or not, the log is as it was, but may have more room in memory where it had too
-    /// little.
+    /// # Errors
+    /// The first that applies is answered. The log is as it was, but may have more room in memory
+    /// where it had too little.
+    /// - `J6 DeviceFailed`: the device failed before.
+    /// - `J11 Worn`: a position would reach 2^62.
+    /// - `J1 NoMemory`: memory is refused.
     pub fn reserve_group(&mut self, blocks: usize) -> Result<bool, Refusal<()>>
         requires few { blocks ≤ MAX_TAIL }
         ensures fits { IfOk result (λ fits. IsTrue fits ↔ FitsGroup self.old blocks) }
@@ -44,7 +46,7 @@ impl<D: BlockDisk> Wal<D> {
         Ok(true)
     }
 
-    // Whether there is a place for a group of so many blocks.
+    // True if there is a place for a group of `blocks` blocks.
     fn fits_group(&self, blocks: usize) -> bool
         requires { self.now.ring.faulted ≡ false }
         ensures { IsTrue result ↔ FitsGroup self.now blocks }
@@ -54,8 +56,8 @@ impl<D: BlockDisk> Wal<D> {
         !self.is_logging() && 0 < blocks && blocks as u64 <= free
     }
 
-    /// Takes as the group in flight updates that were cut elsewhere, which `reserve_group` made
-    /// room for. No two of them are of one block. It takes no memory, and moves the blocks.
+    /// Takes updates that were cut elsewhere, which `reserve_group` made room for, as the group in
+    /// flight. No two of them are of one block. It takes no memory, and moves the blocks.
     pub fn take_reserved(&mut self, updates: Vec<Update>)
         requires homes { AreHomes (size_of self.old) updates.items }
         requires distinct { HasDistinctBlocks updates.items }

@@ -15,14 +15,16 @@ use journal_world::Refusal;
 use std::mem;
 
 impl<D: BlockDisk> Wal<D> {
-    /// Does the next thing of the installer: writes one home block, the last logged one of its
+    /// Makes the next step of the installer. It writes one home block, the last logged one of its
     /// address, the addresses ascending; makes a barrier; writes block 1; makes a barrier, after
-    /// which the positions are free. For h distinct addresses these are h + 3 steps. It is idle
-    /// where nothing is logged that is not at home.
+    /// which the positions are free. For h distinct addresses these are h + 3 steps. It is idle if
+    /// all that is logged is at home.
     ///
-    /// Answers J6 `DeviceFailed` where the device failed in this call or before, and J1 `NoMemory`
-    /// where memory for the list of addresses is refused, at the first of these steps; the log is
-    /// then as it was.
+    /// # Errors
+    /// - `J6 DeviceFailed`: the device failed, in this call or before. The call that was due may
+    ///   have been made, and no other.
+    /// - `J1 NoMemory`: memory for the list of addresses is refused, at the first of these steps.
+    ///   The log is as it was.
     pub fn install_step(&mut self) -> Result<InstallStep, Refusal<()>>
         ensures refusal { IfErr result (IsInstallRefusal self.old self.new) }
         ensures faulted { IsTrue self.old.ring.faulted → IsErr result × (self.new ≡ self.old) }
@@ -41,7 +43,7 @@ impl<D: BlockDisk> Wal<D> {
         self.install_on()
     }
 
-    // Whether nothing is being installed, and nothing is to be.
+    // True if nothing is being installed, and nothing is to be.
     fn is_install_idle(&self) -> bool
         requires { self.now.ring.faulted ≡ false }
         ensures { IsTrue result ↔ IsInstallIdle self.now }
@@ -53,7 +55,7 @@ impl<D: BlockDisk> Wal<D> {
         }
     }
 
-    // Plans which blocks are to be put, where nothing is being installed.
+    // Plans the blocks that are to be put, if nothing is being installed.
     fn plan(&mut self) -> Result<(), Refusal<()>>
         requires fine { self.old.ring.faulted ≡ false }
         requires some { IsInstallIdle self.old → ⊥ }
@@ -66,7 +68,7 @@ impl<D: BlockDisk> Wal<D> {
         };
         let upto = self.memory.bounds().logged;
         let plan = Plan::up_to(self.alloc, &self.memory, upto)?;
-        // The list stands, so nothing can refuse any more.
+        // The list is there, so nothing can refuse any more.
         if let Installer::Resting(state) = mem::replace(
             &mut self.on_disk.installer,
             Installer::Spent,
@@ -76,7 +78,7 @@ impl<D: BlockDisk> Wal<D> {
         Ok(())
     }
 
-    // The next step of an installing that began.
+    // Makes the next step of an installing that began.
     fn install_on(&mut self) -> Result<InstallStep, Refusal<()>>
         requires fine { self.old.ring.faulted ≡ false }
         requires some { 0 < install_steps self.old }
@@ -113,7 +115,7 @@ impl<D: BlockDisk> Wal<D> {
     }
 }
 
-// Drops from memory what the disk has freed, and nothing else.
+// Drops from memory the positions that the disk has freed, and nothing else.
 fn free(memory: &mut MemLog, freed: Freed, upto: u64) -> HomesPut
     requires from_start { memory.old.start ≤ upto }
     requires to_logged { upto ≤ memory.old.logged }

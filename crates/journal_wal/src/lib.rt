@@ -5,16 +5,16 @@
 //! the blocks at the last cut, and those at the cut of the last group whose cycle ended.
 //!
 //! The log on the disk has one of two forms. Of a plain log the logger makes two barriers a group,
-//! and of a sealed one a single barrier; nothing else differs here, and a group has at most 255
+//! and of a sealed one a single barrier. Nothing else differs here, and a group has at most 255
 //! blocks in both.
 //!
-//! A step makes one device call or none, and the state tells which: `log_call` that of the logger,
-//! `install_call` that of the installer, whose plan has the last logged update of each block,
-//! blocks ascending. No other call but a read and the opening asks the device for anything, and
-//! those only read.
+//! A step makes one device call or none, and the state determines which. In the definitions
+//! `log_call` is the next call of the logger, and `install_call` that of the installer. The
+//! installer's plan has the last logged update of each block, blocks ascending. Of the other calls
+//! only a read and the opening call the device, and those only read.
 //!
 //! Updates are appended to a `Tail`, which is in memory alone, for a lock of its own
-//! (`journal_tail`). What it cuts, `Wal::take_reserved` takes whole.
+//! (`journal_tail`). `Wal::take_reserved` takes whole what it cuts.
 #![tactic(auto)]
 
 mod disk_log;

@@ -11,12 +11,14 @@ use journal_world::Refusal;
 use std::mem;
 
 impl<D: BlockDisk> Wal<D> {
-    /// Does the next thing of the logger for the group that `take_reserved` took: writes one of its
-    /// log blocks, of a plain log makes a barrier, writes block 0, makes a barrier. For a group of
-    /// k blocks these are k + 3 steps, and k + 2 of a sealed log. It is idle where no group is in
+    /// Makes the next step of the logger for the group that `take_reserved` took. It writes one of
+    /// its log blocks, of a plain log makes a barrier, writes block 0, makes a barrier. For a group
+    /// of k blocks these are k + 3 steps, and k + 2 of a sealed log. It is idle if no group is in
     /// flight.
     ///
-    /// Answers J6 `DeviceFailed`, and nothing else, where the device failed in this call or before.
+    /// # Errors
+    /// - `J6 DeviceFailed`: the device failed, in this call or before. The call that was due may
+    ///   have been made, and no other.
     pub fn log_step(&mut self) -> Result<GroupStep, Refusal<()>>
         ensures refusal { IfErr result (IsFault self.old.ring.faulted self.old.ring.disk self.new.ring.disk) }
         ensures faulted { IsTrue self.old.ring.faulted → IsErr result × (self.new ≡ self.old) }

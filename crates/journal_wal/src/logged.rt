@@ -1,4 +1,4 @@
-// What is logged of a block.
+// The logged content of a block.
 ghost use Rattle.std.specs.Prelude.{ℕ, ◌≡◌, ◌<◌, is_some, IsTrue, IsErr, OnOk, OnErr, IfErr, IfSome, false, true};
 ghost use Rattle.journal_block.specs.Block.{Bytes};
 ghost use Rattle.journal_block.specs.Updates.{updated, updates_block};
@@ -13,11 +13,12 @@ use journal_memlog::MemLog;
 use journal_world::Refusal;
 
 impl<D: BlockDisk> Wal<D> {
-    /// Copies the block with the logged updates alone. It is read from the device only where none
-    /// is of it.
+    /// Copies the block with the logged updates alone. It is read from the device only if no update
+    /// of it is logged. The log and the disk's content are as they were, whatever it answers.
     ///
-    /// Answers J6 `DeviceFailed` where the device failed now or before; what `into` then holds is
-    /// not said. The log and what lies on the disk are as they were, whatever it answers.
+    /// # Errors
+    /// - `J6 DeviceFailed`: the device failed, now or before. The content of `into` is not
+    ///   specified.
     pub fn read_logged(&mut self, block: u64, into: &mut Block) -> Result<(), Refusal<()>>
         requires { block < size_of self.old }
         ensures refusal { IfErr result (IsFault self.old.ring.faulted self.old.ring.disk self.new.ring.disk) }

@@ -21,12 +21,14 @@ use journal_world::{Refusal, Refused};
 use std::alloc::Global;
 
 impl<D: BlockDisk> Wal<D> {
-    /// Opens the log of a disk, on which nothing is pending: reads what lies in it into memory,
-    /// writes nothing and makes no barrier.
+    /// Opens the log of a disk, on which nothing is pending: reads its updates into memory, writes
+    /// nothing and makes no barrier.
     ///
-    /// Answers J1 `NoMemory` where memory is refused, J6 `DeviceFailed` where the device fails in
-    /// this call, and J7 `BadLog` where the disk's log is not well formed, and no other refusal. A
-    /// refusal hands the disk back, with nothing written.
+    /// # Errors
+    /// A refusal gives the disk back, and nothing was written.
+    /// - `J1 NoMemory`: memory is refused.
+    /// - `J6 DeviceFailed`: the device fails in this call.
+    /// - `J7 BadLog`: the disk's log is not well formed.
     pub fn open(alloc: Global, disk: D) -> Result<Wal<D>, Refused<D, ()>>
         requires in_range { MIN_BLOCKS ≤ (D.state disk).past.size }
         requires settled { IsTrue (D.state disk).honest → IsSettled (D.state disk).past }
@@ -40,7 +42,7 @@ impl<D: BlockDisk> Wal<D> {
             (λ refused. (D.state refused.disk).past ≡ (D.state disk).past) }
         ensures well_formed { IsTrue (D.state disk).honest → IfOk result (λ _. IsWellFormed (reading (D.state disk).past)) }
         ensures opened { IfOk result IsAtRest }
-        // The bounds and the form are those that the disk tells.
+        // The bounds and the form are those on the disk.
         ensures bounds { IsTrue (D.state disk).honest → IfOk result (HasBoundsIn (reading (D.state disk).past)) }
         ensures form { IsTrue (D.state disk).honest → IfOk result (λ wal. wal.ring.sealed ≡ is_sealed (read_of (D.state disk).past 0)) }
         ensures label { IsTrue (D.state disk).honest → IfOk result (λ wal. wal.ring.label ≡ label_of (read_of (D.state disk).past 1)) }
@@ -71,7 +73,7 @@ impl<D: BlockDisk> Wal<D> {
     }
 }
 
-// The updates that the log on the disk has, in memory.
+// The updates of the log on the disk, in memory.
 fn recover<D: BlockDisk>(alloc: Global, circ: &mut Circ<D>) -> Result<MemLog, Refusal<()>>
     requires fine { circ.old.faulted ≡ false }
     requires rest { circ.old.next ≡ circ.old.extent.end }

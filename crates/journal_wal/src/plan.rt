@@ -1,4 +1,4 @@
-// Which home blocks are to be put.
+// The home blocks that are to be put.
 ghost use Rattle.std.specs.Prelude.{ℕ, ◌≡◌, ◌≤◌, ◌-◌, ◌∷◌, [], None, Some, cond, length, IfOk, IfSome, IfNone};
 ghost use Rattle.std.specs.BTreeMap.{is_at};
 ghost use Rattle.std.specs.Ordering.{nat_cmp};

@@ -1,6 +1,6 @@
-// What a step did.
+// The outcome of a step.
 
-/// What a step of the logger did.
+/// The outcome of a step of the logger.
 #[derive(Clone, Copy, Debug, PartialEq, Eq)]
 pub enum GroupStep {
     /// There was nothing to do.
@@ -11,7 +11,7 @@ pub enum GroupStep {
     Logged,
 }
 
-/// What a step of the installer did.
+/// The outcome of a step of the installer.
 #[derive(Clone, Copy, Debug, PartialEq, Eq)]
 pub enum InstallStep {
     /// There was nothing to do.

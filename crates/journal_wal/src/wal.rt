@@ -1,4 +1,4 @@
-// The write-ahead log, and what it tells without a step.
+// The write-ahead log, and its facts that take no step.
 ghost use Rattle.std.specs.Prelude.{ℕ, ◌≡◌, ◌≤◌, ◌<◌, ◌↔◌, ◌⊎◌, true, false, IsTrue, OnOk, OnErr, IsErr, IfErr};
 ghost use Rattle.journal_circ.specs.Ring.{IsFault};
 ghost use Rattle.journal_circ.specs.Mending.{IsMendable};
@@ -14,10 +14,10 @@ use std::marker::Model;
 
 /// A write-ahead log over a disk.
 ///
-/// The updates in memory and the log on the disk are apart. A group is taken in memory alone, where
+/// The updates in memory and the log on the disk are apart. A group is taken in memory alone, if
 /// the disk has not failed. A read looks into memory first, and then at the disk. The logger and
-/// the installer write each log block and each home block from memory, and tell it the end of a
-/// cycle.
+/// the installer write each log block and each home block from memory, and note the end of a cycle
+/// there.
 #[derive(Drop)]
 pub struct Wal<D: BlockDisk> {
     pub(crate) alloc: Global,
@@ -54,8 +54,8 @@ impl<D: BlockDisk> Wal<D> {
         self.on_disk.circ.size()
     }
 
-    /// Where the log on the disk starts and ends, as last synced: positions, of which there are at
-    /// most 511.
+    /// The start and the end of the log on the disk, as last synced: positions, of which there are
+    /// at most 511.
     pub fn log_range(&self) -> (u64, u64)
         ensures { result ≡ (self.now.log.start, self.now.log.logged) }
     {
@@ -63,7 +63,7 @@ impl<D: BlockDisk> Wal<D> {
         (bounds.start, bounds.logged)
     }
 
-    /// Whether the log on the disk is sealed: a group of k blocks takes k + 2 steps, and k + 3 of a
+    /// True if the log on the disk is sealed: a group of k blocks takes k + 2 steps, and k + 3 of a
     /// plain log.
     pub fn is_sealed(&self) -> bool
         ensures { result ≡ self.now.ring.sealed }
@@ -71,14 +71,14 @@ impl<D: BlockDisk> Wal<D> {
         self.on_disk.circ.is_sealed()
     }
 
-    /// Whether a device call failed, so that every step, read and group answers J6.
+    /// True if a device call failed, so that every step, read and group answers J6.
     pub fn is_faulted(&self) -> bool
         ensures { result ≡ self.now.ring.faulted }
     {
         self.on_disk.circ.is_faulted()
     }
 
-    /// Whether a group is in flight.
+    /// True if a group is in flight.
     pub fn is_logging(&self) -> bool
         ensures group { IsTrue result ↔ (self.now.log.logged < self.now.log.cut) }
         ensures steps { self.now.ring.faulted ≡ false → IsTrue result → 0 < log_steps self.now }
@@ -88,11 +88,12 @@ impl<D: BlockDisk> Wal<D> {
         bounds.logged < bounds.cut
     }
 
-    /// Copies the block with all updates. It is read from the device only where it is not in
-    /// memory.
+    /// Copies the block with all updates. It is read from the device only if it is not in memory.
+    /// The log and the disk's content are as they were, whatever it answers.
     ///
-    /// Answers J6 `DeviceFailed` where the device failed now or before; what `into` then holds is
-    /// not said. The log and what lies on the disk are as they were, whatever it answers.
+    /// # Errors
+    /// - `J6 DeviceFailed`: the device failed, now or before. The content of `into` is not
+    ///   specified.
     pub fn read(&mut self, block: u64, into: &mut Block) -> Result<(), Refusal<()>>
         requires { block < size_of self.old }
         ensures refusal { IfErr result (IsFault self.old.ring.faulted self.old.ring.disk self.new.ring.disk) }
@@ -120,8 +121,8 @@ impl<D: BlockDisk> Wal<D> {
         self.on_disk.circ.disk()
     }
 
-    /// Gives the disk up, as it is. Once a failed barrier, a kill or a crash has left it, it can be
-    /// mended, also after a fault.
+    /// Gives the disk up, as it is. It can be mended once a failed barrier, a kill or a crash has
+    /// left it, also after a fault.
     pub fn into_disk(self) -> D
         ensures disk { D.state result ≡ self.ring.disk }
         ensures mendable { IsTrue self.ring.disk.honest → IsMendable self.ring.disk.past }

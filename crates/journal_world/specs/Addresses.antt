@@ -21,7 +21,7 @@ pub record Shape : Type 0 where
   pub regions : List Region
   pub slots : ℕ
 
--- each region begins above the one before it, or is not in use, and then so is each behind it
+-- each region begins above the one before it, or is not in use, and then so is each after it
 abbrev pub rise_from : ℕ → List Region → Bool
 rise_from before [] = true
 rise_from before (r ∷ rs) = (nat_lt before r.first || r.first == UNUSED) && rise_from r.first rs
@@ -37,8 +37,8 @@ abbrev pub kind_among : List Region → ℕ → Option Kind → Option Kind
 kind_among [] block found = found
 kind_among (r ∷ rs) block found = kind_among rs block (if nat_le r.first block then Some r.kind else found)
 
--- what the objects of a block are, on a disk of a layout: those of its region. The blocks below 513
--- and those that the disk has not have none
+-- the kind of the objects of a block, on a disk of a layout: that of its region. The blocks below
+-- 513 and those after the disk's end have none
 abbrev pub kind_of : Shape → ℕ → Option Kind
 kind_of s block = if nat_le SUPERBLOCK block && nat_lt block s.blocks then kind_among s.regions block None else None
 

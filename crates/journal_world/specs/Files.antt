@@ -1,4 +1,4 @@
--- What contracts see of a layout, and the layout of a disk with files.
+-- The state of a layout that contracts see, and the layout of a disk with files.
 use Rattle.std.specs.Prelude.{ℕ, [], ◌∷◌}
 use Rattle.journal_world.specs.declared.address.Kind.{Kind}
 use Rattle.journal_world.specs.declared.address.Kind.TheVariants.{Bit, Record, Block}
@@ -8,7 +8,7 @@ use Rattle.journal_world.specs.declared.layout.Layout.{Layout}
 use Rattle.journal_world.specs.declared.layout.TheConstants.{SUPERBLOCK, BITMAP, FIRST_INODES, FIRST_DATA, UNUSED, SLOTS}
 use Rattle.journal_world.specs.Addresses.{Shape}
 
--- what contracts see of a layout
+-- the state of a layout that contracts see
 abbrev pub shape : Layout → Shape
 shape l = record { blocks = l.blocks; regions = l.regions; slots = l.slots }
 

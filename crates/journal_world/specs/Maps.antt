@@ -29,7 +29,7 @@ abbrev pub zeros_at : Option Kind → Value
 zeros_at None = []
 zeros_at (Some kind) = zeros_of kind
 
--- what a map gives an address: the value that its first pair gives, else the zeros of its kind
+-- the value that a map gives an address: that of its first pair, else the zeros of its kind
 abbrev pub value_at : Map → Addr → Value
 value_at m a = unwrap_or (value_among m.pairs a) (zeros_at (kind_of m.layout a.block))
 
@@ -55,7 +55,7 @@ is_object layout p = is_valid layout p.0 && is_value_at (kind_of layout p.0.bloc
 abbrev pub are_objects : Shape → List Pair → Bool
 are_objects layout ps = list_all (is_object layout) ps
 
--- What a transaction read and what it writes, with its session and the number of that session's
+-- The reads and the writes of a transaction, with its session and the number of that session's
 -- earlier ones
 pub record Transaction : Type 0 where
   pub session : ℕ

@@ -1,4 +1,4 @@
-// Where an object lies, and what it is.
+// The address of an object, and its kind.
 ghost use Rattle.std.specs.Prelude.{◌≡◌, ◌*◌, ◌%◌, ◌==◌, Some, IfOk};
 ghost use Rattle.journal_world.specs.Addresses.{record_bytes, bytes_of, bits_of, is_value_of, starts_object, zeros_of};
 
@@ -15,7 +15,7 @@ pub struct Addr {
     pub off: u32,
 }
 
-/// How many bytes each record of a block has: the powers of two from 8 to 2048.
+/// The number of bytes of each record of a block: a power of two from 8 to 2048.
 #[derive(Clone, Copy, Debug, PartialEq, Eq)]
 pub enum RecordSize {
     /// 512 records a block.
@@ -56,7 +56,7 @@ impl RecordSize {
         }
     }
 
-    // Whether a record of the size may begin at this bit. To divide by a number that the compiler
+    // True if a record of the size may begin at this bit. A division by a number that the compiler
     // knows takes a tenth of the time.
     fn begins_at(self, off: u32) -> bool
         ensures { result ≡ (off % (8 * record_bytes self) == 0) }
@@ -75,12 +75,12 @@ impl RecordSize {
     }
 }
 
-/// What an object is. All objects of one block are of one kind.
+/// The kind of an object. All objects of one block are of one kind.
 #[derive(Clone, Copy, Debug, PartialEq, Eq)]
 pub enum Kind {
     /// One bit.
     Bit,
-    /// A record of so many bytes. It begins at a multiple of its size.
+    /// A record of this size. It begins at a multiple of its size.
     Record(RecordSize),
     /// A whole block, 4096 bytes.
     Block,
@@ -98,7 +98,7 @@ impl Kind {
         }
     }
 
-    /// How many bits the objects of the kind are apart in their block.
+    /// How many bits lie between the first bits of two neighbours of the kind.
     pub fn bits(self) -> u32
         ensures { result ≡ bits_of self }
     {
@@ -109,7 +109,7 @@ impl Kind {
         }
     }
 
-    /// Whether an object of the kind begins at this bit of its block.
+    /// True if an object of the kind may begin at this bit of its block.
     pub fn begins_at(self, off: u32) -> bool
         ensures { result ≡ starts_object (Some self) off }
     {
@@ -121,7 +121,7 @@ impl Kind {
             }
     }
 
-    /// Whether the bytes are a value of the kind: as many as it has, and a bit's is 0 or 1.
+    /// True if the bytes are a value of the kind: as many as it has, and a bit's byte is 0 or 1.
     pub fn admits(self, bytes: &[u8]) -> bool
         ensures { result ≡ is_value_of self bytes.now }
     {
@@ -132,6 +132,9 @@ impl Kind {
     }
 
     /// The value of all zeros.
+    ///
+    /// # Errors
+    /// - The memory for its bytes is refused. Nothing changed.
     pub fn zeros(self, alloc: Global) -> Result<Value, AllocError>
         ensures { IfOk result (λ value. value ≡ zeros_of self) }
     {

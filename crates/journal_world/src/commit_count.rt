@@ -3,10 +3,11 @@ ghost use Rattle.std.specs.Prelude.{◌≡◌, ◌+◌, ◌<◌, ◌^◌};
 
 use std::marker::Model;
 
-/// How many commits a history has, or so many of its first ones. Contracts see the number.
+/// How many commits a history has, or how many of its first ones are meant. Contracts see the
+/// number.
 ///
-/// It is no position of the log, no length of a history, which has other entries too, and no
-/// session's number, though all of these are numbers.
+/// Not a position of the log, not a length of a history, which has other entries too, and not a
+/// session's number.
 #[derive(Clone, Copy, Debug, Default, PartialEq, Eq, PartialOrd, Ord)]
 pub struct CommitCount(u64);
 
@@ -21,7 +22,7 @@ impl Model for CommitCount {
 }
 
 impl CommitCount {
-    /// So many commits.
+    /// The count of this number.
     pub fn new(commits: u64) -> CommitCount
         ensures { result ≡ commits }
     {

@@ -1,4 +1,4 @@
-// Which layouts there are, and what a layout says of blocks and addresses.
+// The layouts, and what a layout says of blocks and addresses.
 ghost use Rattle.std.specs.Prelude.{◌≡◌, ◌≤◌, ◌<◌, ◌+◌, ◌*◌, ◌%◌, ◌↔◌, IsTrue, IsSome, IfSome};
 ghost use Rattle.journal_world.specs.Addresses.{kind_of, is_valid, are_regions, bits_of, slot_of};
 ghost use Rattle.journal_world.specs.Files.{shape, files};
@@ -41,10 +41,10 @@ const FILES: [Region; REGIONS] = [
 ];
 
 impl Layout {
-    /// The layout of a disk of so many blocks with files: the superblock, one block of bits, 16
+    /// The layout of a disk of `blocks` blocks with files: the superblock, one block of bits, 16
     /// blocks of 32 inodes each, and data.
     ///
-    /// `None` where there are fewer than 532 or more than 33299 blocks.
+    /// `None` for fewer than 532 blocks and for more than 33299.
     pub fn new(blocks: u64) -> Option<Layout>
         ensures valid { IsSome result ↔ ((MIN_BLOCKS ≤ blocks) × (blocks ≤ MAX_BLOCKS)) }
         ensures value { IfSome result (λ layout. shape layout ≡ files blocks) }
@@ -55,11 +55,11 @@ impl Layout {
         Layout::with_regions(blocks, FILES)
     }
 
-    /// The layout of a disk of so many blocks with these regions, and 257 slots. The disk itself
-    /// does not tell it: it has to be opened by the same layout each time.
+    /// The layout of a disk of `blocks` blocks with these regions, and 257 slots. The disk does not
+    /// record it, so each opening needs the same layout.
     ///
-    /// `None` where there are fewer than 532 or more than 2^40 blocks, and where the regions do not
-    /// begin at block 513, do not rise, or have one in use behind one that is not.
+    /// `None` for fewer than 532 blocks and for more than 2^40. `None` also unless the first region
+    /// begins at block 513, the regions rise, and those in use come before all others.
     pub fn with_regions(blocks: u64, regions: [Region; REGIONS]) -> Option<Layout>
         ensures valid { IsSome result
             ↔ ((MIN_BLOCKS ≤ blocks) × (blocks ≤ MAX_LAYOUT_BLOCKS) × IsTrue (are_regions regions)) }
@@ -75,9 +75,9 @@ impl Layout {
         })
     }
 
-    /// The same layout with so many slots. With more of them, transactions meet less often by
-    /// chance: two that use k addresses each at random share a slot with a probability of about k^2
-    /// / slots. The number is odd, so that whole blocks in a row have different slots.
+    /// The same layout with this number of slots. With more slots, transactions meet less often by
+    /// chance: two that use k random addresses each share a slot with a probability of about k^2 /
+    /// slots. The number is odd, so that neighbouring whole blocks have different slots.
     ///
     /// `None` where the number is even or above 65521.
     pub fn with_slots(self, slots: u16) -> Option<Layout>
@@ -95,7 +95,7 @@ impl Layout {
         })
     }
 
-    /// Whether it is the layout of a disk with files, and 257 slots.
+    /// True if it is the layout of a disk with files, with 257 slots.
     pub fn is_of_files(&self) -> bool
         ensures { IsTrue result ↔ (shape self.now ≡ files self.now.blocks) }
     {
@@ -129,7 +129,7 @@ impl Layout {
         kind.begins_at(addr.off).then_some(kind)
     }
 
-    /// Whether the address names an object.
+    /// True if the address names an object.
     pub fn is_valid(&self, addr: Addr) -> bool
         ensures { result ≡ is_valid (shape self.now) addr }
     {
@@ -150,9 +150,9 @@ impl Layout {
     }
 }
 
-// The slot of an address among 257, which most layouts have. To divide by a number that the
-// compiler knows takes a fifth of the time. A sum below twice that number needs no division, and
-// without one the compiler does not join this with `slot_among`.
+// The slot of an address among 257, which most layouts have. A division by a number that the
+// compiler knows takes a fifth of the time. A sum below twice that number needs no division. That
+// step also keeps the compiler from joining this function with `slot_among`.
 fn slot_among_257(addr: Addr) -> u16
     ensures slot { result ≡ (addr.block * BLOCK_BITS + addr.off) % SLOTS }
     ensures in_range { result < SLOTS }
@@ -167,7 +167,7 @@ fn slot_among_257(addr: Addr) -> u16
     }
 }
 
-// The slot of an address, where there are so many.
+// The slot of an address among this number of slots.
 fn slot_among(addr: Addr, slots: u16) -> u16
     requires some { 0 < slots }
     ensures slot { result ≡ (addr.block * BLOCK_BITS + addr.off) % slots }
@@ -178,7 +178,7 @@ fn slot_among(addr: Addr, slots: u16) -> u16
     ((block + u64::from(addr.off)) % slots) as u16
 }
 
-// Whether the regions begin at block 513, those in use rise, and all others stand behind them.
+// True if the regions begin at block 513, those in use rise, and all others come after them.
 fn are_regions(regions: &[Region; REGIONS]) -> bool
     ensures { result ≡ are_regions regions.now }
 {
@@ -193,7 +193,7 @@ fn are_regions(regions: &[Region; REGIONS]) -> bool
     regions[0].first == SUPERBLOCK
 }
 
-// Whether the regions are the same.
+// True if the regions are the same.
 fn are_same(regions: &[Region; REGIONS], others: &[Region; REGIONS]) -> bool
     ensures { IsTrue result ↔ (regions.now ≡ others.now) }
 {
@@ -205,7 +205,7 @@ fn are_same(regions: &[Region; REGIONS], others: &[Region; REGIONS]) -> bool
     true
 }
 
-// Whether the two are one region. The bits of a kind tell it apart.
+// True if the two are one region. Kinds are compared by their bits.
 fn is_same(region: Region, other: Region) -> bool
     ensures { IsTrue result ↔ (region ≡ other) }
 {

@@ -10,7 +10,7 @@ pub const MIN_BLOCKS: u64 = 532;
 pub const MAX_BLOCKS: u64 = 33299;
 /// The most blocks of a disk of any layout.
 pub const MAX_LAYOUT_BLOCKS: u64 = 1 << 40;
-/// The first block that has objects, the superblock; the log lies below it.
+/// The first block that has objects, the superblock. The log is below it.
 pub const SUPERBLOCK: u64 = 513;
 /// The block whose objects are bits, where the layout is that of files.
 pub const BITMAP: u64 = 514;
@@ -23,14 +23,14 @@ pub const BLOCK_BYTES: usize = 4096;
 /// The bits of a block.
 pub const BLOCK_BITS: u32 = 32768;
 
-/// How many slots a layout has that does not ask for another number.
+/// The number of slots of a layout that asks for no other number.
 pub const SLOTS: u16 = 257;
 /// The most slots of a layout, the greatest prime number below 2^16.
 pub const MAX_SLOTS: u16 = 65521;
 
-/// How many regions a layout has, in use or not.
+/// The number of regions of a layout, in use or not.
 pub const REGIONS: usize = 8;
-/// Where a region begins that is not in use.
+/// The first block of a region that is not in use.
 pub const UNUSED: u64 = u64::MAX;
 
 /// A region of a disk: the blocks from `first` on, up to the next region or the end of the disk.
@@ -43,8 +43,8 @@ pub struct Region {
     pub kind: Kind,
 }
 
-/// The layout of a disk: which addresses name an object of it, and of which kind, and how many
-/// slots a journal over it has. The number of slots is odd.
+/// The layout of a disk: which addresses name an object, the kind of each, and the number of slots
+/// of a journal over it. The number of slots is odd.
 #[derive(Clone, Copy, Debug, PartialEq, Eq)]
 pub struct Layout {
     pub blocks: u64,

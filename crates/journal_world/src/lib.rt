@@ -1,6 +1,6 @@
-//! The words that every layer of the journal speaks: addresses and the kinds of object that they
-//! name, values, the layout of a disk, and the refusals. `specs/` has their meanings, and those of
-//! maps, transactions and histories.
+//! The words of every layer of the journal: addresses and the kinds of object that they name,
+//! values, the layout of a disk, and the refusals. `specs/` has their meanings, and those of maps,
+//! transactions and histories.
 #![tactic(auto)]
 
 mod address;

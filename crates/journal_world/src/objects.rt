@@ -28,7 +28,7 @@ impl Model for Objects {
 }
 
 impl Objects {
-    /// No values. It takes no memory.
+    /// No values. The call takes no memory.
     pub fn new(alloc: Global) -> Objects
         ensures { result ≡ [] }
     {
@@ -52,8 +52,11 @@ impl Objects {
         self.values.iter()
     }
 
-    /// Gives the address this value, in place of the one that it had. After an `Err`, which comes
-    /// only where it had none, all is as before.
+    /// Gives the address this value, in place of the one that it had.
+    ///
+    /// # Errors
+    /// - Memory for a new address is refused. Nothing changed. An address that has a value already
+    ///   is never refused.
     pub fn insert(&mut self, addr: Addr, value: Value) -> Result<(), AllocError>
         ensures ok { OnOk result (SamePairs self.new ((addr, value) ∷ self.old)) }
         ensures err { OnErr result (self.new ≡ self.old) }

@@ -1,4 +1,4 @@
-// What a mount demands of every map that it ever has.
+// The rule that a mount demands of each map that it ever has.
 ghost use Rattle.std.specs.Prelude.{◌≡◌, ◌≤◌, ◌+◌, ◌%◌, ◌↔◌, Bool, Some, IsTrue, IfOk, IfErr};
 ghost use Rattle.journal_world.specs.Addresses.{kind_of, is_valid};
 ghost use Rattle.journal_world.specs.Files.{shape};
@@ -9,22 +9,22 @@ use crate::{Addr, BLOCK_BITS, Kind, Layout, Refusal, Value};
 
 /// Reads the objects of one map.
 ///
-/// Where the reader is trusted, as over a disk that is honest and settled, a read gives the map's
-/// value. Where it is not, a read gives some value of the address's kind. The reader knows whether
-/// the device failed under it, and answers J6 nowhere else.
+/// A trusted reader, as over a disk that is honest and settled, gives the map's value. Any other
+/// reader gives some value of the address's kind. The reader knows whether the device failed during
+/// its reads, and answers J6 only then.
 pub trait ObjectReader {
-    /// What the refusals of a read hold.
+    /// The cause that the refusals of a read hold.
     type Cause;
 
     ghost map: { Self → Map };
 
-    // The map's pairs are objects. So each value is of its address's kind, also one that is not
+    // The map's pairs are objects. So each value is of its address's kind, even one that is not
     // read.
     ghost objects: { (reader : Self) → IsTrue (are_objects (map reader).layout (map reader).pairs) };
 
     ghost trusted: { Self → Bool };
 
-    /// Whether the device failed under the reader, now or before.
+    /// True if the device failed during a read of the reader, now or before.
     ghost failed: { Self → Bool };
 
     /// The layout of the map's disk.
@@ -33,7 +33,9 @@ pub trait ObjectReader {
 
     /// The value of the address. The map stays.
     ///
-    /// Refused for want of memory (J1), and where the device has failed then (J6). It stays failed.
+    /// # Errors
+    /// - `J1 NoMemory`: memory is refused. The map and the device are as before.
+    /// - `J6 DeviceFailed`: the device has failed, in this read or before. It stays failed.
     fn read(&mut self, addr: Addr) -> Result<Value, Refusal<Self::Cause>>
         requires valid { IsTrue (is_valid (map self.old).layout addr) }
         ensures value { IsTrue (trusted self.old) → IfOk result (λ value. value ≡ value_at (map self.old) addr) }
@@ -43,11 +45,13 @@ pub trait ObjectReader {
         ensures same_map { map self.new ≡ map self.old }
         ensures same_trust { trusted self.new ≡ trusted self.old };
 
-    /// The bits of 64 addresses in a row as one number, that of `addr` in the lowest place: each
-    /// bit is the value that `read` gives its address. It is asked for a block whose objects are
-    /// bits, at a multiple of 64. The map stays.
+    /// The bits of 64 addresses in a row as one number, that of `addr` in the lowest place. Each
+    /// bit is the value that `read` gives its address. The block's objects are bits, and `addr` is
+    /// at a multiple of 64. The map stays.
     ///
-    /// Refused for want of memory (J1), and where the device has failed then (J6). It stays failed.
+    /// # Errors
+    /// - `J1 NoMemory`: memory is refused. The map and the device are as before.
+    /// - `J6 DeviceFailed`: the device has failed, in this read or before. It stays failed.
     fn read_bits(&mut self, addr: Addr) -> Result<u64, Refusal<Self::Cause>>
         requires kind { kind_of (map self.old).layout addr.block ≡ Some Kind.Bit }
         requires inside { addr.off + 64 ≤ BLOCK_BITS }
@@ -59,14 +63,17 @@ pub trait ObjectReader {
         ensures same_trust { trusted self.new ≡ trusted self.old };
 }
 
-/// A rule of a mount: a statement over maps that holds of the map that is opened, and that each
-/// commit has to keep. It tells no two maps apart that give the same values.
+/// A rule of a mount: a statement over maps. It holds of the map that is opened, and each commit
+/// keeps it. Two maps with the same values both meet it or both do not.
 pub trait MapRule {
     ghost statement: { Map → Type 0 };
 
-    /// Whether the statement holds of the map that is read. The map stays.
+    /// True if the statement holds of the map that is read. The map stays.
     ///
-    /// Refused for want of memory (J1), and where the device has failed then (J6). It stays failed.
+    /// # Errors
+    /// - `J1 NoMemory`: memory is refused. The map and the device are as before.
+    /// - `J6 DeviceFailed`: the device has failed, in a read of this call or before. It stays
+    ///   failed.
     fn admit<O: ObjectReader>(&self, reader: &mut O) -> Result<bool, Refusal<O::Cause>>
         ensures admitted { IsTrue (O.trusted reader.old) → IfOk result (λ admitted. IsTrue admitted ↔ statement (O.map reader.old)) }
         ensures refusal { IfErr result (IsReadingRefusal (O.failed reader.new)) }

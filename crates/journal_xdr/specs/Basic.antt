@@ -5,7 +5,7 @@ use Rattle.std.specs.Str.{bytes_eq}
 use Rattle.std.specs.Int.{Width, w32, w64, byte_len, to_be_bytes, from_be_bytes}
 use Rattle.journal_xdr.specs.Items.{Item, ◌>>=◌, pair, coded, such_that, tagged, only, variant}
 
--- so many bytes
+-- this many bytes
 abbrev pub raw : ℕ → Item (List ℕ)
 raw n = record {
   Has = λ v. length v ≡ n;
@@ -52,7 +52,7 @@ opaque limit = tagged (such_that (λ n. nat_le n limit) word) fixed length
 unfoldable pub string : ℕ → Item (List ℕ)
 string limit = opaque limit
 
--- what a number stands for, by a table of those that are listed
+-- the value of a number, by a table of those that are listed
 abbrev pub listed : {T : Type 0} → List (ℕ × T) → ℕ → Option T
 listed [] n = None
 listed (entry ∷ table) n = if n == entry.0 then Some entry.1 else listed table n

@@ -1,5 +1,4 @@
--- What is read was spelled so, and what is spelled so is read: once for each way to put items
--- together.
+-- A value is read exactly if its spelling is there: once for each way to put items together.
 use Rattle.std.proofs.Common.{◌≡◌, ℕ, Bool, true, false, cond, List, ◌++◌, Option, Some, None, refl, sym, ap, subst, ◌∙◌, append_assoc}
 use Rattle.std.specs.Prelude.{IsSomeAnd}
 use Rattle.journal_xdr.specs.Items.{Item, ◌>>=◌, pair, coded, mapped_item, such_that, tagged, only, never, variant, Spelled, IsGrammar, ReadsItem, FindsItem, HasOneSpelling}

@@ -2,8 +2,8 @@
 use Rattle.std.specs.Option.{option_map_or}
 use Rattle.std.specs.Prelude.{◌≡◌, ℕ, Bool, IsTrue, IsSomeAnd, if◌then◌else◌, List, [], ◌++◌, Option, Some, None}
 
--- The values of a type: which they are, how each is spelled, and what the front of some bytes reads
--- as: a value with the bytes behind it, or nothing
+-- The values of a type: which they are, how each is spelled, and the reading of the front of some
+-- bytes: a value with the bytes after it, or nothing
 pub record Item (T : Type 0) : Type 1 where
   pub Has : T → Type 0
   pub spelling : T → List ℕ
@@ -14,7 +14,7 @@ abbrev pub ◌>>=◌ : {A B : Type 0} → Option A → (A → Option B) → Opti
 None >>= f = None
 (Some x) >>= f = f x
 
--- one value behind another
+-- one value after another
 abbrev pub pair : {A B : Type 0} → Item A → Item B → Item (A × B)
 pair a b = record {
   Has = λ p. a.Has p.0 × b.Has p.1;
@@ -39,7 +39,7 @@ mapped_item a make parts = record {
   reading = λ bytes. a.reading bytes >>= λ x. Some (make x.0, x.1);
 }
 
--- a value behind its tag, which says how it is spelled
+-- a value after its tag, which says how it is spelled
 abbrev pub tagged : {A T : Type 0} → Item A → (A → Item T) → (T → A) → Item T
 tagged tag arm tag_of = record {
   Has = λ v. tag.Has (tag_of v) × (arm (tag_of v)).Has v;
@@ -75,17 +75,18 @@ variant a make part = record {
   reading = λ bytes. a.reading bytes >>= λ x. Some (make x.0, x.1);
 }
 
--- What a reader answers, seen by view, is what the bytes read as: new is what is behind the value
+-- The answer of a reader, seen by view, is the reading of the bytes: new is the bytes after the
+-- value
 abbrev pub ReadsItem : {T X : Type 0} → Item T → (X → T) → List ℕ → List ℕ → Option X → Type 0
 ReadsItem item view old new None = item.reading old ≡ None
 ReadsItem item view old new (Some x) = item.reading old ≡ Some (view x, new)
 
--- The value's spelling is at the front of the bytes, and rest is behind it
+-- The value's spelling is at the front of the bytes, and rest is after it
 pub record Spelled {T : Type 0} (item : Item T) (bytes : List ℕ) (value : T) (rest : List ℕ) : Type 0 where
   pub has : item.Has value
   pub parts : bytes ≡ item.spelling value ++ rest
 
--- What is read was spelled at the front, and what is spelled at the front is read
+-- A value is read exactly if its spelling is at the front
 pub record IsGrammar {T : Type 0} (item : Item T) : Type 0 where
   pub takes : (bytes : List ℕ) (x : T × List ℕ) → item.reading bytes ≡ Some x → Spelled item bytes x.0 x.1
   pub again : (v : T) (rest : List ℕ) → item.Has v → item.reading (item.spelling v ++ rest) ≡ Some (v, rest)
@@ -94,7 +95,8 @@ pub record IsGrammar {T : Type 0} (item : Item T) : Type 0 where
 abbrev pub HasOneSpelling : {T : Type 0} → Item T → Type 0
 HasOneSpelling {T} item = (v w : T) (x y : List ℕ) → item.Has v → item.Has w → item.spelling v ++ x ≡ item.spelling w ++ y → (v ≡ w) × (x ≡ y)
 
--- What a reader answers, in the words of the grammar: a value spelled at the front, or that none is
+-- The answer of a reader, in the words of the grammar: a value spelled at the front, or that none
+-- is
 abbrev pub FindsItem : {T X : Type 0} → Item T → (X → T) → List ℕ → List ℕ → Option X → Type 0
 FindsItem {T} item view old new None = (v : T) (more : List ℕ) → ¬ (Spelled item old v more)
 FindsItem {T} item view old new (Some x) = Spelled item old (view x) new

@@ -1,4 +1,4 @@
--- The laws of lists of items: what is read was spelled so, and what is spelled so is read.
+-- The laws of lists of items: a list is read exactly if its spelling is there.
 use Rattle.std.proofs.Common.{◌≡◌, ℕ, zero, suc, ◌<◌, Bool, true, false, List, [], ◌∷◌, ◌++◌, length, Option, Some, refl, sym, ap, subst, ◌∙◌, append_assoc, arith}
 use Rattle.std.specs.Prelude.{nat_le}
 use Rattle.std.specs.List.{flat_map, AllByRecursion}
@@ -18,7 +18,7 @@ has_truth true = (omega arith, refl)
 has_truth false = (omega arith, refl)
 
 module _ {T : Type 0} (a : Item T) (laws : IsGrammar a) where
-  -- ---- so many values
+  -- ---- n values
 
   run_takes : (n : ℕ) (bytes : List ℕ) (x : List T × List ℕ) → read_run a n bytes ≡ Some x → Spelled (run a n) bytes x.0 x.1
   run_takes zero bytes x e =

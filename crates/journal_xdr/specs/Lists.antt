@@ -1,17 +1,17 @@
--- Lists of items (RFC 4506): arrays of variable length (4.13), and linked lists, each element
--- behind a boolean (4.19).
+-- Lists of items (RFC 4506): arrays of variable length (4.13), and linked lists, each element after
+-- a boolean (4.19).
 use Rattle.std.specs.Prelude.{◌≡◌, ℕ, zero, suc, nat_le, Bool, true, false, List, [], ◌∷◌, ◌++◌, length, Option, Some, None}
 use Rattle.std.specs.List.{flat_map, AllByRecursion}
 use Rattle.journal_xdr.specs.Items.{Item, ◌>>=◌, such_that, tagged}
 use Rattle.journal_xdr.specs.Basic.{word, boolean}
 
--- ---- so many values, one behind another
+-- ---- n values, one after another
 
 -- how they are spelled, each as spelling says
 abbrev pub run_text : {T : Type 0} → (T → List ℕ) → List T → List ℕ
 run_text spelling values = flat_map spelling values
 
--- what the front of some bytes reads as
+-- the reading of the front of some bytes
 abbrev pub read_run : {T : Type 0} → Item T → ℕ → List ℕ → Option (List T × List ℕ)
 read_run a zero bytes = Some ([], bytes)
 read_run a (suc n) bytes = a.reading bytes >>= λ x. read_run a n x.1 >>= λ xs. Some (x.0 ∷ xs.0, xs.1)
@@ -32,21 +32,21 @@ array limit a = tagged (such_that (λ n. nat_le n limit) word) (run a) length
 abbrev pub array_text : {T : Type 0} → (T → List ℕ) → List T → List ℕ
 array_text spelling values = word.spelling (length values) ++ run_text spelling values
 
--- ---- a linked list: true before each value, and false behind the last
+-- ---- a linked list: true before each value, and false after the last
 
--- a value behind true, which says that it follows
+-- a value after true, which says that it follows
 abbrev pub link_text : {T : Type 0} → (T → List ℕ) → T → List ℕ
 link_text spelling value = boolean.spelling true ++ spelling value
 
 abbrev pub list_text : {T : Type 0} → (T → List ℕ) → List T → List ℕ
 list_text spelling values = flat_map (link_text spelling) values ++ boolean.spelling false
 
--- what the bytes behind a boolean read as, where rest reads those behind a value
+-- the reading of the bytes after a boolean, where rest reads those after a value
 abbrev pub read_link : {T : Type 0} → Item T → (List ℕ → Option (List T × List ℕ)) → Bool → List ℕ → Option (List T × List ℕ)
 read_link a rest false bytes = Some ([], bytes)
 read_link a rest true bytes = a.reading bytes >>= λ x. rest x.1 >>= λ xs. Some (x.0 ∷ xs.0, xs.1)
 
--- what the front of some bytes reads as, of fewer than n values
+-- the reading of the front of some bytes, of fewer than n values
 abbrev pub read_links : {T : Type 0} → Item T → ℕ → List ℕ → Option (List T × List ℕ)
 read_links a zero bytes = None
 read_links a (suc n) bytes = boolean.reading bytes >>= λ b. read_link a (read_links a n) b.0 b.1

@@ -5,13 +5,16 @@ ghost use Rattle.journal_xdr.specs.Basic.{word};
 use crate::writer::Writer;
 use std::alloc::AllocError;
 
-/// What the lists of a `Writer` are made of.
+/// A value in the lists of a `Writer`.
 pub trait Element {
     // How a value is spelled.
     ghost spelling: { Self → List ℕ };
 
-    /// Writes the value. Where a growth is refused, some bytes of it may have been written, and
-    /// nothing before them has changed.
+    /// Writes the value.
+    ///
+    /// # Errors
+    /// - Memory is refused. Some bytes of the value may be written. Nothing before them has
+    ///   changed.
     fn write(&self, writer: &mut Writer) -> Result<(), AllocError>
         ensures ok { OnOk result (writer.new ≡ writer.old ++ spelling self.now) }
         ensures err { OnErr result ((front : List ℕ) × (writer.new ≡ writer.old ++ front)) };

@@ -1,20 +1,19 @@
 // Types whose values are listed numbers.
 ghost use Rattle.std.specs.Prelude.{◌≡◌, ℕ, Option, Some};
 
-/// An enumeration (RFC 4506, section 4.3): a type each of whose values stands for a number of its
-/// own.
+/// An enumeration (RFC 4506, section 4.3): a type with a number of its own for each value.
 ///
-/// Other numbers stand for nothing, and are refused where such a value is read. An `impl` gives
+/// Other numbers have no value, and are refused where such a value is read. An `impl` gives
 /// `meaning` as a table of the numbers, by `listed` of `specs/Basic.antt`, and `listed_back` proves
 /// its second law.
 pub trait Enumeration: Copy {
-    // The value that a number stands for, where it is listed.
+    // The value of a number, if it is listed.
     ghost meaning: { ℕ → Option Self };
 
     // The number of a value.
     ghost code: { Self → ℕ };
 
-    /// The value that this number stands for, or `None` where it is not listed.
+    /// The value of this number, or `None` if it is not listed.
     fn from_number(number: u32) -> Option<Self>
         ensures { result ≡ meaning number };
 

@@ -1,4 +1,4 @@
-// What holds of every item.
+// Laws of every item.
 ghost use Rattle.std.specs.Prelude.{ℕ, ◌≡◌, Bool, Option, Some};
 ghost use Rattle.journal_xdr.specs.Items.{Item, IsGrammar, HasOneSpelling, pair, mapped_item, coded, such_that, tagged, variant};
 ghost use Rattle.journal_xdr.specs.Lists.{array, list};
@@ -13,14 +13,14 @@ pub trait HasItem {
 /// A union (RFC 4506, section 4.15): a type whose values have a tag, which says how the rest is
 /// spelled.
 pub trait HasArms<Tag: HasItem> {
-    // How values with this tag are spelled, behind it.
+    // How the rest of values with this tag is spelled, after the tag.
     ghost arm: { Tag → Item Self };
 
     // The tag of a value.
     ghost tag_of: { Self → Tag };
 }
 
-/// A value is read exactly where its spelling is at the front, and what is behind it stays.
+/// A value is read exactly where its spelling is at the front, and the bytes after it stay.
 pub fn readings_are_spellings()
     ensures word { IsGrammar word }
     ensures hyper { IsGrammar hyper }
@@ -36,7 +36,7 @@ pub fn combinations_are_spellings<A: HasItem, B: HasItem + HasArms<A>>()
     ensures optional { IsGrammar A.item → IsGrammar (optional A.item) }
     ensures such_that { (test : A → Bool) → IsGrammar A.item → IsGrammar (such_that test A.item) }
 
-    // A type made of another: values that stand for one another, and values that stand for some.
+    // A type made of another: each value is made of one value of the other, or some are.
     ensures made { (make : A → B) (parts : B → A) → IsGrammar A.item
         → ((x : A) → parts (make x) ≡ x) → ((v : B) → make (parts v) ≡ v)
         → IsGrammar (mapped_item A.item make parts) }

@@ -2,10 +2,10 @@
 ghost use Rattle.std.specs.Prelude.{◌≡◌};
 ghost use Rattle.journal_xdr.specs.Basic.{padding as padding_of};
 
-// Items are made of units of so many bytes (RFC 4506, section 3).
+// The bytes of a unit, of which items are made (RFC 4506, section 3).
 const UNIT: usize = 4;
 
-// How many zeros fill `length` bytes up to whole units.
+// The number of zeros that fill `length` bytes up to whole units.
 pub fn padding(length: usize) -> usize
     ensures { result ≡ padding_of length }
 {

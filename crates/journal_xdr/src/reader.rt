@@ -10,10 +10,11 @@ use crate::padding::padding;
 use byteorder::{BigEndian, ByteOrder};
 use std::marker::Model;
 
-/// Reads items one behind another, and lends what it reads. Contracts see the bytes that are left.
+/// Reads items one after another, and lends their bytes. Contracts see the bytes that are left.
 ///
-/// Each call answers the value whose spelling is at the front, and leaves what is behind it. It
-/// answers `None` exactly where no value's spelling is at the front; what is left then is not said.
+/// Each call answers the value whose spelling is at the front, and leaves the bytes after it. It
+/// answers `None` exactly if no value's spelling is at the front. The bytes that are then left are
+/// not specified.
 #[derive(Drop)]
 pub struct Reader<'a> {
     rest: &'a [u8],
@@ -35,14 +36,14 @@ impl<'a> Reader<'a> {
         Reader { rest: bytes }
     }
 
-    /// Whether nothing is left.
+    /// True if nothing is left.
     pub fn is_at_end(&self) -> bool
         ensures { IsTrue result ↔ (self.now ≡ []) }
     {
         self.rest.is_empty()
     }
 
-    /// What is left, lent.
+    /// The bytes that are left, lent.
     pub fn rest(&self) -> &'a [u8]
         ensures { result.now ≡ self.now }
     {
@@ -119,7 +120,7 @@ impl<'a> Reader<'a> {
         self.opaque(limit)
     }
 
-    // Takes so many bytes.
+    // Takes `length` bytes.
     fn raw(&mut self, length: usize) -> Option<&'a [u8]>
         ensures { ReadsItem (raw length) (λ bytes. bytes.now) self.old self.new result }
     {
@@ -145,7 +146,7 @@ fn hyper_of(bytes: &[u8]) -> u64
     BigEndian::read_u64(bytes)
 }
 
-// Whether each byte is zero.
+// True if each byte is zero.
 fn are_zeros(bytes: &[u8]) -> bool
     ensures { result ≡ list_all (λ byte. byte == 0) bytes.now }
 {

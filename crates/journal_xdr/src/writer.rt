@@ -1,4 +1,4 @@
-// Writing items behind some bytes.
+// Writing items after some bytes.
 ghost use Rattle.std.specs.Prelude.{◌≡◌, ◌<◌, ◌≤◌, ◌^◌, List, ℕ, [], ◌++◌, length, drop, IfOk, OnOk, OnErr};
 ghost use Rattle.journal_xdr.specs.Items.{Writes, AddsItem};
 ghost use Rattle.journal_xdr.specs.Lists.{array_text, run_text, list_text};
@@ -11,11 +11,11 @@ use byteorder::{BigEndian, ByteOrder};
 use std::alloc::{AllocError, Global};
 use std::marker::Model;
 
-/// Writes items one behind another. Contracts see the bytes written so far.
+/// Writes items one after another. Contracts see the bytes written so far.
 ///
 /// Room is reserved once, where the writer is made: within it no call takes memory. A call that
-/// would need more grows the buffer, and where that is refused it leaves the bytes written so far
-/// as they were.
+/// needs more grows the buffer. If that is refused, the bytes written before the call are as they
+/// were, and some bytes of its value may follow them.
 #[derive(Drop)]
 pub struct Writer {
     bytes: Vec<u8>,
@@ -30,7 +30,10 @@ impl Model for Writer {
 }
 
 impl Writer {
-    /// A writer with room for so many bytes.
+    /// A writer with room for `room` bytes.
+    ///
+    /// # Errors
+    /// - Memory is refused. Nothing was made.
     pub fn with_capacity(alloc: Global, room: usize) -> Result<Writer, AllocError>
         ensures { IfOk result (λ writer. writer ≡ []) }
     {
@@ -39,14 +42,14 @@ impl Writer {
         })
     }
 
-    /// How many bytes are written.
+    /// The number of bytes that are written.
     pub fn len(&self) -> usize
         ensures { result ≡ length self.now }
     {
         self.bytes.len()
     }
 
-    /// The bytes written. It takes no memory.
+    /// The bytes written. The call takes no memory.
     pub fn into_bytes(self) -> Vec<u8>
         ensures { result.items ≡ self }
     {
@@ -54,6 +57,9 @@ impl Writer {
     }
 
     /// Writes an unsigned integer (RFC 4506, section 4.2).
+    ///
+    /// # Errors
+    /// - Memory is refused. The bytes written before are as they were.
     #[tactic(auto, unfolding(crate::specs::Basic::word))]
     pub fn word(&mut self, number: u32) -> Result<(), AllocError>
         ensures ok { OnOk result (Writes word number self.old self.new) }
@@ -66,6 +72,9 @@ impl Writer {
     }
 
     /// Writes an unsigned hyper integer (RFC 4506, section 4.5).
+    ///
+    /// # Errors
+    /// - Memory is refused. The bytes written before are as they were.
     #[tactic(auto, unfolding(crate::specs::Basic::hyper))]
     pub fn hyper(&mut self, number: u64) -> Result<(), AllocError>
         ensures ok { OnOk result (Writes hyper number self.old self.new) }
@@ -78,6 +87,9 @@ impl Writer {
     }
 
     /// Writes a boolean (RFC 4506, section 4.4).
+    ///
+    /// # Errors
+    /// - Memory is refused. The bytes written before are as they were.
     #[tactic(auto, unfolding(crate::specs::Basic::boolean))]
     pub fn boolean(&mut self, truth: bool) -> Result<(), AllocError>
         ensures ok { OnOk result (Writes boolean truth self.old self.new) }
@@ -88,6 +100,9 @@ impl Writer {
     }
 
     /// Writes a value of an enumeration (RFC 4506, section 4.3).
+    ///
+    /// # Errors
+    /// - Memory is refused. The bytes written before are as they were.
     pub fn enumeration<E: Enumeration>(&mut self, value: E) -> Result<(), AllocError>
         ensures ok { OnOk result (Writes (enumeration E.meaning E.code) value self.old self.new) }
         ensures grammar { OnOk result (AddsItem (enumeration E.meaning E.code) value self.old self.new) }
@@ -97,6 +112,9 @@ impl Writer {
     }
 
     /// Writes fixed-length opaque data (RFC 4506, section 4.9).
+    ///
+    /// # Errors
+    /// - Memory is refused. Some of the bytes may be written. Those before are as they were.
     #[tactic(auto, unfolding(crate::specs::Basic::fixed))]
     pub fn fixed(&mut self, bytes: &[u8]) -> Result<(), AllocError>
         ensures ok { OnOk result (Writes (fixed (length bytes.now)) bytes.now self.old self.new) }
@@ -115,6 +133,9 @@ impl Writer {
     }
 
     /// Writes variable-length opaque data (RFC 4506, section 4.10).
+    ///
+    /// # Errors
+    /// - Memory is refused. Some of the bytes may be written. Those before are as they were.
     #[tactic(auto, unfolding(crate::specs::Basic::opaque))]
     pub fn opaque(&mut self, bytes: &[u8]) -> Result<(), AllocError>
         requires { length bytes.now < 2 ^ 32 }
@@ -133,6 +154,9 @@ impl Writer {
     }
 
     /// Writes a string (RFC 4506, section 4.11).
+    ///
+    /// # Errors
+    /// - Memory is refused. Some of the bytes may be written. Those before are as they were.
     #[tactic(auto, unfolding(crate::specs::Basic::string))]
     pub fn string(&mut self, bytes: &[u8]) -> Result<(), AllocError>
         requires { length bytes.now < 2 ^ 32 }
@@ -144,8 +168,11 @@ impl Writer {
         self.opaque(bytes)
     }
 
-    /// Writes an array of variable length (RFC 4506, section 4.13): how many values there are, and
-    /// then they.
+    /// Writes an array of variable length (RFC 4506, section 4.13): the number of values, and then
+    /// the values.
+    ///
+    /// # Errors
+    /// - Memory is refused. Some of the bytes may be written. Those before are as they were.
     pub fn array<E: Element>(&mut self, values: &[E]) -> Result<(), AllocError>
         requires { length values.now < 2 ^ 32 }
         ensures ok { OnOk result (self.new ≡ self.old ++ array_text E.spelling values.now) }
@@ -160,8 +187,11 @@ impl Writer {
         added
     }
 
-    /// Writes a linked list (RFC 4506, section 4.19): true before each value, and false behind the
+    /// Writes a linked list (RFC 4506, section 4.19): true before each value, and false after the
     /// last.
+    ///
+    /// # Errors
+    /// - Memory is refused. Some of the bytes may be written. Those before are as they were.
     pub fn list<E: Element>(&mut self, values: &[E]) -> Result<(), AllocError>
         ensures ok { OnOk result (self.new ≡ self.old ++ list_text E.spelling values.now) }
         ensures err { OnErr result (self.new ≡ self.old) }
@@ -174,7 +204,7 @@ impl Writer {
         linked
     }
 
-    // Writes values one behind another.
+    // Writes values one after another.
     fn run<E: Element>(&mut self, values: &[E]) -> Result<(), AllocError>
         ensures ok { OnOk result (self.new ≡ self.old ++ run_text E.spelling values.now) }
         ensures err { OnErr result ((front : List ℕ) × (self.new ≡ self.old ++ front)) }

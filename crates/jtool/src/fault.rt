@@ -45,7 +45,7 @@ impl<'w> Fault<'w> {
         ensures { status_of result ≡ 1 }
     {
         match fault {
-            ServiceFault::BadFile => Fault::BadFile(path),
+            ServiceFault::File(_) => Fault::BadFile(path),
             ServiceFault::Label(why) => Fault::Label(path, why),
             ServiceFault::Device(why) => Fault::Device(path, why),
             ServiceFault::CannotListen => Fault::CannotListen,

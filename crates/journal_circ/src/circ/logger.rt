@@ -29,7 +29,9 @@ impl<D: BlockDisk> Circ<D> {
     /// Puts an update into the log block of the next position: `from` becomes the content of block
     /// `address` with the group.
     ///
-    /// Answers J6, and nothing else, where the device failed in this call or before.
+    /// # Errors
+    /// - `J6 DeviceFailed`: the device failed, in this call or before. Each image stands for the
+    ///   blocks without the group.
     pub fn put_slot(
         &mut self,
         state: LogBlocksPut,
@@ -62,7 +64,7 @@ impl<D: BlockDisk> Circ<D> {
         }
     }
 
-    // The same where the log is plain.
+    // The same for a plain log.
     fn put_plain(
         &mut self,
         state: LogBlocksPut,
@@ -93,8 +95,8 @@ impl<D: BlockDisk> Circ<D> {
         Ok(state)
     }
 
-    // The same where the log is sealed. The tag is none that an image may take for that of a group:
-    // neither the one that the log block has, nor the one that block 0 on the disk wants of it.
+    // The same for a sealed log. The new tag differs from the one that the log block has, and from
+    // the one that block 0 on the disk wants of it. So no image takes it for the tag of a group.
     // Block 0 in memory still has the latter.
     fn put_tagged(
         &mut self,
@@ -134,9 +136,11 @@ impl<D: BlockDisk> Circ<D> {
         Ok(state)
     }
 
-    /// Makes the log blocks stable of all updates that were put.
+    /// Makes the log blocks of all updates that were put stable.
     ///
-    /// Answers J6, and nothing else, where the device failed in this call or before.
+    /// # Errors
+    /// - `J6 DeviceFailed`: the device failed, in this call or before. Each image stands for the
+    ///   blocks without the group.
     pub fn sync_slots(&mut self, _state: LogBlocksPut) -> Result<LogBlocksSynced, Refusal<()>>
         ensures step { Steps barrier result self.old self.new }
         ensures crash { Crashes self.old.extent.coming self.old self.new }
@@ -153,11 +157,12 @@ impl<D: BlockDisk> Circ<D> {
         Ok(LogBlocksSynced(()))
     }
 
-    /// Puts the end of the log behind the group. From here on an image may stand for the blocks
-    /// with it.
+    /// Puts the end of the log after the group. From here on an image may stand for the blocks with
+    /// it.
     ///
-    /// Answers J6, and nothing else, where the device failed in this call or before. After a device
-    /// call that failed an image may stand for the blocks with the group or without it.
+    /// # Errors
+    /// - `J6 DeviceFailed`: the device failed, in this call or before. If it failed in this call,
+    ///   an image may stand for the blocks with the group or without it.
     pub fn put_end(&mut self, _state: LogBlocksSynced) -> Result<EndPut, Refusal<()>>
         requires plain { self.old.sealed ≡ false }
         requires synced { self.old.extent.stable ≡ self.old.next }
@@ -188,8 +193,9 @@ impl<D: BlockDisk> Circ<D> {
     /// the blocks with it. No barrier is needed before, because an image that lacks one of its log
     /// blocks ends where the log ended.
     ///
-    /// Answers J6, and nothing else, where the device failed in this call or before. After a device
-    /// call that failed an image may stand for the blocks with the group or without it.
+    /// # Errors
+    /// - `J6 DeviceFailed`: the device failed, in this call or before. If it failed in this call,
+    ///   an image may stand for the blocks with the group or without it.
     pub fn put_group(&mut self, _state: LogBlocksPut) -> Result<EndPut, Refusal<()>>
         requires sealed { self.old.sealed ≡ true }
         requires some { self.old.extent.end < self.old.next }
@@ -219,7 +225,9 @@ impl<D: BlockDisk> Circ<D> {
 
     /// Makes the end stable: from here on each image stands for the blocks with the group.
     ///
-    /// Answers J6, and nothing else, where the device failed in this call or before.
+    /// # Errors
+    /// - `J6 DeviceFailed`: the device failed, in this call or before. An image may stand for the
+    ///   blocks with the group or without it.
     pub fn sync_end(&mut self, _state: EndPut) -> Result<LogBlocksPut, Refusal<()>>
         ensures step { Steps barrier result self.old self.new }
         ensures crash { Crashes self.old.extent.coming self.old self.new }

@@ -1,4 +1,4 @@
-// How a disk is made settled that a failed barrier, a kill or a crash left.
+// How a disk is made settled after a failed barrier, a kill or a crash.
 ghost use Rattle.std.specs.Prelude.{ℕ, ◌≡◌, ◌<◌, ◌≤◌, false, IsTrue, IfOk, IfErr, OnOk, OnErr, MatchResult};
 ghost use Rattle.journal_world.specs.declared.layout.TheConstants.{MIN_BLOCKS};
 ghost use Rattle.journal_disk.specs.Disks.{Keeps, HasFailed, IsSettled, IsKeptAt};
@@ -18,16 +18,15 @@ use std::alloc::Global;
 
 impl<D: BlockDisk> Circ<D> {
     /// Makes a disk settled whose log is to be opened: one that a failed barrier, a kill or a crash
-    /// left. It looks at the log as `open` does. Then it writes blocks 0 to 512, and each home block
-    /// that the log names, as they read, and makes one barrier. At each moment what a crash leaves is
-    /// what one might have left before, and reads give what they gave.
+    /// left. It looks at the log as `open` does. Then it writes blocks 0 to 512, and each home
+    /// block that the log names, as they read, and makes one barrier. At each moment each image is
+    /// one that a crash might have left before, and reads give the same as before.
     ///
     /// # Errors
-    /// - J1 `NoMemory`: memory for four blocks is refused. Nothing is written.
-    /// - J6 `DeviceFailed`: the device failed in this call. The disk can be mended again.
-    /// - J7 `BadLog`: the disk's log is not well formed. Nothing is written.
-    ///
-    /// A refusal hands the disk back.
+    /// A refusal gives the disk back.
+    /// - `J1 NoMemory`: memory for four blocks is refused. Nothing is written.
+    /// - `J6 DeviceFailed`: the device failed in this call. The disk can be mended again.
+    /// - `J7 BadLog`: the disk's log is not well formed. Nothing is written.
     pub fn mend(alloc: Global, disk: D) -> Result<D, Refused<D, ()>>
         requires in_range { MIN_BLOCKS ≤ (D.state disk).past.size }
         requires mendable { IsTrue (D.state disk).honest → IsMendable (D.state disk).past }

@@ -24,7 +24,7 @@ use journal_disk::BlockDisk;
 use journal_world::{Refusal, Refused};
 use std::alloc::Global;
 
-/// A log as it is opened, with the states in which its two cycles begin. Nothing else makes these.
+/// A log as it is opened, with the first states of its two cycles. Only an opening makes these.
 #[derive(Drop)]
 pub struct Opened<D: BlockDisk> {
     pub circ: Circ<D>,
@@ -32,8 +32,8 @@ pub struct Opened<D: BlockDisk> {
     pub installer: HomesPut,
 }
 
-// What blocks 0 and 1 of a disk say, with the tags of a sealed log, and the blocks that later steps
-// write from.
+// The content of blocks 0 and 1 of a disk, the tags of a sealed log, and the buffers of later
+// steps.
 #[derive(Drop)]
 pub(crate) struct Headers {
     pub(crate) header: Block,
@@ -49,10 +49,12 @@ impl<D: BlockDisk> Circ<D> {
     /// reads blocks 1 and 0, and of a sealed log the 511 log blocks for their tags. It writes
     /// nothing and makes no barrier.
     ///
-    /// Answers J1 `NoMemory` where memory for its four blocks is refused, J6 `DeviceFailed` where
-    /// the device fails in this call, and J7 `BadLog` where the disk's log is not well formed, and
-    /// no other refusal. A sealed log on a disk of more than 2^40 blocks is not well formed. A
-    /// refusal hands the disk back, with nothing written.
+    /// # Errors
+    /// A refusal gives the disk back, and nothing was written.
+    /// - `J1 NoMemory`: memory for its four blocks is refused.
+    /// - `J6 DeviceFailed`: the device fails in this call.
+    /// - `J7 BadLog`: the disk's log is not well formed. A sealed log on a disk of more than 2^40
+    ///   blocks is not.
     pub fn open(alloc: Global, disk: D) -> Result<Opened<D>, Refused<D, ()>>
         requires in_range { MIN_BLOCKS ≤ (D.state disk).past.size }
         requires settled { IsTrue (D.state disk).honest → IsSettled (D.state disk).past }
@@ -68,7 +70,7 @@ impl<D: BlockDisk> Circ<D> {
         ensures ok { IfOk result (λ opened. opened.circ ≡ at_rest opened.circ.disk opened.circ.header opened.circ.tags opened.circ.label opened.circ.extent.start opened.circ.extent.end) }
         ensures header { IsTrue (D.state disk).honest → IfOk result (λ opened. opened.circ.header ≡ read_of (D.state disk).past 0) }
         ensures label { IsTrue (D.state disk).honest → IfOk result (λ opened. opened.circ.label ≡ label_of (read_of (D.state disk).past 1)) }
-        // The bounds are those that the disk tells.
+        // The bounds are those on the disk.
         ensures start { IsTrue (D.state disk).honest → IfOk result (λ opened. opened.circ.extent.start ≡ start_in (reading (D.state disk).past)) }
         ensures end { IsTrue (D.state disk).honest → IfOk result (λ opened. opened.circ.extent.end ≡ end_in (reading (D.state disk).past)) }
         ensures labels { IsTrue (D.state disk).honest → IfOk result (λ opened. EveryImage opened.circ.disk.past (HasLabel opened.circ.label)) }
@@ -115,7 +117,7 @@ impl<D: BlockDisk> Circ<D> {
     }
 }
 
-// Reads blocks 1 and 0, and refuses them where they describe no log.
+// Reads blocks 1 and 0, and refuses them if they describe no log.
 pub(crate) fn read_headers<D: BlockDisk>(
     alloc: Global,
     device: &mut FailStop<D>,
@@ -161,8 +163,8 @@ pub(crate) fn read_headers<D: BlockDisk>(
     })
 }
 
-// Where the log of block 0 ends. Of a sealed log it reads the tags, which say whether the last
-// group is there.
+// The end of the log of block 0. Of a sealed log it reads the tags, which say whether the last
+// group is in the log.
 fn read_end<D: BlockDisk>(
     device: &mut FailStop<D>,
     header: &Block,
@@ -193,7 +195,7 @@ fn read_end<D: BlockDisk>(
     }
 }
 
-// Reads the tag of each log block, so that the next one that is put there differs from it.
+// Reads the tag of each log block, so that the next tag there differs from it.
 fn read_tags<D: BlockDisk>(
     device: &mut FailStop<D>,
     scratch: &mut Block,
@@ -220,7 +222,7 @@ fn read_tags<D: BlockDisk>(
     Ok(())
 }
 
-// Whether block 0 describes a log from one position to another.
+// True if block 0 describes a log from one position to another.
 fn is_log(header: &Block, start: u64, end: u64, blocks: u64) -> bool
     ensures { IsTrue result ↔ DescribesLog header.now start end blocks }
 {
@@ -233,7 +235,7 @@ fn is_log(header: &Block, start: u64, end: u64, blocks: u64) -> bool
     are_homes(header, start, end, blocks)
 }
 
-// Whether each address from one position to another is that of a home block.
+// True if each address from one position to another is that of a home block.
 fn are_homes(header: &Block, start: u64, end: u64, blocks: u64) -> bool
     requires { start ≤ end }
     ensures { IsTrue result ↔ ((q : ℕ) → start ≤ q → q < end

@@ -16,11 +16,11 @@ use journal_world::{Refusal, Refused};
 
 impl<D: BlockDisk> Circ<D> {
     /// Makes the log, which is empty, a sealed one, by one write and a barrier, and gives the disk
-    /// up. It does so whatever form the log has. At each moment each image stands for the home
-    /// blocks.
+    /// up. Its form before does not matter. At each moment each image stands for the home blocks.
     ///
-    /// Answers J6 `DeviceFailed`, and nothing else, where the device failed in this call or before.
-    /// The refusal hands the disk back, which can be mended, and its log then has either form.
+    /// # Errors
+    /// - `J6 DeviceFailed`: the device failed, in this call or before. The disk is given back and
+    ///   can be mended. Its log then has either form.
     pub fn seal(self) -> Result<D, Refused<D, ()>>
         requires empty { self.extent.start ≡ self.next }
         requires narrow { self.disk.past.size ≤ MAX_SEALED_BLOCKS }
@@ -41,7 +41,7 @@ impl<D: BlockDisk> Circ<D> {
             next,
             ..
         } = self;
-        // A group of no position ends where it begins, whatever the log blocks have.
+        // A group of no position ends where it begins, whatever the log blocks hold.
         put_group(&mut header, next, 0);
         match put_stable(&mut device, &header) {
             Ok(()) => Ok(device.disk),
@@ -53,11 +53,11 @@ impl<D: BlockDisk> Circ<D> {
     }
 
     /// Makes the log, which is empty, a plain one, by one write and a barrier, and gives the disk
-    /// up. It does so whatever form the log has. At each moment each image stands for the home
-    /// blocks.
+    /// up. Its form before does not matter. At each moment each image stands for the home blocks.
     ///
-    /// Answers J6 `DeviceFailed`, and nothing else, where the device failed in this call or before.
-    /// The refusal hands the disk back, which can be mended, and its log then has either form.
+    /// # Errors
+    /// - `J6 DeviceFailed`: the device failed, in this call or before. The disk is given back and
+    ///   can be mended. Its log then has either form.
     pub fn unseal(self) -> Result<D, Refused<D, ()>>
         requires empty { self.extent.start ≡ self.next }
         ensures refusal { IfErr result (λ refused. IsFault self.faulted self.disk (D.state refused.disk) refused.refusal) }

@@ -9,7 +9,7 @@ use std::marker::Model;
 /// The words of a line that are still to be read. Contracts see their list.
 #[derive(Drop)]
 pub struct Words<'a> {
-    // What stands behind the last space that was passed, and `None` behind the last word.
+    // The text after the last space that was passed, and `None` after the last word.
     rest: Option<&'a [u8]>,
 }
 
@@ -31,7 +31,7 @@ impl<'a> Words<'a> {
         Words { rest: Some(line) }
     }
 
-    /// Takes the next word, where there is one.
+    /// Takes the next word, if there is one.
     pub fn word(&mut self) -> Option<&'a [u8]>
         ensures { MatchOption result (self.old ≡ []) (λ word. self.old ≡ word.now ∷ self.new) }
     {
@@ -48,7 +48,7 @@ impl<'a> Words<'a> {
         }
     }
 
-    /// Takes the next word, where it is a number.
+    /// Takes the next word, if it is a number.
     pub fn number(&mut self) -> Option<u32>
         ensures found { IfSome result (λ n. IsNumber n × (self.old ≡ decimal n ∷ self.new)) }
         ensures none { IfNone result ((n : ℕ) (more : List (List ℕ)) → IsNumber n → self.old ≢ decimal n ∷ more) }
@@ -57,7 +57,7 @@ impl<'a> Words<'a> {
         read_number(word)
     }
 
-    /// `Some` where no word is left.
+    /// `Some` if no word is left.
     pub fn end(&self) -> Option<()>
         ensures { MatchOption result (self.now ≢ []) (λ _. self.now ≡ []) }
     {

@@ -6,7 +6,7 @@ use Rattle.journal_memory.specs.Outsets.{Outset, CanCommit}
 use Rattle.journal_memory.specs.Rules.{KeepsMapRule}
 use Rattle.journal_memory.specs.Volatiles.{VolatileState, outset_of}
 use Rattle.journal_memory.specs.VolatileCommits.{IsCommitted as IsCommittedIn, with_room}
-use Rattle.journal_parts.specs.Cores.{CoreState, IsRunning}
+use Rattle.journal_parts.specs.CoreStates.{CoreState, IsRunning}
 use Rattle.journal_parts.specs.CoreParts.{IsPair, core_of, outset}
 use Rattle.journal_core.specs.Commits.{IsCommitRefusal}
 use Rattle.journal_memory.proofs.Committing.{err_extends}

@@ -7,7 +7,7 @@ use Rattle.journal_memory.specs.Causes.{CauseState}
 use Rattle.journal_memory.specs.Volatiles.{VolatileState}
 use Rattle.journal_parts.specs.Durables.{DurableState, Crashes as CrashesDurable}
 use Rattle.journal_parts.specs.CallAnswers.{log_step_of}
-use Rattle.journal_parts.specs.Cores.{IsRunning}
+use Rattle.journal_parts.specs.CoreStates.{IsRunning}
 use Rattle.journal_parts.specs.CoreParts.{IsPair, core_of}
 use Rattle.journal_core.specs.Steps.{IsLogRefusal, LeavesLog, TriesToLog}
 use Rattle.journal_parts.specs.Holds.{MakesGroupCall, FailsGroupCall, AnswersMarkOrCut}

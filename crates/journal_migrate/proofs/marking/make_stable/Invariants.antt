@@ -1,6 +1,6 @@
 use Rattle.std.proofs.Common.{◌≡◌}
 use Rattle.journal_disk.specs.Disks.{Keeps}
-use Rattle.journal_parts.specs.Cores.{disk_of}
+use Rattle.journal_parts.specs.CoreStates.{disk_of}
 use Rattle.journal_migrate.specs.Marking.{AwaitsMark, steps_to_mark}
 use Rattle.journal_migrate.proofs.marking.make_stable.Given as goal
 

@@ -9,7 +9,7 @@ use Rattle.journal_lockmap.specs.Numbers.{slots_of}
 use Rattle.journal_inode.specs.Places.{addr_of}
 use Rattle.journal_inode.specs.Places.Object.{superblock}
 use Rattle.journal_memory.specs.SlotCounts.{AgreeWith}
-use Rattle.journal_parts.specs.Cores.{CoreState, disk_of, next_of}
+use Rattle.journal_parts.specs.CoreStates.{CoreState, disk_of, next_of}
 use Rattle.journal_migrate.specs.Migrations.{IsUpgradeRefusal}
 use Rattle.journal_migrate.proofs.Drafting.{at_draft, keeps_rule, under, covered, apart, awaits, commit_refused}
 use Rattle.journal_migrate.proofs.Bringing.{no_commit, left_committed, two_marked}

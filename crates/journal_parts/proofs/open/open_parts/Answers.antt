@@ -2,8 +2,9 @@ use Rattle.std.proofs.Common.{true, rules, ap, sym, subst, ◌∙◌}
 use Rattle.journal_world.specs.declared.refusal.Refusal.{Refusal}
 use Rattle.journal_disk.specs.Disks.{DiskState}
 use Rattle.journal_memory.specs.Causes.{CauseState}
-use Rattle.journal_parts.specs.Openings.{Begins, HasSize, IsLayoutRefusal}
-use Rattle.journal_parts.specs.Cores.{CoreState}
+use Rattle.journal_parts.specs.Openings.{HasSize, IsLayoutRefusal}
+use Rattle.journal_parts.specs.Beginnings.{Begins}
+use Rattle.journal_parts.specs.CoreStates.{CoreState}
 use Rattle.journal_memory.specs.Ledgers.{LedgerState}
 use Rattle.journal_parts.proofs.Between.{between_pair}
 use Rattle.journal_parts.proofs.Opening.{begins, images_now, refuses_log, refuses_begin, on_ok}

@@ -5,7 +5,7 @@ use Rattle.journal_history.specs.Tokens.{next_transaction, IsReceiptFor}
 use Rattle.journal_lockmap.specs.Numbers.{HeldState, AreApart, HoldsSlots}
 use Rattle.journal_memory.specs.Ledgers.{ShowsLonger}
 use Rattle.journal_memory.specs.Transactions.{AreUnmoved}
-use Rattle.journal_parts.specs.Cores.{CoreState, Crashes, OnlyReads}
+use Rattle.journal_parts.specs.CoreStates.{CoreState, Crashes, OnlyReads}
 use Rattle.journal_core.specs.Commits.{IsCommitted, CanCommit, IsCommitRefusal}
 use Rattle.journal_core.specs.Interleavings.{AnswersCommit}
 use Rattle.journal_core.proofs.Verified.{agree_committed}

@@ -1,6 +1,6 @@
 use Rattle.std.proofs.Common.{sym, subst}
 use Rattle.journal_memory.specs.Rules.{KeepsMapRule}
-use Rattle.journal_parts.specs.Cores.{CoreState}
+use Rattle.journal_parts.specs.CoreStates.{CoreState}
 use Rattle.journal_core.proofs.state.Core.commit_verified.Goals as goal
 
 pub commit_step-requires-clause-rule : goal.commit_step-requires-clause-rule

@@ -2,7 +2,7 @@ use Rattle.std.proofs.Common.{◌≡◌, IsTrue, IfOk, IfErr, OnOk, ap, sym, sub
 use Rattle.journal_world.specs.Maps.{value_at}
 use Rattle.journal_world.specs.Histories.{is_trusted, latest}
 use Rattle.journal_memory.specs.Transactions.{AreUnmoved}
-use Rattle.journal_parts.specs.Cores.{CoreState, Crashes, OnlyReads}
+use Rattle.journal_parts.specs.CoreStates.{CoreState, Crashes, OnlyReads}
 use Rattle.journal_core.specs.Steps.{MayRead, IsReadRefusal}
 use Rattle.journal_core.specs.Interleavings.{AnswersRead}
 use Rattle.journal_memory.proofs.Verifying.{agree_still}

@@ -14,7 +14,7 @@ use Rattle.journal_memory.specs.Outsets.{MayRead}
 use Rattle.journal_tail.specs.ObjectTails.{known_at}
 use Rattle.journal_memory.specs.Transactions.{AreUnmoved}
 use Rattle.journal_memory.specs.Volatiles.{VolatileState, IsReadRefusal as IsRefusedIn, outset_of, usable}
-use Rattle.journal_parts.specs.Cores.{CoreState, OnlyReads}
+use Rattle.journal_parts.specs.CoreStates.{CoreState, OnlyReads}
 use Rattle.journal_core.specs.Steps.{IsReadRefusal}
 use Rattle.journal_core.specs.Interleavings.{FindsValue}
 use Rattle.journal_core.proofs.Events.{refuses_read, finds_in_memory}

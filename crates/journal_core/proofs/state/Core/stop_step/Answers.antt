@@ -1,6 +1,6 @@
 use Rattle.std.proofs.Common.{true, ap, sym, subst, ◌∙◌}
 use Rattle.journal_memory.specs.Volatiles.{VolatileState}
-use Rattle.journal_parts.specs.Cores.{CoreState}
+use Rattle.journal_parts.specs.CoreStates.{CoreState}
 use Rattle.journal_parts.specs.CoreParts.{IsPair, core_of}
 use Rattle.journal_core.proofs.Joining.{pair_noted, crashes_noticed}
 use Rattle.journal_core.proofs.state.Core.stop_step.Goals as goal

@@ -3,7 +3,7 @@ use Rattle.journal_world.specs.Histories.{floor}
 use Rattle.journal_memory.specs.Outsets.{Outset}
 use Rattle.journal_memory.specs.Waits.{MayWait, IsWaitRefusal}
 use Rattle.journal_memory.specs.Volatiles.{VolatileState}
-use Rattle.journal_parts.specs.Cores.{CoreState}
+use Rattle.journal_parts.specs.CoreStates.{CoreState}
 use Rattle.journal_parts.specs.CoreParts.{IsPair, outset}
 use Rattle.journal_core.proofs.Joining.{outset_seen}
 use Rattle.journal_core.proofs.state.Core.wait_step.Goals as goal

@@ -1,0 +1,17 @@
+pub mod Finding
+pub mod Stems
+pub mod Changing
+pub mod Hanging
+pub mod Steps
+pub mod Bounds
+pub mod Setting
+pub mod Calls
+pub mod Keeping
+pub mod Moments
+pub mod Fates
+pub mod Growing
+pub mod Rightful
+pub mod Linking
+pub mod Listing
+pub mod Chains
+pub mod Pages

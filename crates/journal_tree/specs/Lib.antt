@@ -1,0 +1,17 @@
+pub mod Trees
+pub mod Times
+pub mod Callers
+pub mod Rights
+pub mod Rule
+pub mod Links
+pub mod Calls
+pub mod Changes
+pub mod Attributes
+pub mod Contents
+pub mod Names
+pub mod Listing
+pub mod Facts
+pub mod Op
+pub mod Fit
+pub mod Runs
+pub mod Laws

@@ -1,0 +1,81 @@
+// What holds of the definitions, for all trees, callers and moments.
+ghost use Rattle.journal_tree.specs.Laws.{KeepsTrees, KeepsFit, BeginsAsTree, BeginsFit, NamesOnce, LinksAreTrees, ListsAll, ListsPlaces, TellsPages, TellsPagesPlus, RefusalsChangeNothing, RepliesAreTrue, ChangesMoveCtime, NamesMoveCtime, NamesMoveMtime, CallsKeepRights, OwnersReadAndWrite};
+
+/// Each call leaves a tree: each node but the root hangs in one directory, no two of a directory
+/// under one name or at one place, and the parents lead to the root.
+pub fn calls_keep_trees()
+    ensures { KeepsTrees }
+{}
+
+/// Each call leaves the nodes of a tree within the bounds that their fields have on a disk, where
+/// the clock shows a time.
+pub fn calls_keep_bounds()
+    ensures { KeepsFit }
+{}
+
+/// An empty root is a tree within its bounds.
+pub fn first_is_a_tree()
+    ensures tree { BeginsAsTree }
+    ensures bounds { BeginsFit }
+{}
+
+/// Each node but the root is found in its directory under its name, and nowhere else.
+pub fn nodes_are_named_once()
+    ensures { NamesOnce }
+{}
+
+/// Where inodes say where they hang, entries name them, no two names of a directory are alike, and
+/// all that is in use is reached from the root by entries, there is a tree.
+pub fn links_are_trees()
+    ensures { LinksAreTrees }
+{}
+
+/// Calls of READDIR, each from the last cookie of the one before, up to the end: a line that stands
+/// in the directory at each of them is told, no cookie is told twice, and each line that is told
+/// stood there at one of them. A place that something has at each of them is told, with what it had
+/// at one of them.
+pub fn listings_miss_nothing()
+    ensures lines { ListsAll }
+    ensures places { ListsPlaces }
+{}
+
+/// What READDIR and READDIRPLUS answer is a page of such a listing, and the tree stays as it was.
+/// Where the page is not the last, its last cookie is above the one of the call.
+pub fn listings_are_pages()
+    ensures names { TellsPages }
+    ensures nodes { TellsPagesPlus }
+{}
+
+/// A call that is refused leaves the tree as it was.
+pub fn refusals_change_nothing()
+    ensures { RefusalsChangeNothing }
+{}
+
+/// What the replies of SETATTR, WRITE, LOOKUP, CREATE, MKDIR, REMOVE and RMDIR tell of a node before
+/// and after the call is so in the tree before and after it.
+pub fn replies_are_true()
+    ensures { RepliesAreTrue }
+{}
+
+/// Over any calls, also where the clock stands or goes back and a client sets mtime: a node of one
+/// generation is as it was, or its ctime is later. A directory has the same names for the same
+/// numbers, or its ctime is later. One call that changes a directory's names changes its mtime as
+/// well. At the greatest time of 32 bits of seconds, in the year 2106, ctime stays.
+pub fn changes_move_times()
+    ensures nodes { ChangesMoveCtime }
+    ensures names { NamesMoveCtime }
+    ensures mtime { NamesMoveMtime }
+{}
+
+/// A call by somebody who is not root changes no owner; changes a group only of what he owns, and
+/// to one that he is in; changes bytes only of a file that he may write or owns; and changes the
+/// names of a directory only where he may write and search it, and where it is sticky takes out of
+/// it only what is his, or what he likes if the directory is his.
+pub fn calls_keep_rights()
+    ensures { CallsKeepRights }
+{}
+
+/// READ is never refused for the mode to who owns the file or may run it, nor WRITE to who owns it.
+pub fn owners_read_and_write()
+    ensures { OwnersReadAndWrite }
+{}

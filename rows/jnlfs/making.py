@@ -1,0 +1,43 @@
+"""The file of a new disk of files: who may use it, and the room that it takes."""
+
+import os
+import resource
+import signal
+import stat
+
+from program_rows import Ended, wants, wants_run
+
+BLOCKS = 600
+BLOCK = 4096
+# What st_blocks counts.
+UNIT = 512
+
+
+def make(room, *words):
+    """A new disk of a user whose new files everybody may use, and what the system says of it."""
+    line = ["jnlfs", "make", "disk", "--blocks", str(BLOCKS), *words]
+    wants_run(room.run(line, preexec_fn=lambda: os.umask(0)), Ended(b"", b"", 0))
+    return room.path("disk").stat()
+
+
+def a_new_disk_is_its_owners_alone(room):
+    wants("who may use disk", stat.S_IMODE(make(room).st_mode), 0o600)
+
+
+def a_new_disk_takes_its_room_where_it_is_asked_to(room):
+    found = make(room, "--allocate")
+    wants("that all blocks have room", found.st_blocks * UNIT >= BLOCKS * BLOCK, True)
+    wants("the size of the disk", found.st_size, BLOCKS * BLOCK)
+
+
+def limit_files():
+    """EFBIG for what would make a file longer, as ENOSPC on a full file system."""
+    signal.signal(signal.SIGXFSZ, signal.SIG_IGN)
+    resource.setrlimit(resource.RLIMIT_FSIZE, (BLOCK, BLOCK))
+
+
+def no_file_is_left_where_it_cannot_be_so_long(room):
+    line = ["jnlfs", "make", "disk", "--blocks", str(BLOCKS)]
+    ended = room.run(line, preexec_fn=limit_files, restore_signals=False)
+    wants_run(ended, Ended(b"", b"jnlfs: cannot use disk: File too large (os error 27)\n", 1))
+    room.do_absent("disk")

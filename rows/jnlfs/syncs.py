@@ -1,0 +1,16 @@
+"""Each sync of a run fails in turn; and the order in which jnlfs writes and syncs a disk.
+
+tools/sync_rows.py has the runs. They need a C compiler as cc.
+"""
+
+import subprocess
+
+import sync_rows
+from program_rows import Wrong
+
+
+def each_sync_is_made_in_its_place(room):
+    try:
+        sync_rows.JnlfsRuns(room.programs["jnlfs"], room.folder).try_all()
+    except (sync_rows.Wrong, subprocess.SubprocessError) as why:
+        raise Wrong(str(why)) from None
