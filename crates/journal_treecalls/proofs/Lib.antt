@@ -1,0 +1,11 @@
+pub mod Learning
+pub mod Cases
+pub mod Reading
+pub mod Naming
+pub mod Searching
+pub mod Learned
+pub mod ByName
+pub mod Removing
+pub mod Removed
+pub mod Making
+pub mod Made

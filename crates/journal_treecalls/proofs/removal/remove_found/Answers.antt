@@ -1,0 +1,9 @@
+use Rattle.journal_treecalls.proofs.Learned.{IfOk-like}
+use Rattle.journal_treecalls.proofs.Removed.{removes-missed, removes-hit}
+use Rattle.journal_treecalls.proofs.removal.remove_found.Goals as goal
+
+pub returns-in-None : goal.returns-in-None
+returns-in-None g c = removes-missed _ _ _ c.args.caller.now c.args.number c.args.found.now c.args.now (λ V m. m) c.requires.first c.in-None.is
+
+pub returns-in-Some : goal.returns-in-Some
+returns-in-Some g c = IfOk-like c.remove_hit.result _ _ (λ reply k. removes-hit _ _ _ c.args.caller.now c.args.number c.args.found.now c.in-Some.hit c.args.now reply c.in-Some.is k) c.remove_hit.ensures

@@ -1,0 +1,87 @@
+// The reads and writes of a call on a disk with a tree.
+ghost use Rattle.std.specs.Prelude.{ℕ, ◌≡◌, ◌<◌, List, [], ◌∷◌, IfOk, length};
+ghost use Rattle.journal_treestore.specs.Owners.{owner_from};
+ghost use Rattle.journal_treestore.specs.Views.{View};
+ghost use Rattle.journal_treestore.specs.Sound.{IsSoundView};
+ghost use Rattle.journal_treecalls.specs.Disks.{Write, inode_seen, Learns};
+ghost use Rattle.journal_treecalls.specs.Disks.Write.{inode_write, owner_write, block_write};
+
+use journal_treestore::{INODE_BYTES, OWNER_BYTES};
+use journal_world::Value;
+
+/// A disk with a tree, as one transaction sees it: what is read is of one disk, and what is written
+/// is there, all of it, if the transaction is committed. A call first reads, and then writes.
+///
+/// A call is given up at the first `Err`, and nothing of it counts.
+pub trait TreeDisk {
+    /// Why a call is given up.
+    type Fault;
+
+    /// The disks that have what was read.
+    ghost may_be: { Self → View → Type 0 };
+
+    /// The writes, the last first.
+    ghost writes: { Self → List Write };
+
+    /// They are sound.
+    ghost are_sound: { (disk : Self) (V : View) → may_be disk V → IsSoundView V };
+
+    /// How many inodes there are.
+    fn numbers(&self) -> u64
+        ensures { (V : View) → may_be self.now V → V.numbers ≡ result };
+
+    /// The bytes of an inode.
+    ///
+    /// # Errors
+    /// - The transaction is given up, or the disk has no inode of the number.
+    fn inode(&mut self, number: u32) -> Result<[u8; INODE_BYTES], Self::Fault>
+        requires first { writes self.old ≡ [] }
+        ensures learns { IfOk result (λ bytes. Learns (may_be self.old) (may_be self.new) (λ V. V.inode number ≡ inode_seen bytes)) }
+        ensures whole { IfOk result (λ bytes. length bytes ≡ INODE_BYTES) }
+        ensures first { writes self.new ≡ [] };
+
+    /// The bytes of the record of who has a block.
+    ///
+    /// # Errors
+    /// - The transaction is given up, or the disk has no such block.
+    fn owner(&mut self, block: u32) -> Result<[u8; OWNER_BYTES], Self::Fault>
+        requires first { writes self.old ≡ [] }
+        ensures learns { IfOk result (λ bytes. Learns (may_be self.old) (may_be self.new) (λ V. V.owner block ≡ owner_from bytes)) }
+        ensures whole { IfOk result (λ bytes. length bytes ≡ OWNER_BYTES) }
+        ensures first { writes self.new ≡ [] };
+
+    /// A block of data.
+    ///
+    /// # Errors
+    /// - The transaction is given up, or the disk has no such block of data.
+    fn block(&mut self, block: u32) -> Result<Value, Self::Fault>
+        requires first { writes self.old ≡ [] }
+        ensures learns { IfOk result (λ value. Learns (may_be self.old) (may_be self.new) (λ V. V.block block ≡ value)) }
+        ensures whole { IfOk result (λ value. length value ≡ 4096) }
+        ensures first { writes self.new ≡ [] };
+
+    /// Writes an inode.
+    ///
+    /// # Errors
+    /// - The transaction is given up, or the disk has no inode of the number.
+    fn put_inode(&mut self, number: u32, bytes: [u8; INODE_BYTES]) -> Result<(), Self::Fault>
+        ensures same { (V : View) → may_be self.new V → may_be self.old V }
+        ensures written { IfOk result (λ _. writes self.new ≡ inode_write number bytes ∷ writes self.old) };
+
+    /// Writes the record of who has a block.
+    ///
+    /// # Errors
+    /// - The transaction is given up, or the disk has no such block.
+    fn put_owner(&mut self, block: u32, bytes: [u8; OWNER_BYTES]) -> Result<(), Self::Fault>
+        ensures same { (V : View) → may_be self.new V → may_be self.old V }
+        ensures written { IfOk result (λ _. writes self.new ≡ owner_write block bytes ∷ writes self.old) };
+
+    /// Writes a block of data.
+    ///
+    /// # Errors
+    /// - The transaction is given up, or the disk has no such block of data.
+    fn put_block(&mut self, block: u32, value: Value) -> Result<(), Self::Fault>
+        requires whole { length value ≡ 4096 }
+        ensures same { (V : View) → may_be self.new V → may_be self.old V }
+        ensures written { IfOk result (λ _. writes self.new ≡ block_write block value ∷ writes self.old) };
+}

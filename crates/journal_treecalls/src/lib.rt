@@ -1,0 +1,29 @@
+//! The calls of a file system on a disk with a tree, as code over what one transaction reads and
+//! writes.
+//!
+//! A call is a function over a `TreeDisk`: it reads objects of the disk, and then writes some. Its
+//! knowledge is the set of the disks that have the objects as read (`may_be`), and its effect the
+//! list of its writes. `Does` is the contract of each call: on each of these disks, the call leads
+//! from the tree before to the tree of the disk after the writes, with the reply, by the definition
+//! of `journal_tree`; and the disk is sound again. So nothing here needs the journal.
+//!
+//! No program uses this crate yet.
+#![tactic(auto)]
+
+mod attributes;
+mod bytes;
+mod creation;
+mod disk;
+mod lookups;
+mod name;
+mod named;
+mod node;
+mod removal;
+mod room;
+mod search;
+
+pub use attributes::{AccessReply, access, getattr};
+pub use creation::{create_guarded, mkdir};
+pub use disk::TreeDisk;
+pub use lookups::lookup;
+pub use removal::remove;

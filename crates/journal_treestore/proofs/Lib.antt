@@ -1,0 +1,16 @@
+pub mod Pieces
+pub mod Splicing
+pub mod Fields
+pub mod Whole
+pub mod Describing
+pub mod Recording
+pub mod Placing
+pub mod Viewing
+pub mod Looking
+pub mod Hanging
+pub mod Changing
+pub mod Planting
+pub mod Removing
+pub mod Growing
+pub mod Widening
+pub mod Keeping

@@ -1,0 +1,191 @@
+-- A node is put into a directory.
+use Rattle.std.proofs.Common.{◌≡◌, ◌≢◌, ℕ, zero, suc, ◌++◌, take, replicate, ◌+◌, ◌*◌, ◌/◌, ◌<◌, ◌≤◌, cond, List, Option, Some, refl, sym, ap, subst, ◌⊎◌, inl, inr, ◌∙◌, arith}
+use Rattle.std.specs.Prelude.{option_map}
+use Rattle.std.proofs.lemmas.List.{take-replicate, replicate-append-replicate}
+use Rattle.std.proofs.lemmas.Bool.{cases_eq, cases_lt, eq-eqb, ne_eqb, lt-ltb}
+use Rattle.journal_tree.specs.declared.limits.TheConstants.{LAST_GENERATION, MOST_PLACES}
+use Rattle.journal_tree.specs.declared.time.Time.{Time}
+use Rattle.journal_tree.specs.declared.reply.Attributes.{Attributes}
+use Rattle.journal_tree.specs.declared.reply.Kind.{Kind}
+use Rattle.journal_tree.specs.declared.reply.Kind.TheVariants.{Directory, File}
+use Rattle.journal_tree.specs.Times.{time_of_names}
+use Rattle.journal_tree.specs.Trees.{Home, Body, with_slot}
+use Rattle.journal_tree.specs.Trees.Body.{directory, file}
+use Rattle.journal_tree.specs.Fit.{IsFitBody}
+use Rattle.journal_tree.specs.Op.{IsRoom}
+use Rattle.journal_tree.specs.Changes.{with_times, grown_body, opened, touch_place, planted}
+use Rattle.journal_treestore.specs.Entries.{with_entry}
+use Rattle.journal_treestore.specs.Views.{Held, Seen, View, zero_block, bytes_of, with_inode, with_block, node_of, body_of, slot_of, tree_of, entry_of, entry_by, entry_at, home_in, homes}
+use Rattle.journal_treestore.specs.Views.Seen.{free, used}
+use Rattle.journal_treestore.specs.Sound.{entry_for, IsHung, IsSoundInode, IsSoundView}
+use Rattle.journal_treestore.specs.Steps.{Spot, place_of, home_of, IsSpot, with_moment, new_held, new_body, new_node, planted_view, PlantingShows}
+use Rattle.journal_treestore.proofs.Recording.{length-with, tag-low, zero_block-is}
+use Rattle.journal_treestore.proofs.Hanging.{with_home, with_place, hang}
+use Rattle.journal_treestore.proofs.Viewing.{inode-node, zero_free, no_node_at}
+use Rattle.journal_treestore.proofs.Changing.{tree-inode, homes-inode, entries-inode, AreInodes, inodes-inode, inodes-block, tree-block, entries-block, inode-other}
+
+-- the directory's entries are those of before
+pub entry_by-moment : (V : View) (h : Held) (now : Time) (kind : Kind) (place : ℕ) → entry_by V kind (with_moment h now) place ≡ entry_by V kind h place
+entry_by-moment V h now Directory place = refl
+entry_by-moment V h now File place = refl
+
+no_entries : (V : View) (s : Spot) (name : List ℕ) (a : Attributes) (kind : Kind) (size : ℕ) (place : ℕ) → entry_by V kind (new_held s name a kind size) place ≡ record { number = 0; tag = 0 }
+no_entries V s name a Directory size place = refl
+no_entries V s name a File size place = refl
+
+-- a node without blocks has zeros
+bytes_of-holes : (V : View) (k : ℕ) → bytes_of V (λ j. 0) k ≡ replicate (4096 * k) 0
+bytes_of-holes V zero = refl
+bytes_of-holes V (suc k) =
+    ap (λ v. v ++ zero_block) (bytes_of-holes V k)
+    ∙ ap (λ v. replicate (4096 * k) 0 ++ v) zero_block-is
+    ∙ replicate-append-replicate (4096 * k) 4096 0
+    ∙ ap (λ n. replicate n 0) (let e : 4096 * k + 4096 ≡ 4096 * suc k = omega arith in e)
+
+content-holes : (V : View) (size : ℕ) → take size (bytes_of V (λ j. 0) ((size + 4095) / 4096)) ≡ replicate size 0
+content-holes V size = ap (take size) (bytes_of-holes V ((size + 4095) / 4096)) ∙ take-replicate size (4096 * ((size + 4095) / 4096)) 0 (omega arith)
+
+-- a home is replaced by itself
+pub with_home-again : (H : ℕ → Option Home) (n : ℕ) (v : Option Home) → H n ≡ v → with_home H n v ≡ H
+with_home-again H n v is = λ z. λ i. by i (cases_eq i n) z
+  where
+    by : (i : ℕ) → (i ≡ n) ⊎ (i ≡ n → ⊥) → with_home H n v i ≡ H i
+    by i (inl same) = rw (eq-eqb i n same) (sym is ∙ ap H (sym same))
+    by i (inr other) = rw (ne_eqb i n other) refl
+
+module _ (V : View) (sound : IsSoundView V) (s : Spot) (spot : IsSpot V s) where
+  head : IsSoundInode V s.d s.h
+  head = sound.inodes s.d s.h spot.is
+
+  -- the place is one of the directory
+  pub inside : place_of s < s.h.size / 8
+  inside = by (cases_lt (4096 * s.j) s.h.size)
+    where
+      by : (4096 * s.j < s.h.size) ⊎ (s.h.size ≤ 4096 * s.j) → place_of s < s.h.size / 8
+      by (inr behind) = absurd (spot.there (head.after s.j behind))
+      by (inl low) = let w = head.whole spot.kind in let e = w.1 in let q = spot.low in omega (arith, e, q, low)
+
+  not_d : s.n ≢ s.d
+  not_d e = absurd (cc (sym spot.free_is ∙ ap V.inode e ∙ spot.is))
+
+  -- what is put there has room
+  pub room : IsRoom (tree_of V) s.d (record { number = s.n; place = place_of s })
+  room = record {
+    some = spot.some;
+    low = spot.on_disk;
+    free = ap (λ (y : Seen). (slot_of V y).node) spot.free_is;
+    young = subst (λ g. g < LAST_GENERATION) (sym (ap (λ (y : Seen). (slot_of V y).generation) spot.free_is)) spot.young;
+    empty = no_node_at V sound s.d (place_of s) s.h spot.is spot.empty;
+    within = within;
+  }
+    where
+      fits : IsFitBody (directory (s.h.size / 8))
+      fits = subst IsFitBody (ap (λ kind. body_of V kind s.h) spot.kind) (sound.fit.nodes s.d (node_of V s.h) (inode-node V s.d s.h spot.is)).body
+
+      within : place_of s < MOST_PLACES
+      within = let f = fits.0 in let i = inside in omega (arith, f, i)
+
+  module _ (name : List ℕ) (a : Attributes) (kind : Kind) (size : ℕ) (now : Time) (plain : kind ≡ Directory → size ≡ 0) where
+    abbrev V1 : View
+    V1 = with_block V (s.h.blocks s.j) (with_entry (V.block (s.h.blocks s.j)) s.q (entry_for s.n (home_of s name)))
+
+    abbrev V2 : View
+    V2 = with_inode V1 s.d (used (with_moment s.h now))
+
+    abbrev V3 : View
+    V3 = with_inode V2 s.n (used (new_held s name a kind size))
+
+    small : s.n < 4294967296
+    small = let o = spot.on_disk in let few = sound.few_numbers in omega (arith, o, few)
+
+    heads1 : AreInodes V1
+    heads1 = inodes-block V s.d s.h s.j sound.inodes spot.is spot.there (with_entry (V.block (s.h.blocks s.j)) s.q (entry_for s.n (home_of s name))) (length-with (V.block (s.h.blocks s.j)) s.q (entry_for s.n (home_of s name)) (head.sized s.j spot.there) spot.low)
+
+    heads2 : AreInodes V2
+    heads2 = inodes-inode V1 s.d (used (with_moment s.h now)) heads1 (λ g is. by g (cc))
+      where
+        old : IsSoundInode V1 s.d s.h
+        old = heads1 s.d s.h spot.is
+
+        by : (g : Held) → with_moment s.h now ≡ g → IsSoundInode V1 s.d g
+        by g is = subst (IsSoundInode V1 s.d) is (record { owned = old.owned; there = old.there; after = old.after; sized = old.sized; whole = old.whole })
+
+    pub inodes-planted : AreInodes (planted_view V s name a kind size now)
+    inodes-planted = inodes-inode V2 s.n (used (new_held s name a kind size)) heads2 (λ g is. by g (cc))
+      where
+        by : (g : Held) → new_held s name a kind size ≡ g → IsSoundInode V2 s.n g
+        by g is = subst (IsSoundInode V2 s.n) is (record { owned = λ j some. absurd (some refl); there = λ j some. absurd (some refl); after = λ j far. refl; sized = λ j some. absurd (some refl); whole = λ is. (0, plain is) })
+
+    -- the tree has the node
+    pub tree-planted : tree_of (planted_view V s name a kind size now) ≡ planted (touch_place (tree_of V) s.d (place_of s) now) s.n (new_node s name a kind size)
+    tree-planted =
+        tree-inode V2 s.n (used (new_held s name a kind size))
+        ∙ ap (λ T. with_slot T s.n (slot_of V2 (used (new_held s name a kind size)))) touched
+        ∙ ap (λ s2. with_slot (touch_place (tree_of V) s.d (place_of s) now) s.n s2) slot
+      where
+        grows : grown_body (place_of s) (body_of V s.h.kind s.h) ≡ body_of V1 s.h.kind (with_moment s.h now)
+        grows =
+            ap (λ kind. grown_body (place_of s) (body_of V kind s.h)) spot.kind
+            ∙ ap (λ t. directory (cond t (s.h.size / 8) (512 * (place_of s / 512 + 1)))) (lt-ltb (place_of s) (s.h.size / 8) inside)
+            ∙ sym (ap (λ kind. body_of V1 kind (with_moment s.h now)) spot.kind)
+
+        node : opened (place_of s) now (node_of V s.h) ≡ node_of V1 (with_moment s.h now)
+        node = ap (λ (body : Body). record { attributes = with_times s.h.attributes (time_of_names s.h.attributes now); home = s.h.home; body = body }) grows
+
+        touched : tree_of V2 ≡ touch_place (tree_of V) s.d (place_of s) now
+        touched =
+            tree-inode V1 s.d (used (with_moment s.h now))
+            ∙ ap (λ T. with_slot T s.d (slot_of V1 (used (with_moment s.h now)))) (tree-block V s.d s.h s.j sound.inodes spot.is spot.there (with_entry (V.block (s.h.blocks s.j)) s.q (entry_for s.n (home_of s name))) spot.kind)
+            ∙ ap (λ x. with_slot (tree_of V) s.d (record { generation = s.h.generation; node = Some x })) (sym node)
+            ∙ ap (λ (y : Seen). with_slot (tree_of V) s.d (record { generation = (slot_of V y).generation; node = option_map (opened (place_of s) now) (slot_of V y).node })) (sym spot.is)
+
+        same_body : (k : Kind) → kind ≡ k → body_of V2 k (new_held s name a kind size) ≡ new_body k size
+        same_body Directory is = ap (λ n. directory (n / 8)) (plain is)
+        same_body File is = ap file (content-holes V2 size)
+
+        generation : ((touch_place (tree_of V) s.d (place_of s) now).at s.n).generation ≡ s.generation
+        generation =
+            ap (λ t. (cond t (record { generation = (slot_of V (V.inode s.d)).generation; node = option_map (opened (place_of s) now) (slot_of V (V.inode s.d)).node }) (slot_of V (V.inode s.n))).generation) (ne_eqb s.n s.d not_d)
+            ∙ ap (λ (y : Seen). (slot_of V y).generation) spot.free_is
+
+        slot : slot_of V2 (used (new_held s name a kind size)) ≡ record { generation = ((touch_place (tree_of V) s.d (place_of s) now).at s.n).generation + 1; node = Some (new_node s name a kind size) }
+        slot = λ z. record {
+          generation = sym generation z + 1;
+          node = Some (record { attributes = a; home = home_of s name; body = same_body kind refl z });
+        }
+
+    -- and hangs there
+    pub hung-planted : IsHung (homes (planted_view V s name a kind size now)) (entry_at (planted_view V s name a kind size now))
+    hung-planted = subst (λ H. IsHung H (entry_at V3)) (sym homes3) (subst (IsHung (with_home (homes V) s.n (Some (home_of s name)))) (sym entries3) hangs)
+      where
+        entries1 : entry_at V1 ≡ with_place (entry_at V) s.d (place_of s) (entry_for s.n (home_of s name))
+        entries1 = entries-block V s.d s.h s.j sound.inodes spot.is spot.there s.q (entry_for s.n (home_of s name)) spot.kind spot.low small (tag-low name)
+
+        entries2 : entry_at V2 ≡ entry_at V1
+        entries2 = entries-inode V1 s.d (used (with_moment s.h now)) (λ place. entry_by-moment V1 s.h now s.h.kind place ∙ sym (ap (λ y. entry_of V1 y place) spot.is))
+
+        free2 : V2.inode s.n ≡ free s.generation
+        free2 = inode-other V1 s.d s.n (used (with_moment s.h now)) not_d ∙ spot.free_is
+
+        entries3 : entry_at V3 ≡ with_place (entry_at V) s.d (place_of s) (entry_for s.n (home_of s name))
+        entries3 =
+            entries-inode V2 s.n (used (new_held s name a kind size)) (λ place. no_entries V2 s name a kind size place ∙ sym (ap (λ y. entry_of V2 y place) free2))
+            ∙ entries2 ∙ entries1
+
+        homes3 : homes V3 ≡ with_home (homes V) s.n (Some (home_of s name))
+        homes3 =
+            homes-inode V2 s.n (used (new_held s name a kind size))
+            ∙ ap (λ H. with_home H s.n (Some (home_of s name))) (homes-inode V1 s.d (used (with_moment s.h now)) ∙ with_home-again (homes V) s.d (Some s.h.home) (ap home_in spot.is))
+
+        hangs : IsHung (with_home (homes V) s.n (Some (home_of s name))) (with_place (entry_at V) s.d (place_of s) (entry_for s.n (home_of s name)))
+        hangs = hang (homes V) (entry_at V) s.n (home_of s name) (zero_free V sound) (ap home_in spot.free_is) spot.some spot.empty sound.hung
+
+pub planting-shows : PlantingShows
+planting-shows V s name a kind size now sound spot plain = (
+  room V sound s spot,
+  record {
+    tree = tree-planted V sound s spot name a kind size now plain;
+    inodes = inodes-planted V sound s spot name a kind size now plain;
+    hung = hung-planted V sound s spot name a kind size now plain;
+  },
+)

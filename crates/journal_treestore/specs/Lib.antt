@@ -1,0 +1,10 @@
+pub mod Bytes
+pub mod Owners
+pub mod Entries
+pub mod Inodes
+pub mod Descriptions
+pub mod Places
+pub mod Views
+pub mod Sound
+pub mod Lookups
+pub mod Steps

@@ -1,0 +1,186 @@
+-- The writes of calls, by steps: a node is put into a directory, a node is taken out of it, a
+-- directory gets a block.
+use Rattle.std.specs.Prelude.{ℕ, ◌≡◌, ◌≢◌, ◌<◌, ◌≤◌, ◌+◌, ◌*◌, ◌==◌, if◌then◌else◌, List, replicate, option_map}
+use Rattle.journal_tree.specs.declared.limits.TheConstants.{LAST_GENERATION, MOST_PLACES}
+use Rattle.journal_tree.specs.declared.time.Time.{Time}
+use Rattle.journal_tree.specs.declared.reply.Attributes.{Attributes}
+use Rattle.journal_tree.specs.declared.reply.Kind.{Kind}
+use Rattle.journal_tree.specs.declared.reply.Kind.TheVariants.{Directory, File}
+use Rattle.journal_tree.specs.declared.caller.Caller.{Caller}
+use Rattle.journal_tree.specs.Trees.{Home, Body, Node, Tree, with_node}
+use Rattle.journal_tree.specs.Trees.Body.{directory, file}
+use Rattle.journal_tree.specs.Times.{IsTime, time_of_names}
+use Rattle.journal_tree.specs.Changes.{with_times, grown_body, touch_place, planted, cut}
+use Rattle.journal_tree.specs.Fit.{IsCallable, IsCaller}
+use Rattle.journal_tree.specs.Op.{Call, Reply, IsRoom, Op}
+use Rattle.journal_treestore.specs.Entries.{with_entry, no_entry}
+use Rattle.journal_treestore.specs.Views.{Held, View, with_inode, with_owner, with_block, entry_of, entry_at, zero_block, node_of, tree_of, homes}
+use Rattle.journal_treestore.specs.Views.Seen.{free, used}
+use Rattle.journal_treestore.specs.Sound.{entry_for, IsHung, IsSoundInode, IsSoundView}
+
+-- an inode with other attributes
+abbrev pub with_attributes : Held → Attributes → Held
+with_attributes h a = record { generation = h.generation; attributes = a; home = h.home; kind = h.kind; size = h.size; blocks = h.blocks }
+
+-- a directory whose names change at this moment
+abbrev pub with_moment : Held → Time → Held
+with_moment h now = with_attributes h (with_times h.attributes (time_of_names h.attributes now))
+
+-- ── a node is put into a directory ──
+
+-- Where: at place q of block j of the directory of number d, as number n, whose last node had this
+-- generation
+pub record Spot : Type 0 where
+  pub d : ℕ
+  pub h : Held
+  pub j : ℕ
+  pub q : ℕ
+  pub n : ℕ
+  pub generation : ℕ
+
+abbrev pub place_of : Spot → ℕ
+place_of s = 512 * s.j + s.q
+
+abbrev pub home_of : Spot → List ℕ → Home
+home_of s name = record { directory = s.d; place = place_of s; name = name }
+
+-- The directory has the block, nothing is at the place, and the number is free
+pub record IsSpot (V : View) (s : Spot) : Type 0 where
+  pub is : V.inode s.d ≡ used s.h
+  pub kind : s.h.kind ≡ Directory
+  pub there : s.h.blocks s.j ≢ 0
+  pub low : s.q < 512
+  pub empty : (entry_at V s.d (place_of s)).number ≡ 0
+  pub free_is : V.inode s.n ≡ free s.generation
+  pub some : s.n ≢ 0
+  pub on_disk : s.n < V.numbers
+  pub young : s.generation < LAST_GENERATION
+
+-- a node of this size that has no blocks yet: its bytes are zeros
+abbrev pub new_held : Spot → List ℕ → Attributes → Kind → ℕ → Held
+new_held s name a kind size = record { generation = s.generation + 1; attributes = a; home = home_of s name; kind = kind; size = size; blocks = λ j. 0 }
+
+abbrev pub new_body : Kind → ℕ → Body
+new_body Directory size = directory 0
+new_body File size = file (replicate size 0)
+
+abbrev pub new_node : Spot → List ℕ → Attributes → Kind → ℕ → Node
+new_node s name a kind size = record { attributes = a; home = home_of s name; body = new_body kind size }
+
+-- its entry, the directory's inode and its own are written
+abbrev pub planted_view : View → Spot → List ℕ → Attributes → Kind → ℕ → Time → View
+planted_view V s name a kind size now =
+    with_inode (with_inode (with_block V (s.h.blocks s.j) (with_entry (V.block (s.h.blocks s.j)) s.q (entry_for s.n (home_of s name)))) s.d (used (with_moment s.h now)))
+    s.n (used (new_held s name a kind size))
+
+-- ── a node is taken out ──
+
+-- The entry at place q of block j of directory d, and the inode n that it names
+pub record Seat : Type 0 where
+  pub d : ℕ
+  pub h : Held
+  pub j : ℕ
+  pub q : ℕ
+  pub n : ℕ
+  pub g : Held
+
+abbrev pub seat_place : Seat → ℕ
+seat_place s = 512 * s.j + s.q
+
+-- They are so, and the node has no entries of its own
+pub record IsSeat (V : View) (s : Seat) : Type 0 where
+  pub is : V.inode s.d ≡ used s.h
+  pub kind : s.h.kind ≡ Directory
+  pub there : s.h.blocks s.j ≢ 0
+  pub low : s.q < 512
+  pub names : (entry_at V s.d (seat_place s)).number ≡ s.n
+  pub some : s.n ≢ 0
+  pub node : V.inode s.n ≡ used s.g
+  pub bare : (place : ℕ) → entry_of V (used s.g) place ≡ no_entry
+
+-- its entry goes, the directory's inode is written, and its own is free. Its blocks are nobody's
+-- then, and nothing of them is written
+abbrev pub cut_view : View → Seat → Time → View
+cut_view V s now =
+    with_inode (with_inode (with_block V (s.h.blocks s.j) (with_entry (V.block (s.h.blocks s.j)) s.q no_entry)) s.d (used (with_moment s.h now))) s.n (free s.g.generation)
+
+-- ── a directory gets its next block ──
+
+-- The inode that the record of a block names has it not
+pub record IsUnowned (V : View) (b : ℕ) : Type 0 where
+  pub not_at : (h : Held) → V.inode (V.owner b).number ≡ used h → h.blocks (V.owner b).place ≢ b
+
+-- Block b becomes block j of directory d
+pub record Growth : Type 0 where
+  pub d : ℕ
+  pub h : Held
+  pub j : ℕ
+  pub b : ℕ
+
+pub record IsGrowth (V : View) (g : Growth) : Type 0 where
+  pub is : V.inode g.d ≡ used g.h
+  pub kind : g.h.kind ≡ Directory
+  pub next : g.h.size ≡ 4096 * g.j
+  pub few : 512 * (g.j + 1) ≤ MOST_PLACES
+  pub some : g.b ≢ 0
+  pub from : V.first_data ≤ g.b
+  pub to : g.b < V.first_data + V.data_blocks
+  pub unowned : IsUnowned V g.b
+
+abbrev pub grown_held : Growth → Held
+grown_held g = record {
+  generation = g.h.generation;
+  attributes = g.h.attributes;
+  home = g.h.home;
+  kind = g.h.kind;
+  size = 4096 * (g.j + 1);
+  blocks = λ i. if i == g.j then g.b else g.h.blocks i;
+}
+
+-- the block without entries, its record, and the directory's inode are written
+abbrev pub grown_view : View → Growth → View
+grown_view V g = with_inode (with_owner (with_block V g.b zero_block) g.b (record { number = g.d; place = g.j })) g.d (used (grown_held g))
+
+-- its node, which has the places
+abbrev pub widened : ℕ → Node → Node
+widened place x = record { attributes = x.attributes; home = x.home; body = grown_body place x.body }
+
+abbrev pub widen : Tree → ℕ → ℕ → Tree
+widen T d place = with_node T d (option_map (widened place) (T.at d).node)
+
+-- ── what is shown then ──
+
+-- Two disks are of one form
+pub record IsSameForm (V W : View) : Type 0 where
+  pub numbers : W.numbers ≡ V.numbers
+  pub first_data : W.first_data ≡ V.first_data
+  pub data_blocks : W.data_blocks ≡ V.data_blocks
+
+-- A disk shows a tree, and its inodes, entries and records of blocks keep the rule
+pub record Shows (W : View) (T : Tree) : Type 0 where
+  pub tree : tree_of W ≡ T
+  pub inodes : (n : ℕ) (h : Held) → W.inode n ≡ used h → IsSoundInode W n h
+  pub hung : IsHung (homes W) (entry_at W)
+
+-- A node that is put into a directory has room there, and the tree has it then
+abbrev pub PlantingShows : Type 0
+PlantingShows = (V : View) (s : Spot) (name : List ℕ) (a : Attributes) (kind : Kind) (size : ℕ) (now : Time) → IsSoundView V → IsSpot V s → (kind ≡ Directory → size ≡ 0)
+    → IsRoom (tree_of V) s.d (record { number = s.n; place = place_of s })
+    × Shows (planted_view V s name a kind size now) (planted (touch_place (tree_of V) s.d (place_of s) now) s.n (new_node s name a kind size))
+
+-- A node that is taken out is no longer in the tree
+abbrev pub CuttingShows : Type 0
+CuttingShows = (V : View) (s : Seat) (now : Time) → IsSoundView V → IsSeat V s → Shows (cut_view V s now) (cut (tree_of V) s.d s.n now)
+
+-- A directory that gets its next block has the places of that block then
+abbrev pub GrowingShows : Type 0
+GrowingShows = (V : View) (g : Growth) (q : ℕ) → IsSoundView V → IsGrowth V g → q < 512 → Shows (grown_view V g) (widen (tree_of V) g.d (512 * g.j + q))
+
+-- and the disk with it is sound, so that a node may be put into the block at once
+abbrev pub GrowingStaysSound : Type 0
+GrowingStaysSound = (V : View) (g : Growth) → IsSoundView V → IsGrowth V g → IsSoundView (grown_view V g)
+
+-- The disk of a call that goes by such steps is sound again
+abbrev pub CallsStaySound : Type 0
+CallsStaySound = (V W : View) (T : Tree) (call : Call) (c : Caller) (now : Time) (reply : Reply) → IsCallable call → IsCaller c → IsTime now → IsSoundView V
+    → IsSameForm V W → Op call c now (tree_of V) reply T → Shows W T → IsSoundView W

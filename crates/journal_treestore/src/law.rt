@@ -1,0 +1,37 @@
+// Laws of the definitions, for all disks.
+ghost use Rattle.journal_treestore.specs.Places.{PlacesAreObjects, PlacesAreApart};
+ghost use Rattle.journal_treestore.specs.Lookups.{BlocksAreHadOnce, LookupFinds, LookupMisses};
+ghost use Rattle.journal_treestore.specs.Steps.{PlantingShows, CuttingShows, GrowingShows, GrowingStaysSound, CallsStaySound};
+
+/// Each object of a disk has an address that its layout knows, and no two have one address.
+pub fn places_never_overlap()
+    ensures objects { PlacesAreObjects }
+    ensures apart { PlacesAreApart }
+{}
+
+/// No two inodes of a sound disk have one block, and none has a block twice: each block's record
+/// says who has it.
+pub fn blocks_are_had_once()
+    ensures { BlocksAreHadOnce }
+{}
+
+/// LOOKUP's answer follows from what it reads of a sound disk: from an entry of the directory whose
+/// inode has the name, or, where none has it, from all entries of the name's tag and their inodes.
+pub fn lookups_answer_by_what_they_read()
+    ensures found { LookupFinds }
+    ensures missed { LookupMisses }
+{}
+
+/// The tree that a sound disk shows once a node is put into a directory by three writes, or taken
+/// out of it by three writes, however large it is, or once a directory gets a block.
+pub fn writes_show_the_tree_after_them()
+    ensures planted { PlantingShows }
+    ensures cut { CuttingShows }
+    ensures grown { GrowingShows }
+    ensures sound { GrowingStaysSound }
+{}
+
+/// A call that leads to the tree that is shown by such steps leaves a sound disk.
+pub fn calls_leave_a_sound_disk()
+    ensures { CallsStaySound }
+{}

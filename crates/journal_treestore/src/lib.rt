@@ -1,0 +1,38 @@
+//! How a tree of files lies on a disk: the bytes of its inodes, of the entries of its directories,
+//! of the records of who has a block, and of the description of the disk; where each of them lies;
+//! and the tree that they show.
+//!
+//! The name of a node lies in its inode of 512 bytes, so that a tree is a function of inodes and of
+//! files' blocks alone. A directory's block has 512 entries of 8 bytes, each a number and a tag of
+//! the name that the number's inode has: they are an index, by which a name is found without a
+//! reading of every inode. And each block of the disk has an owner's record of 8 bytes in place of
+//! a bit. A block is taken where the inode that its record names has it at the place of the record,
+//! and else free, so that freeing writes nothing.
+//!
+//! Contracts see bytes as lists, and a value is read back as it was written. A `View` is all the
+//! objects of a disk (`specs/Views.antt`), `tree_of` their tree, and `IsSoundView` the rule
+//! (`specs/Sound.antt`). `specs/Steps.antt` has the tree that a view shows once some of its objects
+//! are overwritten. The functions of `law` do nothing: their contracts hold for all disks. No
+//! program uses this crate yet.
+#![tactic(auto)]
+
+mod bytes;
+mod description;
+mod entry;
+mod inode;
+mod law;
+mod owner;
+mod place;
+
+pub use description::{DESCRIPTION_BYTES, Description};
+pub use entry::{ENTRY_BYTES, Entry, PLACES, find_tag, tag_of};
+pub use inode::{DIRECT_BLOCKS, Head, INODE_BYTES, Inode, name_in};
+pub use law::{
+    blocks_are_had_once, calls_leave_a_sound_disk, lookups_answer_by_what_they_read,
+    places_never_overlap, writes_show_the_tree_after_them,
+};
+pub use owner::{OWNER_BYTES, Owner};
+pub use place::{
+    BLOCK_INODES, BLOCK_OWNERS, Cut, FEWEST_BLOCKS, FIRST_OWNERS, MOST_DISK_BLOCKS, MOST_NUMBERS,
+    TREE_SLOTS,
+};
