@@ -1,6 +1,6 @@
 """Which functions of the crates are called by product code. Trials and tests are no product code.
 
-`check-claims --uncalled` uses it. A call is found by its name, its number of arguments and its qualifier, in a crate that may use the
+`check-claims` and `write-claims` use it. A call is found by its name, its number of arguments and its qualifier, in a crate that may use the
 function's crate. The types of values are not looked at, so a method counts as called where another one of its name and number of
 arguments is. A function that only uncalled functions call is uncalled too. Methods of traits and `main` are never taken away as
 callers.

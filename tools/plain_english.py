@@ -29,17 +29,17 @@ OTHERS = {
 
 # How often each form is left, in the sources, the definitions and the pages.
 LEFT = {
-    "What": (171, 76, 88),
-    "Whether": (52, 0, 7),
-    "Who": (17, 1, 10),
-    "so many": (55, 19, 8),
-    "tells": (85, 66, 105),
-    "behind": (23, 17, 11),
-    "stands": (24, 21, 79),
-    "yes and no": (4, 0, 5),
-    "long": (9, 2, 7),
+    "What": (171, 76, 40),
+    "Whether": (52, 0, 0),
+    "Who": (17, 1, 1),
+    "so many": (55, 19, 2),
+    "tells": (85, 66, 43),
+    "behind": (23, 17, 2),
+    "stands": (24, 21, 44),
+    "yes and no": (4, 0, 2),
+    "long": (9, 2, 5),
     "no list of errors": (66, 0, 0),
-    "wide": (37, 4, 0),
+    "wide": (29, 4, 0),
 }
 
 COMMENT = re.compile(r"\s*(?:///|//!|//|--)(?: |$)(.*)")

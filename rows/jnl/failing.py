@@ -58,6 +58,9 @@ def ends_for_want_of_room(service):
     wants_run(service.ended(), Ended(b"", FULL, 1))
 
 
+# Of `jnl::serving::serve`, `journal_program::NotedFile::note`.
+# Of `jnl::serving::serve`: with no room for a block that comes home nothing is lost that was
+# answered as stable, and a service that only reads gives it.
 def a_service_ends_where_a_block_has_no_room(room):
     """As long as there is none, it does not begin again, since it cannot settle the disk. One that only
     reads goes on, though the log has more than the installer waits for. With room nothing is lost."""
@@ -97,6 +100,8 @@ def fail_as_a_service(listener, path):
     path.unlink()
 
 
+# Of `jnl::stopping::stop`: `stop` waits for the end of a service that has failed, and says that not
+# all is stable.
 def stop_waits_for_a_service_that_has_failed(room):
     path = room.path("s")
     with socket.socket(socket.AF_UNIX) as listener:

@@ -21,6 +21,7 @@ def done(output=b""):
     return Ended(output, b"", 0)
 
 
+# Of `jnl::stopping::stop`: a disk is closed and unlocked once `stop` has ended.
 def a_disk_is_free_as_soon_as_stop_has_ended(room):
     """With a commit that is to become stable, and in some rounds with an open connection.
 
@@ -51,6 +52,7 @@ def grow(room, blocks):
     return room.run(words, preexec_fn=limit_files, restore_signals=False)
 
 
+# Of `journal_program::DiskToLabel::grow`.
 def a_disk_stays_where_its_file_cannot_be_longer(room):
     """EFBIG, as of a file system that takes no file of such a length."""
     wants_run(room.run(["jnl", "create", "disk", "--blocks", str(BLOCKS)]), done())
@@ -61,6 +63,7 @@ def a_disk_stays_where_its_file_cannot_be_longer(room):
     wants_run(grow(room, MORE_BLOCKS), done(b"blocks 700\nregions %s\n" % REGIONS))
 
 
+# Of `jnl::disks::create`.
 def no_file_is_left_where_it_cannot_be_so_long(room):
     words = ["jnl", "create", "disk", "--blocks", str(MORE_BLOCKS + 1)]
     refused = b"jnl: cannot use disk: File too large (os error 27)\n"

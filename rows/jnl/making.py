@@ -24,6 +24,8 @@ def wants_mode(name, found):
     wants(f"who may use {name}", stat.S_IMODE(found.st_mode), 0o600)
 
 
+# Of `journal_program::create_labeled_disk`: a new disk, and a backup, may be used by its owner
+# alone; all its blocks have their room where that is asked for.
 def a_new_disk_is_its_owners_alone(room):
     wants_mode("disk", make(room))
     line = ["jnl", "backup", "disk", "copy"]
@@ -32,6 +34,7 @@ def a_new_disk_is_its_owners_alone(room):
     wants_mode("copy", room.path("copy").stat())
 
 
+# Of `journal_program::create_labeled_disk`.
 def a_new_disk_takes_its_room_where_it_is_asked_to(room):
     """Of 600 blocks, 531 have theirs in any case."""
     taken = make(room).st_blocks * UNIT // BLOCK

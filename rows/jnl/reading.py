@@ -7,6 +7,7 @@ READ = record_of("2 1 0 514 0", {})
 FOUND = record_of("0 2 1 1 0", {})
 
 
+# Of `jnl::serving::serve`.
 def two_services_read_one_disk(room):
     wants_run(room.run(["jnl", "create", "disk", "--blocks", "600"]), Ended(b"", b"", 0))
     services = [

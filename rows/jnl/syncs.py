@@ -9,6 +9,8 @@ import sync_rows
 from program_rows import Wrong
 
 
+# Of `journal_program::Settled::mended`, `journal_program::DiskToLabel::grow`,
+# `jnl::serving::serve`.
 def each_sync_is_made_in_its_place(room):
     try:
         sync_rows.JnlRuns(room.programs["jnl"], room.folder).try_all()

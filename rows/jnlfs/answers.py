@@ -38,6 +38,7 @@ def stop_answered(room, answer):
     return ended
 
 
+# Of `jnlfs::serving::serve`, `jnlfs::stopping::stop`.
 def stop_says_what_a_service_answers(room):
     wants_run(stop_answered(room, STABLE), Ended(b"", b"", 0))
     wants_run(stop_answered(room, FAILED), Ended(b"", NOT_STABLE, 1))
@@ -53,6 +54,8 @@ def begin(room):
     return room.start(line, preexec_fn=lambda: os.umask(0))
 
 
+# Of `jnlfs::serving::serve`: the socket of a service is its owner's alone, ends it by the word
+# alone, and is left where another program listens.
 def the_socket_is_its_owners_alone(room):
     service = begin(room)
     wants("who may use s", stat.S_IMODE(room.path("s").stat().st_mode), 0o600)
@@ -60,6 +63,7 @@ def the_socket_is_its_owners_alone(room):
     wants_run(service.ended(), Ended(b"stopped\n", b"", 0))
 
 
+# Of `jnlfs::serving::serve`.
 def other_words_end_no_service(room):
     """Nor does a client that goes away, or says nothing: the next one is heard."""
     service = begin(room)

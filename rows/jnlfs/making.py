@@ -20,10 +20,12 @@ def make(room, *words):
     return room.path("disk").stat()
 
 
+# Of `journal_service::make`.
 def a_new_disk_is_its_owners_alone(room):
     wants("who may use disk", stat.S_IMODE(make(room).st_mode), 0o600)
 
 
+# Of `journal_service::make`.
 def a_new_disk_takes_its_room_where_it_is_asked_to(room):
     found = make(room, "--allocate")
     wants("that all blocks have room", found.st_blocks * UNIT >= BLOCKS * BLOCK, True)
@@ -36,6 +38,7 @@ def limit_files():
     resource.setrlimit(resource.RLIMIT_FSIZE, (BLOCK, BLOCK))
 
 
+# Of `journal_service::make`.
 def no_file_is_left_where_it_cannot_be_so_long(room):
     line = ["jnlfs", "make", "disk", "--blocks", str(BLOCKS)]
     ended = room.run(line, preexec_fn=limit_files, restore_signals=False)

@@ -9,6 +9,7 @@ import sync_rows
 from program_rows import Wrong
 
 
+# Of `jnlfs::serving::serve`.
 def each_sync_is_made_in_its_place(room):
     try:
         sync_rows.JnlfsRuns(room.programs["jnlfs"], room.folder).try_all()

@@ -37,6 +37,7 @@ def has_served(service, connections):
     wants_run(service.ended(), Ended(b"served %d\n" % connections, b"", 0))
 
 
+# Of `journal_service::serve`: each connection that was taken counts, however it ended.
 def connections_count_however_they_end(room):
     """The first sends nothing, the next part of a record, the third calls and reads no reply."""
     service = serve(room, 532, 4)

@@ -7,6 +7,7 @@ from program_rows import Ended, Wrong, wants_run
 EXAMPLES = Path(__file__).resolve().parents[2] / "examples"
 
 
+# Of `jtool::main::run`: the examples answer what stands beside them.
 def examples_are_answered(room):
     for script in sorted(EXAMPLES.glob("*.script")):
         output = script.with_suffix(".out").read_bytes()

@@ -45,6 +45,7 @@ def read_fails_after(room, count):
     wants(f"where the read after {count} bytes fails", came, wanted)
 
 
+# Of `jtool::main::run`: a failing stream ends the run with status 1.
 def a_failing_read_ends_the_run(room):
     for count in range(len(SCRIPT) + 1):
         read_fails_after(room, count)
@@ -77,6 +78,7 @@ def write_fails_after(room, count):
     wants(f"whether all is written where {count} bytes can be", came, wanted)
 
 
+# Of `jtool::main::run`.
 def a_failing_write_ends_the_run(room):
     for count in range(len(ANSWERS) + 1):
         write_fails_after(room, count)

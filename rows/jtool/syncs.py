@@ -9,6 +9,7 @@ import sync_rows
 from program_rows import Wrong
 
 
+# Of `journal_program::Settled::mended`.
 def each_sync_is_made_in_its_place(room):
     try:
         sync_rows.JtoolRuns(room.programs["jtool"], room.folder).try_all()

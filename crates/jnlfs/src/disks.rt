@@ -9,8 +9,8 @@ use std::io::Write;
 use std::sync::Wait;
 use std::time::Clock;
 
-/// Makes a disk of version 2 without files, of this number of blocks, in a new file at the path, with
-/// this room in its file system. Its log is sealed, and its label has the regions of files.
+/// Makes a disk of version 2 without files, of this number of blocks, in a new file at the path,
+/// with this room in its file system. Its log is sealed, and its label has the regions of files.
 ///
 /// # Errors
 /// - `File`: anything is at the path, which stays as it is; or the system's reason, for which the

@@ -1,8 +1,8 @@
 //! The files of a disk at the command line. `jnlfs make` makes a disk without files, `jnlfs check`
-//! prints whether the files of a disk are sound, and `jnlfs migrate` makes a disk of version 1 one of
-//! version 2. `jnlfs serve` serves the files so that a Linux machine mounts them, and `jnlfs stop`
-//! ends such a service. `jnlfs --help` is the manual. The program `jnl` looks at such a disk too, and
-//! seals its log.
+//! prints whether the files of a disk are sound, and `jnlfs migrate` makes a disk of version 1 one
+//! of version 2. `jnlfs serve` serves the files so that a Linux machine mounts them, and
+//! `jnlfs stop` ends such a service. `jnlfs --help` is the manual. The program `jnl` looks at such
+//! a disk too, and seals its log.
 #![tactic(auto)]
 
 ghost use Rattle.std.specs.Prelude.{◌≤◌};

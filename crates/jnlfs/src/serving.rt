@@ -28,11 +28,12 @@ pub struct Service<'w> {
 
 /// Serves the files of the disk in a file, of either version, so that clients mount them: NFS and
 /// MOUNT in their versions 3 (RFC 1813). Prints the port before the first connection is accepted,
-/// and that it has stopped once a client has ended it by its socket. All is stable then, the disk is
-/// closed and unlocked, and the socket is gone. Where the address is not one that this machine alone
-/// reaches, the first line of `faults` says what that means.
+/// and that it has stopped once a client has ended it by its socket. All is stable then, the disk
+/// is closed and unlocked, and the socket is gone. Where the address is not one that this machine
+/// alone reaches, the first line of `faults` says what that means.
 ///
-/// Where the device fails, the calls under way are answered, and the service ends by `DeviceFailed`.
+/// Where the device fails, the calls under way are answered, and the service ends by
+/// `DeviceFailed`.
 ///
 /// # Errors
 /// - Those of `open`, `Refused` where the files are sound in no version, `CannotListen` where the

@@ -3,8 +3,8 @@
 use journal_commands::Fault;
 use journal_service::ServiceFault;
 
-/// The fault by which the program ends where the disk in the file at the path was not made, checked,
-/// migrated or served to the end.
+/// The fault by which the program ends where the disk in the file at the path was not made,
+/// checked, migrated or served to the end.
 pub fn unserved<'w>(path: &'w str, why: ServiceFault) -> Fault<'w> {
     match why {
         ServiceFault::File(why) => Fault::File { path, why },

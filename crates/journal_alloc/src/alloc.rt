@@ -59,6 +59,8 @@ impl Alloc {
         Some(self.take_lowest())
     }
 
+    // The free numbers are counted, so that it refuses before it takes. The caller reserves the
+    // room in the list, where a refusal of memory leaves all numbers as they were.
     /// Hands out `n` numbers, or none. Each is the lowest that is not out then, so they rise. They
     /// are appended to `out`, whose room was reserved, and are out then.
     ///

@@ -11,6 +11,8 @@ use journal_world::{BLOCK_BITS, BLOCK_BYTES, Kind, Refusal};
 use std::alloc::Global;
 use std::marker::Model;
 
+// A `Vec` whose length is the invariant: a `Box<[u8; 4096]>` can only be made by value, over the
+// stack. A block is moved as a pointer and lent as a slice.
 /// A block of a disk: 4096 bytes.
 #[derive(Debug, Drop)]
 pub struct Block {

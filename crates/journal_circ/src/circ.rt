@@ -33,14 +33,17 @@ pub struct Circ<D: BlockDisk> {
     device: FailStop<D>,
     // Block 0 as the next group has it.
     header: Block,
-    // True if block 0 is of the sealed form.
+    // True if block 0 is of the sealed form. Contracts see it (`sealed`), and `IsCirc` ties it to
+    // block 0, so that no layer above reads block 0.
     sealed: bool,
     // Of a sealed log, the tag that each log block has as it reads: byte s is the tag of block 2 +
     // s.
     tags: Block,
     // The buffer from which a tagged log block is written, so that no step allocates.
     scratch: Block,
-    // Block 1 as it was read, with the last start that was put.
+    // Block 1 as it was read, with the last start that was put. So its bytes from 8 on, the label,
+    // stay, and a program can say there what the disk is. A whole block, so that no step takes
+    // memory.
     start_block: Block,
     extent: Extent,
     // The position that is put next.
@@ -96,6 +99,7 @@ impl<D: BlockDisk> Circ<D> {
         self.device.read(block, into)
     }
 
+    // By position, so that a recovery need not know the block of a position.
     /// Reads the log block of a position from the start to the one that is put next, and gives the
     /// number of its home block.
     ///

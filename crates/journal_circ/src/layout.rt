@@ -38,6 +38,8 @@ pub const LOG_POSITIONS: u64 = 511;
 pub const FIRST_HOME: u64 = 513;
 /// The most positions of a group of a sealed log, so that two groups share no log block.
 pub const MAX_GROUP: u64 = 255;
+// A word has 5 bytes for the home block. A sealed log on a larger disk is J7, and `Circ::seal`
+// requires no more (`narrow`).
 /// The most blocks of a disk with a sealed log: its words have 5 bytes for a block's number.
 pub const MAX_SEALED_BLOCKS: u64 = 1 << 40;
 /// The block with the log's end, or the beginning of its last group, and the words of its

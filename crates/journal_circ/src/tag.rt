@@ -8,6 +8,8 @@ ghost use Rattle.journal_circ.specs.declared.layout.TheConstants.{LOG_POSITIONS}
 use crate::layout::{BOUND_AT, LOG_POSITIONS, SEALED, address_at, is_sealed};
 use journal_block::Block;
 
+// One of three small numbers, chosen by the tags that the disk has, and not counted up. So nothing
+// has to be zeroed, and no number comes to an end.
 /// The tag of a log block.
 pub(crate) fn tag_of(block: &Block) -> u8
     ensures { result ≡ tag_of block.now }

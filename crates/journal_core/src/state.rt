@@ -20,6 +20,8 @@ use std::alloc::Global;
 use std::marker::Model;
 use std::sync::Wait;
 
+// The pair of its parts, seen as one core. Contracts see neither that memory has more blocks nor
+// how much room the tail has, because no answer depends on it.
 /// The core of a journal, lent the book of its history.
 #[derive(Drop)]
 pub struct Core<'b, D: BlockDisk, R: MapRule, J: Naming> {

@@ -27,6 +27,8 @@ pub enum Entry {
     Barrier,
 }
 
+// Each write has the place of its block's last write before it. So a read, a write and a barrier do
+// not search the record, and a crash chooses among its writes and takes no memory.
 /// All writes and barriers since the beginning, in their order.
 ///
 /// The place of an entry is the number of entries up to it. The record keeps the place of each

@@ -14,6 +14,8 @@ use std::io::{Seek, SeekFrom};
 use std::marker::Model;
 use std::os::unix::fs::FileExt;
 
+// A field of its invariant ties its number of blocks to the file's past, so that what `into_file`
+// says of a crash is about the disk's own past.
 /// A disk in a file, or on a block device.
 ///
 /// Block `b` is the 4096 bytes from byte `4096 * b` on. Blocks are read into the caller's and

@@ -6,7 +6,8 @@ use journal_alloc::Alloc;
 use std::alloc::{AllocError, Global};
 use std::sync::{Mutex, Wait};
 
-// The free blocks that an attempt took, and those that it frees once it is committed.
+// The free blocks that an attempt took, and those that it frees once it is committed. An attempt
+// holds its numbers until it ends. So a `create` beside it may find none, and be answered NoSpace.
 #[derive(Drop)]
 pub struct BlockReservation<'a> {
     free: &'a Mutex<Alloc>,

@@ -18,7 +18,8 @@ use journal_history::{Naming, Session};
 use journal_inode::{SoundFiles, Version};
 use std::sync::Wait;
 
-// The attributes of a file, once all before is stable.
+// The attributes of a file, once all before is stable. It waits by its own commit, whose mark
+// covers all before it. So it needs no `flush`, and one function ends all operations.
 #[derive(Drop)]
 pub(crate) struct Commit {
     handle: Handle,

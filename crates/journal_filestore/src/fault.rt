@@ -1,6 +1,8 @@
 // Why an operation has no answer.
 use journal_world::Refusal;
 
+// A clause says which numbers it may have (`IsFaultOf`), and no type: a type would hide the fact
+// that a cause has.
 /// Why an operation has no answer.
 #[derive(Debug, Drop)]
 pub enum Fault<C> {

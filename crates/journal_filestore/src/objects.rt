@@ -83,7 +83,9 @@ pub(crate) fn read_node<'j, 'b, D: BlockDisk, J: Naming, V: Version, W: Wait>(
     Ok(node)
 }
 
-// True if a file has no more bytes than its inode has blocks for.
+// True if a file has no more bytes than its inode has blocks for. A size above the version's most
+// is J2 when it is read, as other numbers are that no sound disk has. So slices of its numbers are
+// in range, and no disk can make an operation write outside the data blocks.
 fn is_small(version: FormatVersion, node: Node) -> bool
     ensures { IsTrue result ↔ IsSmall version node }
 {

@@ -52,6 +52,9 @@ impl<C> From<AllocError> for AttemptFault<C> {
 }
 
 // An operation: the reads and overwrites of one attempt at it, and the case that it then answers.
+// An operation reads all that it needs first (inodes, bits, old data), and writes bits, blocks and
+// the inode last. So a refusal of memory or of a slot comes before the first overwrite wherever it
+// can. Each object is read once: on a disk that is not honest a second read may give another value.
 pub(crate) trait Operation<J: Naming, V: Version> {
     type Reply: Drop;
 

@@ -5,6 +5,8 @@ ghost use Rattle.journal_filestore.specs.declared.read.TheConstants.{READ_BYTES}
 use crate::Attributes;
 use std::marker::Model;
 
+// It holds the value that the transaction read, and lends the range: no byte is copied in this
+// layer.
 /// A portion of a file, with the file's attributes. It holds blocks of the file, and lends the
 /// bytes that were asked for.
 #[derive(Debug, Drop)]

@@ -56,7 +56,8 @@ pub(crate) fn set_file<'j, 'b, D: BlockDisk, J: Naming, V: Version, W: Wait>(
     }
     grow(rt, txn, space, number, file, size, mtime)
 }
-// Cuts a file off, and frees the blocks after its end.
+// Cuts a file off, and frees the blocks after its end. A block is zero after its file's size, so a
+// file that grows shows zeros there without a write.
 fn shrink<'j, 'b, D: BlockDisk, J: Naming, V: Version, W: Wait>(
     rt: &W,
     txn: &mut FileTxn<'j, 'b, D, J, V>,

@@ -221,7 +221,8 @@ impl<'b, D: BlockDisk, J: Naming, V: Version> FileStore<'b, D, J, V> {
 
     // Attempts an operation until it is committed, or refused by another number than J5, or refused
     // by J5 once more after the last retry. Before each retry it waits for the slot that was held.
-    // So J5 refuses it only if others took slots in between each time.
+    // So J5 refuses it only if others took slots in between each time. Up to the commit, whose
+    // receipt it returns, so that one wait can serve many operations.
     pub(crate) fn run_no_wait<O: Operation<J, V>, W: Wait>(
         &self,
         rt: &W,
@@ -299,7 +300,8 @@ impl<'b, D: BlockDisk, J: Naming, V: Version> FileStore<'b, D, J, V> {
     }
 }
 
-// True if the answer waits until it is stable: a success does, of an operation that waits.
+// True if the answer waits until it is stable: a success does, of an operation that waits. A
+// refused case is committed too, so that the history has every answer. It never waits.
 fn is_awaited<A>(waits: bool, answer: &Answer<A>) -> bool
     ensures success { IsTrue waits → OnOk answer.now (IsTrue result) }
     ensures waits { IsTrue result → IsTrue waits }

@@ -47,6 +47,8 @@ impl<'b, J: Naming, R: MapRule> Model for Writer<'b, J, R> {
 }
 
 impl<'b, J: Naming, R: MapRule> Writer<'b, J, R> {
+    // An opening changes the book here, after all that could refuse it. A trial, and no clause,
+    // shows that a refused opening leaves the book as it was: other threads may add entries.
     /// Begins the history of a book with a map.
     ///
     /// # Errors

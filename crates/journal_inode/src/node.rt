@@ -61,6 +61,8 @@ impl Time {
     }
 }
 
+// The first block keeps its place, and the eleven others come after the time. Block 0 is always
+// there.
 /// The fields of a file's inode.
 #[derive(Clone, Copy, Debug, PartialEq, Eq)]
 pub struct FileNode {
@@ -87,6 +89,8 @@ impl FileNode {
     }
 }
 
+// An enum, so that none is half free. Each byte string reads as an inode, so the rule compares the
+// bytes that an inode writes with those that were read.
 /// An inode.
 #[derive(Clone, Copy, Debug, PartialEq, Eq)]
 pub enum Node {

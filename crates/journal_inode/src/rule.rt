@@ -22,6 +22,8 @@ use std::sync::OnceLock;
 // The number of bits that are read at once.
 const WORD_BITS: u32 = 64;
 
+// It looks first whether the disk is cut for files (`HasFiles`): else it would admit a map of other
+// regions.
 /// The rule of sound files of a version: the disk has the layout of files, the superblock is the
 /// disk's, each inode is in its place, each file is sound, no two files have one block, and the
 /// bitmap says which data blocks are taken.
@@ -152,7 +154,9 @@ fn are_absent(numbers: &[u64]) -> bool
     numbers.iter().all(|number| *number == 0)
 }
 
-// True if these are data blocks, and their bytes from a size on are zero. The map stays.
+// True if these are data blocks, and their bytes from a size on are zero. The map stays. Each block
+// has 4096 bytes (`IsSoundFile.sized`): a rule speaks of any map, and the length of all blocks of a
+// file does not give that of each.
 fn are_blocks_sound<O: ObjectReader>(
     reader: &mut O,
     blocks: &[u64],

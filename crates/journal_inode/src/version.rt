@@ -5,6 +5,9 @@ ghost use Rattle.journal_inode.specs.declared.version.FormatVersion.{FormatVersi
 
 use journal_world::BLOCK_BYTES;
 
+// Its functions have all that differs between the versions. The definitions are by cases, and at
+// version 1 they compute to those without versions, so each clause of version 1 is an instance. A
+// type as well (`Version`), because the rule of a mount is a type.
 /// A version of the format.
 #[derive(Clone, Copy, Debug, PartialEq, Eq)]
 pub enum FormatVersion {

@@ -18,6 +18,8 @@ pub struct View {
     pub count: u64,
 }
 
+// The cell's one word has no content: the passes have all the knowledge. A ledger is named by a
+// type, so 257 of them could not be in one table.
 /// The rule: one pass at most is the keeper, each token agrees with it, and no slot has two tokens.
 pub struct Counted;
 

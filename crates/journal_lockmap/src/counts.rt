@@ -122,6 +122,8 @@ impl<J: Naming> SlotCounts<J> {
         Ok((counts, slots, SessionCounts::begin(sessions)))
     }
 
+    // A commit also requires that no slot is held twice (`apart`), though the tokens imply it: the
+    // cell's rule speaks of two tokens that are looked at together, and a look takes one.
     /// Shows that the numbers of the held slots are those that are kept here. Nothing changes, and
     /// the call does not block.
     pub fn verify_tokens<W: Wait>(&mut self, rt: &W, held: &mut [Held<J>])

@@ -47,7 +47,8 @@ impl<J: Naming> Keeper<J> {
         }
     }
 
-    // Shows that the held slot agrees with the numbers. Nothing changes.
+    // Shows that the held slot agrees with the numbers. Nothing changes. Each held slot is looked
+    // at by itself: the core's clause `agree` speaks of each slot at the history that was found.
     pub(crate) fn verify_token<W: Wait>(&mut self, rt: &W, held: &mut Held<J>)
         ensures same { self.new ≡ self.old }
         ensures held { held.new ≡ held.old }

@@ -27,7 +27,8 @@ const SPIN_PAUSES: u32 = 16;
 const MAX_PADDED: u16 = 1024;
 
 // The parts of one slot: its place, and the condition variable on which threads sleep that wait for
-// the slot.
+// the slot. A lock for each slot, on one line of memory: 200 to 240 nanoseconds for two slots with
+// four threads. Tables in 64 parts took 380, one lock of all slots 1000 to 2000.
 #[derive(Drop)]
 struct SlotLock<J: Naming> {
     place: Mutex<Place<J>>,
@@ -228,6 +229,8 @@ impl<J: Naming> LockMap<J> {
             .ok_or_else(|| Refusal::Busy)
     }
 
+    // No clause: none can name the value under a lock. `Held::give_back` says what happens to the
+    // table.
     /// Frees the slot, and wakes one of the threads that wait for it. The call does not wait for a
     /// slot.
     ///

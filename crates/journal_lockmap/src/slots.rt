@@ -8,6 +8,7 @@ use std::fmt;
 use std::fmt::Debug;
 use std::marker::Model;
 
+// A list, because a contract cannot have a function as a value.
 /// The table of slots, with the token of each free slot. Contracts see a list that says of each
 /// slot whether it is taken.
 ///

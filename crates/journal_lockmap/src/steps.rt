@@ -6,7 +6,8 @@ ghost use Rattle.journal_lockmap.specs.Tokens.{keeper, holder, token, nobody};
 use crate::cell::{Cell, Make, Off, SlotPass, Spare, Touch, Verify};
 use std::sync::Wait;
 
-// Makes the next slot, with its token.
+// Makes the next slot, with its token. The cell begins with no slot: one that is not named yet
+// cannot know how many a layout asks for.
 pub(crate) fn make(cell: &Cell, all: &mut SlotPass) -> SlotPass
     requires cell { all.old.table_id ≡ cell.now.table.shared.table_id }
     requires keeper { cell_view all.old ≡ keeper (cell_view all.old).counts (cell_view all.old).made }

@@ -4,6 +4,10 @@ ghost use Rattle.journal_memlog.specs.Buckets.{bucket_of};
 
 use journal_block::Update;
 
+// An update has the position of the one before it in its bucket: `append` takes no memory for an
+// index, a trim has nothing to remove, and memory does not grow with the disk. 1021 is a prime
+// above the 766 updates that a log may have, so blocks at a distance of a power of two have
+// different buckets.
 /// The number of buckets that the blocks of a disk are divided into.
 ///
 /// A log of a journal has at most 511 updates in the disk's log and 255 in its tail, so there are

@@ -148,6 +148,9 @@ impl MemLog {
         self.newest(block, self.cut)
     }
 
+    // A commit stores here in place: no block is copied or freed under the memory lock. When the
+    // loan ends, the log is as if that update had been appended (`LendsBlock`), so clauses still
+    // speak of appended updates. A ghost list would not do: a ghost field has a fact and no data.
     /// The content of the update at a position of the tail, lent to be overwritten. The log is then
     /// as it is with that update appended.
     pub fn tail_block(&mut self, position: u64) -> &mut Block
@@ -218,6 +221,8 @@ impl MemLog {
         Ok(())
     }
 
+    // The blocks are distinct, by the caller: one that groups writes by block meets that, and the
+    // number of updates is then the number of blocks.
     /// Puts updates into the tail, one after the other: each in place of the update of its block,
     /// or at the end. It takes no memory and moves the blocks. Its time depends on these updates,
     /// and on the log's updates of their buckets.

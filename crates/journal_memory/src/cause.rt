@@ -7,6 +7,8 @@ use journal_history::{Front, Naming};
 use journal_world::{MapRule, Refusal};
 use std::marker::Model;
 
+// Only J9 and J10 hold a history. At J6 and J11 to J13 the number is all, because the refusal's own
+// clause says the rest. J14 needs no cause: the session has then seen its fence, which says more.
 /// The cause in those refusals that only a step of the core can find. Only a step of the core makes
 /// one, for the refusal of one number, and it cannot be copied. So no other call answers such a
 /// refusal unless a step gave it, and none answers another refusal with it. Contracts see the

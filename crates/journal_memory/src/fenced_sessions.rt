@@ -6,6 +6,9 @@ use crate::session_number::SessionNumber;
 use std::alloc::{AllocError, Global};
 use std::marker::Model;
 
+// Numbers rise, and a session is fenced at its end, so nearly all are one run. The runs are
+// searched from the first on, because there are about as many as open sessions. Room for one more
+// is made before the exchange, so that nothing fails after it.
 /// The numbers of the sessions that are fenced, as runs of numbers that follow one another.
 ///
 /// Sessions get rising numbers, and one that ended is fenced. So nearly all that were ever fenced

@@ -57,7 +57,9 @@ impl<'b, R: MapRule, J: Naming> Ledger<'b, R, J> {
     }
 
     // Shows the session all that is known of the history. Refuses by J9 if that is more than the
-    // core knows.
+    // core knows. J9 lasts without a flag: a refused session has then seen more than the core, so
+    // it commits no more. Of other sessions it follows from the book, whose HEAD never falls and
+    // which each commit looks at first.
     fn catch_up(
         &self,
         session: &mut Session<'b, J, R>,

@@ -4,6 +4,8 @@ ghost use Rattle.journal_memory.specs.MarkedLengths.{with_non_commit};
 
 use crate::history_length::HistoryLength;
 
+// A session does not know how many commits it has seen, but how many entries. So a flush compares
+// two lengths, and a commit, a cut, a mark and a flush cost the same however long the history is.
 /// The lengths of two fronts of the history: the longest with marked commits alone, and the longest
 /// with no more commits than there were at the last cut. A mark is of the commits at the cut or of
 /// all, so the next mark finds the first of them without a look at the history.

@@ -6,6 +6,8 @@ use journal_history::Naming;
 use journal_world::Layout;
 use std::marker::{Model, PhantomData};
 
+// The journal's name has its layout, and memory has the layout that runs. This type keeps the two
+// equal, so the invariant of memory has no further fact.
 /// The layout by which a journal was opened, which its name carries.
 #[derive(Drop)]
 pub(crate) struct NamedLayout<J: Naming> {

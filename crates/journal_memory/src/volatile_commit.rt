@@ -93,6 +93,9 @@ impl<'b, R: MapRule, J: Naming> Volatile<'b, R, J> {
         answer
     }
 
+    // HEAD is looked at before anything is prepared, so that J9 and J10 come in their place. No
+    // clause says so, because no fact of a caller says that a word was loaded. The exchange may
+    // still find a longer history.
     /// Commits as `commit` does, once it was verified that no other commit touched the slots of its
     /// reads.
     ///
@@ -159,7 +162,8 @@ impl<'b, R: MapRule, J: Naming> Volatile<'b, R, J> {
     }
 
     // Makes the writes ready, with all the memory that they take, or answers the blocks that have
-    // to be fetched first. Refuses by J4, J11 and J12, then J1.
+    // to be fetched first. Refuses by J4, J11 and J12, then J1. J11 comes between J4 and J12: the
+    // object log is asked first, and where the history is worn only its J4 is passed on.
     fn prepare(
         &mut self,
         session: &Session<'b, J, R>,

@@ -58,6 +58,9 @@ impl<'b, R: MapRule, J: Naming> Volatile<'b, R, J> {
         self.tail.touch(block);
     }
 
+    // No condition: it tests itself that the history goes on from the fetch's front, and that
+    // memory has what commits wrote after the fetch. Where memory for a copy is refused the block
+    // is not kept, and no call is refused for it.
     /// Part of a hold of memory alone: keeps copies of the fetched blocks for later reads and
     /// commits, unless memory has dropped the writes of later commits. Above the limit those copies
     /// are dropped that were used least recently. One for which memory is refused is not kept.

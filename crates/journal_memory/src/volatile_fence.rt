@@ -14,6 +14,8 @@ use journal_world::{MapRule, Refusal};
 use std::sync::Wait;
 
 impl<'b, R: MapRule, J: Naming> Volatile<'b, R, J> {
+    // A fenced number is given to no session, so a fence of a much greater number leaves fewer
+    // numbers (J11 until the next opening). A program that may fence may also stop the journal.
     /// A hold of memory alone: fences a session, by an entry of the history, if it has no fence
     /// yet. None of its commits is added from then on, and no session gets its number. The session
     /// that is lent has then seen the whole history. It may be the one that is fenced.

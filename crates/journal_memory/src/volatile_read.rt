@@ -24,6 +24,8 @@ use journal_world::{Addr, MapRule, Refusal};
 use std::sync::Wait;
 
 impl<'b, R: MapRule, J: Naming> Volatile<'b, R, J> {
+    // All held slots are looked at, whatever is asked. So the clause `agree` holds at every hold,
+    // and of a refused call too.
     /// A hold of memory alone: reads the value that the map after the history gives the address,
     /// into bytes that are as many as its object has. It is read as memory has it, or if memory has
     /// no update of its block, as it was fetched. Answers none if the block has to be fetched: it
@@ -139,6 +141,8 @@ impl<'b, R: MapRule, J: Naming> Volatile<'b, R, J> {
     }
 
     // The fetched blocks that may be used. Refuses by J9 if the fetch has seen more of the history.
+    // A stale fetch is ignored, not refused: memory alone is used then, and the answer names the
+    // missing blocks. So the caller's loop has one path.
     pub(crate) fn usable<'a>(
         &self,
         fetched: &'a Fetched<'b, J, R>,

@@ -18,6 +18,8 @@ use journal_world::{CommitCount, MapRule, Refusal};
 use std::sync::Wait;
 
 impl<'b, R: MapRule, J: Naming> Volatile<'b, R, J> {
+    // Refused, it leaves the session as it was, so after an `Unsure` commit the session is exact. A
+    // longer history is found by a load of HEAD of its own, and every later commit finds it again.
     /// A hold of memory alone: true if the first n commits are marked as stable. The session has
     /// then seen the whole history, and is exact.
     ///
@@ -72,6 +74,9 @@ impl<'b, R: MapRule, J: Naming> Volatile<'b, R, J> {
         Ok(marked)
     }
 
+    // J9 and J10 come before J13 and J6: a session that a stop or a fault refuses has then seen the
+    // whole history. Where it has to wait its session stays as it was, so that the next look is for
+    // the same commits.
     /// A hold of memory alone: true if all commits that the session has seen are marked as stable.
     /// It has then seen the whole history, and is exact, even after a stop or a fault. If false the
     /// session is as it was, so that the same is asked again later.

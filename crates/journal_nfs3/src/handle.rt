@@ -10,7 +10,8 @@ use journal_xdr::Reader;
 pub(crate) const HANDLE_MARK: u32 = 0x4a4e_4c31;
 
 // The handle of these bytes. `None` unless they are 12, begin with the mark, and have an inode from
-// 1 to 511.
+// 1 to 511. Its form and its range are two things: a reply may name any inode, a call only 1 to
+// 511.
 pub(crate) fn read_handle(bytes: &[u8]) -> Option<Handle>
     ensures { named result ≡ handle_in bytes.now }
 {

@@ -3,6 +3,8 @@ ghost use Rattle.std.specs.Prelude.{◌≡◌};
 
 use journal_xdr::Enumeration;
 
+// Each match of nine arms stays, where something is done by procedure: the types differ in each
+// arm, and the compiler names each match that lacks a new procedure.
 /// A procedure of the program that is served (RFC 1813, section 3.3).
 #[derive(Clone, Copy, Debug, PartialEq, Eq)]
 pub enum Procedure {

@@ -90,6 +90,8 @@ impl Results {
     }
 }
 
+// With the version, because the file store's answer has a size and no blocks. A refusal has no
+// file, so `refused_reply` asks for no version.
 /// The results, with the version of the format, which says how many bytes files use.
 #[derive(Debug, Drop)]
 pub struct FormatResults {

@@ -68,6 +68,8 @@ pub fn write_time(writer: &mut Writer, value: Time) -> Result<(), AllocError>
     writer.word(value.nanos)
 }
 
+// A size above the version's most counts as that most: no sound file has one, and the used bytes of
+// 2^64 bytes would not fit in 8 bytes.
 /// The number of bytes of the blocks of a file of this size. No file has more bytes than its
 /// version's most.
 pub fn used_bytes(version: FormatVersion, size: u64) -> u64
@@ -77,7 +79,9 @@ pub fn used_bytes(version: FormatVersion, size: u64) -> u64
     BLOCK_BYTES as u64 * (1 + more as u64)
 }
 
-// Writes the attributes of a file or of the root (RFC 1813, section 2.5, fattr3).
+// Writes the attributes of a file or of the root (RFC 1813, section 2.5, fattr3). The fields that
+// are the same for every file are added here to the file store's own values, so no reply is first
+// put together in memory.
 #[tactic(auto, unfolding(crate::specs::Results::fattr))]
 fn write_attributes(
     writer: &mut Writer,
@@ -182,6 +186,7 @@ fn write_no_change(
     )
 }
 
+// For each procedure: a trait with a type for each takes more lines than it saves.
 /// Writes the status of an outcome, and after one that refuses that the other facts are left out.
 ///
 /// # Errors

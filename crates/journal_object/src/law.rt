@@ -7,6 +7,8 @@ ghost use Rattle.journal_object.specs.Objects.{IsMapOf, map_of_blocks};
 
 use journal_world::Kind;
 
+// The map leaves out a value that is not of its kind, because a disk does not promise that a block
+// has 4096 bytes. So the opened map's pairs are objects on every disk.
 /// Does nothing. Its contract is the law of the map that a disk's blocks make.
 pub fn prove_objects_law()
     ensures map { (layout : Shape) (content : ℕ → Bytes)

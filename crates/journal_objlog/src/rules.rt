@@ -41,6 +41,8 @@ impl Opening for Brand {
 // Reads the map that the log had when the reading began. It holds the log, so each reader leaves a
 // log that was only read. Of blocks with many objects it keeps the one that it read last, so that a
 // rule that goes through such a block reads it once. A block that is one object is read beside it.
+// The type is private, and the log is given by value and always returned: a reader of a borrowed
+// log could not say what it did to it.
 struct MapReader<D: BlockDisk, O: Opening> {
     layout: Layout,
     log: ObjectLog<D>,

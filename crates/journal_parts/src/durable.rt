@@ -17,6 +17,8 @@ use journal_tail::Position;
 use journal_world::{CommitCount, MapRule};
 use std::marker::Model;
 
+// Its history is a front of its own, and its three counts are of that front. So its invariant says
+// nothing of memory, and a longer history says the same of the same number of commits.
 /// The part of the core on its disk, for a lock of its own: the log, copies of the logged blocks
 /// and of the group in flight, and the numbers of commits that these have of a front of the
 /// history.

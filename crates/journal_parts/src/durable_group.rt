@@ -40,6 +40,9 @@ impl<'b, D: BlockDisk, R: MapRule, J: Naming> Durable<'b, D, R, J> {
         self.key.raise(self.objects.reserve_group(blocks))
     }
 
+    // A group is taken with the fact that makes it true (`HaveAllSince`): it has all that commits
+    // after `logged` wrote, as the last of them left each address. That is said of addresses, not
+    // of blocks: the other objects of a written block came with its fetch.
     /// Takes a group that was cut from memory, which `reserve` made room for, and the history that
     /// has its commits, with their number. It takes no memory, and moves the blocks.
     pub(crate) fn take(&mut self, group: Vec<Update>, front: Front<'b, J, R>, commits: CommitCount)

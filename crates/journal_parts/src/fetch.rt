@@ -13,6 +13,8 @@ use journal_memory::{Cause, Fetched};
 use journal_world::{MapRule, Refusal};
 
 impl<'b, D: BlockDisk, R: MapRule, J: Naming> Durable<'b, D, R, J> {
+    // All blocks of a commit in one hold: they have one front and one number of commits, so one
+    // test decides about all of them.
     /// Reads each of these blocks, as it is logged, into its bytes. It is read from the device only
     /// if no logged update of it is in memory. The call takes no memory.
     ///

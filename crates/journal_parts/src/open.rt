@@ -157,7 +157,8 @@ fn begun<'b, D: BlockDisk, R: MapRule, J: Naming>(
 }
 
 // The slots of a history without commits, with their counts and those of its sessions, if there is
-// memory.
+// memory. Before the log is read, so that an opening that is refused for them has touched neither
+// disk nor book.
 fn slots_and_counts<J: Naming>(
     alloc: Global,
     cell: SlotCell,

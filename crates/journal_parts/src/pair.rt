@@ -44,6 +44,8 @@ impl<'b, D: BlockDisk, R: MapRule, J: Naming> Durable<'b, D, R, J> {
         Ok(self.objects.disk())
     }
 
+    // Room in the disk's log comes first, then the copy of the tail, and then both change. So want
+    // of memory leaves both as they were.
     /// Cuts: the blocks that commits wrote since the last cut become the group in flight, with the
     /// history that has these commits. False if a group is in flight, if nothing was written, and
     /// if the log lacks a position for a block.
@@ -83,6 +85,9 @@ impl<'b, D: BlockDisk, R: MapRule, J: Naming> Durable<'b, D, R, J> {
         Ok(true)
     }
 
+    // The test of a cut is `memory.cut <= logged`, that of a mark `memory.cut = logged`: a mark is
+    // of the commits at the last cut, because the ledger counts beside the history only for those
+    // (`MarkedLengths`).
     /// Marks what is logged, in the history and beside the log. False if the last cut is not logged
     /// yet, or is marked already.
     ///
@@ -118,6 +123,8 @@ impl<'b, D: BlockDisk, R: MapRule, J: Naming> Durable<'b, D, R, J> {
         Ok(true)
     }
 
+    // A step of its own for commits that wrote nothing. It moves `logged` and `coming` too, which
+    // is true because nothing was written after it.
     /// Marks all commits if nothing awaits logging: those since the last cut wrote nothing. False
     /// if something does, or if all are marked.
     ///

@@ -1,5 +1,7 @@
 // The outcome of a step of the logger.
 
+// Each layer's step says what it did, so threads are woken by the step that was made, and no layer
+// compares the state before and after.
 /// The outcome of a step of the logger.
 #[derive(Clone, Copy, Debug, PartialEq, Eq)]
 pub enum LogStep {

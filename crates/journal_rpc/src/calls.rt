@@ -68,6 +68,8 @@ struct Target<'a> {
     verifier: Auth<'a>,
 }
 
+// A call in another version of RPC is a call, so that one function makes each refusal that has a
+// reply.
 /// The call of a record's bytes (RFC 5531, section 9), lent from them. `None` if they are none: the
 /// header is cut short, is not a call's, or has a credential or a verifier of more than 400 bytes
 /// or with padding other than zeros.

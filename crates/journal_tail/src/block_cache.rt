@@ -53,6 +53,8 @@ impl BlockCache {
         self.blocks.peek(&block)
     }
 
+    // A read makes its block the one that was used last. A commit does so at the trim that brings
+    // its block home.
     /// Makes the block the most recently used, if there is a copy of it.
     pub(crate) fn touch(&mut self, block: u64)
         ensures { MakeTheSame self.new self.old }

@@ -3,7 +3,7 @@
 //!
 //!   Tail         updates of blocks, absorbed. A cut hands out a copy of them as a group. They stay
 //!                until a trim, once they are home
-//!   BlockCache   beside them: blocks that are home, so that blocks that are read often are in memory
+//!   BlockCache   copies of blocks that are home, so that blocks that are read often are in memory
 //!   ObjectTail   both in terms of objects: bits, records and blocks, of which many share a block
 //!
 //! To overwrite objects, `prepare` copies those of their blocks that are not in the tail, each

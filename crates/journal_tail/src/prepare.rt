@@ -20,6 +20,8 @@ use journal_object::store_valid;
 use journal_world::{Addr, Layout, Objects, Refusal, Value};
 use std::marker::Model;
 
+// It holds the new blocks, and `apply` moves them. So nothing is copied twice, and no memory is
+// asked for once the history may have the commit.
 /// Overwrites that are ready to be applied, made by [`ObjectTail::prepare`].
 #[derive(Drop)]
 pub struct Prepared {

@@ -7,6 +7,9 @@ use journal_world::{BLOCK_BYTES, Objects, Refusal};
 use std::alloc::Global;
 use std::marker::Model;
 
+// Blocks of zeros, though all of one is overwritten, so that any spare serves any block. A missing
+// one is made under the lock, so that no refusal comes before its order. None is made for a block
+// that is written in part: it is mostly in the tail, and overwritten there.
 /// Memory in which writes are made ready. Their writer makes it before it takes a lock. Memory that
 /// is missing is made later.
 #[derive(Drop)]

@@ -58,6 +58,7 @@ impl ObjectTail {
         self.get(fetched, block).is_none()
     }
 
+    // One pass, so for most commits of a busy journal no list is made and no memory is taken.
     /// True if these are objects whose blocks are all in the tail, so that nothing has to be made
     /// ready for them. False for more than 128: they may be in more blocks than may be written.
     pub(crate) fn are_in_tail(&self, layout: &Layout, writes: &Objects) -> bool

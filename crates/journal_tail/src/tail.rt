@@ -199,6 +199,8 @@ impl Tail {
         Ok(())
     }
 
+    // Apart from `append_reserved`, so that a layer above can make all growths, exchange a word
+    // that others see, and then append without failing. A group is taken in two parts too.
     /// Makes room for `fresh` fresh blocks, where `check_room` admits them. `append_reserved` then
     /// takes them, if no other call comes in between.
     ///
@@ -315,7 +317,10 @@ impl Tail {
     }
 }
 
-// Drops the updates before the position. They overwrite the copies of their blocks.
+// Drops the updates before the position. They overwrite the copies of their blocks. Each dropped
+// update is moved into the copy of its block, not the last alone: a later update hides the copy
+// meanwhile, and overwrites it when it is dropped itself. That takes no memory, because a put of a
+// key that is there succeeds.
 fn move_to_cache(memory: &mut MemLog, cache: &mut BlockCache, upto: u64)
     requires from_start { memory.old.start ≤ upto }
     requires to_logged { upto ≤ memory.old.logged }

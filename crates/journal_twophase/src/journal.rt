@@ -215,6 +215,8 @@ impl<'b, D: BlockDisk, R: MapRule, J: Naming> Journal<'b, D, R, J> {
         Ok(session)
     }
 
+    // No clause says that no other session is fenced: above memory the session has then seen other
+    // threads' fences too. `did` of `Volatile::fence_step` says it of the hold.
     /// Fences a session by its number, by an entry of the history, if it has no fence yet. None of
     /// its commits is added from then on, and no session gets the number. Reads and aborts go on.
     /// The session that is lent has then seen the fence. It may be the one that is fenced. A commit

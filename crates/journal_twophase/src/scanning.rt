@@ -20,6 +20,8 @@ use std::alloc::Global;
 use std::sync::Wait;
 
 impl<'b, D: BlockDisk, R: MapRule, J: Naming> Journal<'b, D, R, J> {
+    // No transaction remembers it, so the next commit may change what it found. A caller that takes
+    // a bit reads it in the transaction that writes it.
     /// The numbers of the bits of one block that are asked for, ascending, at one moment: as the
     /// map has them after the history that the session has then seen, which is the whole history at
     /// that moment. No commit comes in between two of them.

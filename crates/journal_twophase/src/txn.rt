@@ -18,6 +18,8 @@ use std::alloc::{AllocError, AllocFailed, Global};
 use std::marker::Model;
 use std::sync::Wait;
 
+// Each address that it read or overwrote has its slot held (`KeepsHeld`), and no slot is held
+// twice. So a commit has nothing to test, and a refused call gives back only the slot that it took.
 /// An open transaction. Contracts see the history that its session had seen when it began, its
 /// reads and overwrites, a history at whose end the map gives all that it read, and the slots that
 /// it holds.
@@ -121,7 +123,8 @@ impl<'j, 'b, D: BlockDisk, R: MapRule, J: Naming> Txn<'j, 'b, D, R, J> {
     }
 
     // The refusal of a read that the core was not asked for. A stop or a fault of the journal comes
-    // before it.
+    // before it. Asked only where the read answers without a look-up. Else the look-up asks, so
+    // that a read takes the memory lock once.
     fn unless_ended<W: Wait>(
         &self,
         rt: &W,
@@ -282,7 +285,8 @@ impl<'j, 'b, D: BlockDisk, R: MapRule, J: Naming> Txn<'j, 'b, D, R, J> {
         Ok(())
     }
 
-    // Takes the slot. True if the transaction did not hold it already.
+    // Takes the slot. True if the transaction did not hold it already. The slot is tried before
+    // memory for it is asked, so that J5 comes before J1.
     fn take<W: Wait>(&mut self, rt: &W, slot: u16) -> Result<bool, JournalRefusal<'b, J, R>>
         requires in_range { slot < J.layout.slots }
         ensures taken { OnOk result (self.new ≡ record self.old { held = with_slot self.old.held slot }) }
@@ -324,7 +328,8 @@ impl<'j, 'b, D: BlockDisk, R: MapRule, J: Naming> Txn<'j, 'b, D, R, J> {
     }
 
     // Releases the slot that a refused call took, if it took one. No read and no overwrite is under
-    // it.
+    // it. After the core was asked: the held slots are lent to each hold of the lock, and come back
+    // as they were.
     fn give_back<W: Wait>(&mut self, rt: &W, took: bool)
         requires clear { IsTrue took → (before : List ℕ) (slot : ℕ) → self.old.held ≡ before ++ slot ∷ [] → IsClearOf J.layout slot self.old.reads × IsClearOf J.layout slot self.old.writes }
         ensures { (t : TxnState) (slot : ℕ) → self.old ≡ record t { held = (if took then t.held ++ slot ∷ [] else t.held) } → self.new ≡ t }

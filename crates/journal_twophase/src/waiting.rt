@@ -165,6 +165,9 @@ impl<'b, D: BlockDisk, R: MapRule, J: Naming> LockedParts<'b, D, R, J> {
 
     // Sleeps until a mark is made or all are woken. `wait` ends in the lock's own wait, where each
     // woken thread sleeps once more. If few threads sleep, they try for the lock in place of that.
+    // Few threads alone: trying makes 1.05 to 1.1 times as many commits with four threads, and 0.68
+    // with 64, which take the processors from one another. How many are awaited says too little:
+    // nobody is, once a group is cut.
     fn sleep<'s, W: Wait>(
         &'s self,
         rt: &W,
@@ -181,7 +184,9 @@ impl<'b, D: BlockDisk, R: MapRule, J: Naming> LockedParts<'b, D, R, J> {
     }
 
     // Sleeps until the commit of the receipt is marked, in the hold of the lock of that commit. The
-    // session is exact before and after.
+    // session is exact before and after. The slots were given up in the hold that committed, so
+    // that nobody waits for a barrier to use them. Given up after it, four threads that wait in
+    // memory shared groups of 3.1 in place of 3.9 commits.
     fn await_mark<'s, W: Wait>(
         &'s self,
         rt: &W,
@@ -210,6 +215,8 @@ impl<'b, D: BlockDisk, R: MapRule, J: Naming> LockedParts<'b, D, R, J> {
 }
 
 impl<'j, 'b, D: BlockDisk, R: MapRule, J: Naming> Txn<'j, 'b, D, R, J> {
+    // In this module, because no guard leaves the modules of the locks. Between this call and the
+    // exchange of HEAD are seven functions alone.
     /// Commits the transaction as `commit` does, and waits until it is stable: until a mark covers
     /// it, so that no crash loses it. Its slots are released before it waits. The note covers it.
     /// The session has seen the mark, and is exact.

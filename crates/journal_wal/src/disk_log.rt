@@ -3,6 +3,8 @@ use crate::plan::Plan;
 use journal_circ::{Circ, EndPut, HomesPut, HomesSynced, LogBlocksPut, LogBlocksSynced, StartPut};
 use journal_disk::BlockDisk;
 
+// Beside the log in memory, so that each can be under a lock of its own. The cycles' first states
+// come from the opening, and no later call makes one: a step without its barrier cannot be written.
 /// The circular log with the states of its two cycles.
 #[derive(Drop)]
 pub(crate) struct DiskLog<D: BlockDisk> {

@@ -11,6 +11,8 @@ use journal_world::Refusal;
 use std::mem;
 
 impl<D: BlockDisk> Wal<D> {
+    // No cut here: a cut changes both parts, and is the core's. A group of k blocks is k + 3 calls,
+    // and k + 5 steps of a journal with its cut and its mark. A sealed log takes one less.
     /// Makes the next step of the logger for the group that `take_reserved` took. It writes one of
     /// its log blocks, of a plain log makes a barrier, writes block 0, makes a barrier. For a group
     /// of k blocks these are k + 3 steps, and k + 2 of a sealed log. It is idle if no group is in

@@ -10,6 +10,9 @@ use journal_memlog::MemLog;
 use std::alloc::{AllocError, Global};
 use std::collections::BTreeMap;
 
+// Planned once, at the installer's first step, with a `BTreeMap` from block to last position: it
+// gives the ascending order and the last position of each. This is the one step that may answer J1.
+// Contracts see the plan, so each step takes its head, and the last frees exactly what was planned.
 /// The home blocks still to be put, each with the position of its last log block.
 #[derive(Drop)]
 pub(crate) struct Plan {

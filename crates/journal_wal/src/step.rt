@@ -11,6 +11,8 @@ pub enum GroupStep {
     Logged,
 }
 
+// `Freed` has a number and no `Position`, because the kit makes no proof of a function that takes a
+// type of another crate out of such a variant.
 /// The outcome of a step of the installer.
 #[derive(Clone, Copy, Debug, PartialEq, Eq)]
 pub enum InstallStep {

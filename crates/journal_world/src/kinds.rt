@@ -41,6 +41,8 @@ const FILES: [Region; REGIONS] = [
 ];
 
 impl Layout {
+    // At most 33299 blocks, because the files' one block of bits has no bit for a further block.
+    // `with_regions` takes 2^40, whose bytes fit the numbers of a file.
     /// The layout of a disk of `blocks` blocks with files: the superblock, one block of bits, 16
     /// blocks of 32 inodes each, and data.
     ///
@@ -178,7 +180,9 @@ fn slot_among(addr: Addr, slots: u16) -> u16
     ((block + u64::from(addr.off)) % slots) as u16
 }
 
-// True if the regions begin at block 513, those in use rise, and all others come after them.
+// True if the regions begin at block 513, those in use rise, and all others come after them. Judged
+// where a layout is made, and nowhere else: the kind of a block is that of the last region that
+// begins at the block or below it, whatever the list, so no proof above needs the order.
 fn are_regions(regions: &[Region; REGIONS]) -> bool
     ensures { result ≡ are_regions regions.now }
 {

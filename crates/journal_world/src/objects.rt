@@ -11,6 +11,8 @@ use std::collections::BTreeMap;
 use std::collections::btree_map::Iter;
 use std::marker::Model;
 
+// Over a `BTreeMap`, because transactions look their own values up by address. It is not made of a
+// `Vec`, which would take a sort.
 /// Values by address, at most one for each. Contracts see the pairs, addresses ascending.
 #[derive(Debug, Drop)]
 pub struct Objects {

@@ -13,13 +13,15 @@ use crate::{Addr, BLOCK_BITS, Kind, Layout, Refusal, Value};
 /// reader gives some value of the address's kind. The reader knows whether the device failed during
 /// its reads, and answers J6 only then.
 pub trait ObjectReader {
+    // A type of the trait, in place of a type parameter on each rule.
     /// The cause that the refusals of a read hold.
     type Cause;
 
     ghost map: { Self → Map };
 
     // The map's pairs are objects. So each value is of its address's kind, even one that is not
-    // read.
+    // read. A rule then knows the length of a value that it does not read, and a mount of files
+    // reads no block that is full.
     ghost objects: { (reader : Self) → IsTrue (are_objects (map reader).layout (map reader).pairs) };
 
     ghost trusted: { Self → Bool };
@@ -45,6 +47,8 @@ pub trait ObjectReader {
         ensures same_map { map self.new ≡ map self.old }
         ensures same_trust { trusted self.new ≡ trusted self.old };
 
+    // 64 at once: a rule that goes over a block of bits would else make 32768 reads, each with a
+    // value of its own.
     /// The bits of 64 addresses in a row as one number, that of `addr` in the lowest place. Each
     /// bit is the value that `read` gives its address. The block's objects are bits, and `addr` is
     /// at a multiple of 64. The map stays.

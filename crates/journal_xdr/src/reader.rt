@@ -130,7 +130,8 @@ impl<'a> Reader<'a> {
     }
 }
 
-// The number that four bytes spell.
+// The number that four bytes spell. `byteorder` has the spelling itself as its clause for writing.
+// Back to the bytes a proof uses the standard library's lemma.
 fn word_of(bytes: &[u8]) -> u32
     requires { length bytes.now ≡ 4 }
     ensures { spelled_number w32 bytes.now ≡ Some result }

@@ -26,6 +26,9 @@ pub struct LogBlocksSynced(());
 pub struct EndPut(());
 
 impl<D: BlockDisk> Circ<D> {
+    // A slot of the log, not one of the lock map.
+    // The log blocks of a group are written one by one: gathered into one write they made no more
+    // commits (0.97 to 1.02), and so each event is one device call.
     /// Puts an update into the log block of the next position: `from` becomes the content of block
     /// `address` with the group.
     ///
