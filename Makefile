@@ -1,8 +1,8 @@
-# make install: the programs jnl and jnlfs, their manuals, their completions for bash, and the client
-# in C, into PREFIX. make install-program: those of the programs alone, which needs no C compiler. JNL
-# and JNLFS are the built programs; jnlfs is installed where it is built. MANUAL is a folder that has
-# the manuals and the completions; without one they are made from the programs' own help, which needs
-# Python 3.
+# make install: the programs jnl and jnlfs, their manuals, their completions for bash, tools/backup by
+# the name jnl-backup, and the client in C, into PREFIX. make install-program: all but the client,
+# which needs no C compiler. JNL and JNLFS are the built programs; jnlfs is installed where it is
+# built. MANUAL is a folder that has the manuals and the completions; without one they are made from
+# the programs' own help, which needs Python 3.
 PREFIX ?= /usr/local
 JNL ?= $(firstword $(wildcard bin/jnl crates/jnl/out/jnl))
 JNLFS ?= $(firstword $(wildcard bin/jnlfs crates/jnlfs/out/jnlfs))
@@ -29,5 +29,6 @@ install-program:
 	install -d $(INTO)/bin $(MAN) $(COMPLETIONS)
 	$(call install_one,jnl,$(JNL))
 	$(if $(JNLFS),$(call install_one,jnlfs,$(JNLFS)))
+	install -m 755 tools/backup $(INTO)/bin/jnl-backup
 
 .PHONY: install install-program
