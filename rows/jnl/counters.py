@@ -66,7 +66,10 @@ def a_service_counts(room):
     names = ("commits", "stable_commits", "conflicts", "connections", "log_positions")
     wants("what was counted", [more[name] for name in names], [2, 2, 1, 2, 0])
     wants("whether syncs were", more["syncs"] >= 1 and int(after["syncs"]) >= more["syncs"], True)
+    wants("the groups before, and whether each of the two commits is in one", (before["groups"], 1 <= more["groups"] <= 2), ("0", True))
     wants("the metric of commits", metrics["jnl_commits_total"], after["commits"])
-    wants("all syncs of the histogram", metrics['jnl_sync_microseconds_bucket{le="+Inf"}'], metrics["jnl_syncs_total"])
+    for name in ("sync", "group"):
+        buckets = metrics[f'jnl_{name}_microseconds_bucket{{le="+Inf"}}']
+        wants(f"all {name}s of the histogram", buckets, metrics[f"jnl_{name}s_total"])
     service.hang_up()
     stop(room, service)

@@ -57,7 +57,7 @@ const REPLACE: &str = "replace";
 const READ_ONLY: &str = "read-only";
 
 // How many connections are served at once where no number is given.
-const DEFAULT_CONNECTIONS: u64 = 64;
+const DEFAULT_CONNECTIONS: u64 = 1024;
 
 /// What the words of the command line ask for.
 #[derive(Drop)]
@@ -397,9 +397,9 @@ fn serve_command<'w>(alloc: Global) -> Result<Command<'w>, AllocError> {
     let connections = Arg::new(alloc, CONNECTIONS)
         .long(CONNECTIONS)
         .value_name("N")
-        .value_parser(value_parser!(u64).range(1..=64))
-        .default_value("64")
-        .help("How many connections are served at once, 1 to 64; further ones wait");
+        .value_parser(value_parser!(u64).range(1..=1024))
+        .default_value("1024")
+        .help("How many connections are open at once, 1 to 1024; further ones wait");
     let slots = Arg::new(alloc, SLOTS_WORD)
         .long(SLOTS_WORD)
         .value_name("S")

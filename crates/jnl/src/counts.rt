@@ -1,77 +1,58 @@
 // What a service counts.
 
-use crate::queue::Queue;
 use crate::working::OpenDisk;
 use journal_circ::LOG_POSITIONS;
+use journal_connections::{Count, LaneCount, Load};
 use journal_disk::BlockDisk;
 use journal_history::Naming;
 use journal_port::Counting;
 use journal_records::{Answer, Counter, Refused};
 use std::alloc::{AllocError, Global};
 use std::sync::Wait;
-use std::sync::atomic::{AtomicU64, Ordering};
+use std::sync::atomic::{AtomicBool, Ordering};
 use std::time::Clock;
 
-// How many classes of lengths of syncs there are. Class k has those of at least 2^k microseconds,
+// How many classes of lengths of time there are. Class k has those of at least 2^k microseconds,
 // but for class 0, and below 2^(k + 1), but for the last.
 const CLASSES: usize = 32;
 
-// The name of the counter of class 0. The others follow.
-const FIRST_CLASS: u32 = 64;
+// The name of the counter of class 0 of the syncs, and of that of the groups. The others follow.
+const FIRST_SYNC_CLASS: u32 = 64;
 
-/// A number that threads count.
+const FIRST_GROUP_CLASS: u32 = 96;
+
+/// What is counted of a kind of work that takes time.
 #[derive(Drop)]
-pub struct Count(AtomicU64);
-
-impl Count {
-    /// Nothing was counted.
-    pub fn new() -> Count {
-        Count(AtomicU64::new(0))
-    }
-
-    /// What was counted.
-    pub fn value(&self) -> u64 {
-        self.0.load(Ordering::SeqCst)
-    }
-
-    /// Counts so many more.
-    pub fn add(&self, more: u64) {
-        self.0.fetch_add(more, Ordering::SeqCst);
-    }
-
-    /// Counts one less.
-    pub fn take(&self) {
-        self.0.fetch_sub(1, Ordering::SeqCst);
-    }
-}
-
-/// What is counted of the syncs of a disk.
-#[derive(Drop)]
-pub struct SyncCounts {
-    syncs: Count,
-    // How many microseconds all of them took.
+pub struct LengthCounts {
+    // How often it was done.
+    times: Count,
+    // How many microseconds all of it took.
     micros: Count,
-    // How many there were of each class of lengths.
+    // How often it took a length of each class.
     classes: Vec<Count>,
 }
 
-impl SyncCounts {
-    /// Of a disk that was not synced.
-    pub fn new(alloc: Global) -> Result<SyncCounts, AllocError> {
+impl LengthCounts {
+    /// Of work that was not done yet.
+    ///
+    /// # Errors
+    ///
+    /// Where memory is refused.
+    pub fn new(alloc: Global) -> Result<LengthCounts, AllocError> {
         let mut classes = Vec::new(alloc);
         for _ in 0..CLASSES {
             classes.push(Count::new())?;
         }
-        Ok(SyncCounts {
-            syncs: Count::new(),
+        Ok(LengthCounts {
+            times: Count::new(),
             micros: Count::new(),
             classes,
         })
     }
 
-    /// Counts a sync that took so many microseconds.
+    /// Counts that it was done once, in as many microseconds.
     pub fn add(&self, micros: u64) {
-        self.syncs.add(1);
+        self.times.add(1);
         self.micros.add(micros);
         if let Some(class) = self.classes.get(class_of(micros)) {
             class.add(1);
@@ -79,43 +60,63 @@ impl SyncCounts {
     }
 }
 
-// The class of so many microseconds.
+// The class of as many microseconds.
 fn class_of(micros: u64) -> usize {
     let bits = 64 - (micros | 1).leading_zeros();
     (bits as usize).saturating_sub(1).min(CLASSES - 1)
 }
 
-/// What is counted of the connections of a service and of its answers.
+/// What is counted of the calls of a disk.
 #[derive(Drop)]
-pub struct ConnectionCounts {
-    /// The answers.
-    pub answers: Count,
-    /// Those that say that a compared value was another.
-    pub conflicts: Count,
-    /// The connections that are served now.
-    pub served: Count,
-    /// Those that were taken.
-    pub taken: Count,
-    /// Those that were ended because others waited.
-    pub crowded_out: Count,
-    /// The bytes that came.
-    pub received: Count,
-    /// The bytes that were sent.
-    pub sent: Count,
+pub struct DiskCounts {
+    /// The syncs.
+    pub syncs: LengthCounts,
+    /// The groups of its log, each from its first write to the end of the sync after its last one.
+    pub groups: LengthCounts,
+    has_opened: AtomicBool,
 }
 
-impl ConnectionCounts {
-    /// Of a service that has served none.
-    pub fn new() -> ConnectionCounts {
-        ConnectionCounts {
-            answers: Count::new(),
+impl DiskCounts {
+    /// Of a disk that is not opened yet.
+    ///
+    /// # Errors
+    ///
+    /// Where memory is refused.
+    pub fn new(alloc: Global) -> Result<DiskCounts, AllocError> {
+        Ok(DiskCounts {
+            syncs: LengthCounts::new(alloc)?,
+            groups: LengthCounts::new(alloc)?,
+            has_opened: AtomicBool::new(false),
+        })
+    }
+
+    /// From now on groups are counted: what an opening writes of the log is none.
+    pub fn note_opened(&self) {
+        self.has_opened.store(true, Ordering::SeqCst);
+    }
+
+    /// True if the disk was opened.
+    pub fn has_opened(&self) -> bool {
+        self.has_opened.load(Ordering::SeqCst)
+    }
+}
+
+/// What is counted of the answers of a service.
+#[derive(Drop)]
+pub struct AnswerCounts {
+    /// The answers.
+    pub answers: LaneCount,
+    /// Those that say that a compared value was another.
+    pub conflicts: Count,
+}
+
+impl AnswerCounts {
+    /// Of a service that has answered nothing, by as many workers.
+    pub fn new(alloc: Global, workers: u64) -> Result<AnswerCounts, AllocError> {
+        Ok(AnswerCounts {
+            answers: LaneCount::new(alloc, workers)?,
             conflicts: Count::new(),
-            served: Count::new(),
-            taken: Count::new(),
-            crowded_out: Count::new(),
-            received: Count::new(),
-            sent: Count::new(),
-        }
+        })
     }
 }
 
@@ -125,10 +126,12 @@ pub struct Figures<'s, 'j, 'b, D: BlockDisk, J: Naming, R> {
     pub rt: &'s R,
     /// What is served.
     pub disk: &'s OpenDisk<'j, 'b, D, J>,
-    /// The connections that wait.
-    pub queue: &'s Queue,
-    /// What was counted of the others.
-    pub connections: &'s ConnectionCounts,
+    /// What was counted of the answers.
+    pub answers: &'s AnswerCounts,
+    /// The connections.
+    pub load: &'s Load,
+    /// The number of the worker that serves the client.
+    pub worker: usize,
 }
 
 impl<'s, 'j, 'b, D: BlockDisk, J: Naming, R> Drop for Figures<'s, 'j, 'b, D, J, R> {
@@ -136,8 +139,9 @@ impl<'s, 'j, 'b, D: BlockDisk, J: Naming, R> Drop for Figures<'s, 'j, 'b, D, J, 
         let Figures {
             rt: _,
             disk: _,
-            queue: _,
-            connections: _,
+            answers: _,
+            load: _,
+            worker: _,
         } = self;
     }
 }
@@ -150,14 +154,14 @@ impl<'s, 'j, 'b, D: BlockDisk, J: Naming, R: Clock + Wait> Counting
         let mut counters = Vec::new(alloc);
         self.add_log(&mut counters)?;
         self.add_connections(&mut counters)?;
-        self.add_syncs(&mut counters)?;
+        self.add_disk(&mut counters)?;
         Ok(counters)
     }
 
     fn note(&self, told: &Answer) {
-        self.connections.answers.add(1);
+        self.answers.answers.add(self.worker, 1);
         if matches!(told, Answer::Refused(Refused::Conflict)) {
-            self.connections.conflicts.add(1);
+            self.answers.conflicts.add(1);
         }
     }
 }
@@ -175,11 +179,11 @@ impl<'s, 'j, 'b, D: BlockDisk, J: Naming, R: Clock + Wait> Figures<'s, 'j, 'b, D
 
     // Adds those of the connections, and the seconds since the opening where the clock can be read.
     fn add_connections(&self, counters: &mut Vec<Counter>) -> Result<(), AllocError> {
-        let counts = self.connections;
-        add(counters, 8, counts.conflicts.value())?;
-        add(counters, 9, counts.answers.value())?;
-        add(counters, 10, counts.served.value())?;
-        add(counters, 11, self.queue.count())?;
+        let counts = &self.load.counts;
+        add(counters, 8, self.answers.conflicts.value())?;
+        add(counters, 9, self.answers.answers.value())?;
+        add(counters, 10, counts.open.value())?;
+        add(counters, 11, counts.ready.value())?;
         add(counters, 12, counts.taken.value())?;
         add(counters, 13, counts.crowded_out.value())?;
         add(counters, 14, counts.received.value())?;
@@ -190,18 +194,34 @@ impl<'s, 'j, 'b, D: BlockDisk, J: Naming, R: Clock + Wait> Figures<'s, 'j, 'b, D
         }
     }
 
-    // Adds those of the syncs.
-    fn add_syncs(&self, counters: &mut Vec<Counter>) -> Result<(), AllocError> {
-        let counts = self.disk.syncs;
-        add(counters, 4, counts.syncs.value())?;
-        add(counters, 17, counts.micros.value())?;
-        let mut name = FIRST_CLASS;
-        for class in counts.classes.iter() {
-            add(counters, name, class.value())?;
-            name = name.saturating_add(1);
-        }
-        Ok(())
+    // Adds those of the disk.
+    fn add_disk(&self, counters: &mut Vec<Counter>) -> Result<(), AllocError> {
+        let DiskCounts {
+            syncs,
+            groups,
+            has_opened: _,
+        } = self.disk.counts;
+        add(counters, 3, groups.times.value())?;
+        add(counters, 4, syncs.times.value())?;
+        add(counters, 17, syncs.micros.value())?;
+        add(counters, 18, groups.micros.value())?;
+        add_classes(counters, FIRST_SYNC_CLASS, syncs)?;
+        add_classes(counters, FIRST_GROUP_CLASS, groups)
     }
+}
+
+// Adds those of classes of lengths, of which the first has this name.
+fn add_classes(
+    counters: &mut Vec<Counter>,
+    first: u32,
+    lengths: &LengthCounts,
+) -> Result<(), AllocError> {
+    let mut name = first;
+    for class in lengths.classes.iter() {
+        add(counters, name, class.value())?;
+        name = name.saturating_add(1);
+    }
+    Ok(())
 }
 
 fn add(counters: &mut Vec<Counter>, name: u32, value: u64) -> Result<(), AllocError> {

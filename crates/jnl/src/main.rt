@@ -14,12 +14,8 @@ mod counted_disk;
 mod counts;
 mod disks;
 mod labels;
-mod listener;
 mod numbering;
-mod peer;
-mod queue;
 mod serving;
-mod socket;
 mod stat;
 mod stopping;
 mod working;
@@ -105,7 +101,7 @@ fn obey<
             replaces,
         } => copying::back_up(rt, alloc, path, copy, replaces, output),
         Subcommand::Seal { path, form } => disks::seal(rt, alloc, path, form, output),
-        Subcommand::Serve(service) => serving::serve(rt, alloc, service, output),
+        Subcommand::Serve(service) => serving::serve(rt, alloc, service, output, faults),
         Subcommand::Stat { socket, form } => stat::stat(rt, alloc, socket, form, output),
         Subcommand::Stop { socket } => stopping::stop(rt, alloc, socket),
     }

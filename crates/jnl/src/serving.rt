@@ -1,15 +1,17 @@
 // A disk is served to programs in any language.
-ghost use Rattle.std.specs.Prelude.{◌≡◌, IfOk};
+ghost use Rattle.std.specs.Prelude.{◌≡◌, ◌-◌, min, max, IfOk};
+ghost use Rattle.jnl.specs.declared.serving.TheConstants.{OWN_FILES};
 ghost use Rattle.journal_world.specs.Files.{shape};
 ghost use Rattle.journal_commands.specs.Layouts.{asked_shape, told_or, told_of};
 
 use crate::counted_disk::CountedDisk;
-use crate::counts::{SyncCounts, micros};
-use crate::listener::Listener;
+use crate::counts::{AnswerCounts, DiskCounts, micros};
 use crate::numbering::opening_number;
-use crate::socket;
-use crate::working::{Listeners, OpenDisk, OpenJournal, Workers, WorkersFault};
-use journal_commands::{AskedLayout, Fault, find, print_line, settle, told};
+use crate::working::{Answering, OpenDisk, OpenJournal, fail};
+use journal_commands::{
+    AskedLayout, Fault, find, make_socket, print_line, remove_socket, settle, told,
+};
+use journal_connections::{Ending, Entrance, Listener, Load, PoolFault, PoolSize, file_numbers};
 use journal_disk::BlockDisk;
 use journal_history::{Book, Naming};
 use journal_lockmap::SlotCell;
@@ -23,9 +25,16 @@ use std::marker::Brand;
 use std::net::{Ipv4Addr, Net, TcpListener, TcpStream};
 use std::random::RandomSource;
 use std::sync::Wait;
-use std::thread;
 use std::thread::Threads;
 use std::time::Clock;
+use std::{io, thread};
+
+// How many files are kept for all but connections: the disk, listeners, outputs, what is watched,
+// and what a folder or a further connection takes for a moment.
+const OWN_FILES: u64 = 24;
+
+// How many workers there are at most: connections that wait for their commits at one time.
+const MOST_WORKERS: u64 = 64;
 
 /// A service that is asked for.
 #[derive(Clone, Copy)]
@@ -36,7 +45,7 @@ pub struct Service<'w> {
     pub socket: &'w str,
     /// The port of this machine, or 0 for one that is free, where there is to be one.
     pub port: Option<u16>,
-    /// How many connections are served at once.
+    /// How many connections are open at once.
     pub connections: u64,
     /// The layout that is asked for, whatever number of blocks the disk has.
     pub layout: AskedLayout,
@@ -54,7 +63,8 @@ struct LaidOut {
 
 /// Serves the disk in the file until a client ends the service. Prints where it listens before the
 /// first connection is accepted, and that it has stopped once all commits are stable and the socket
-/// is gone.
+/// is gone. Where the system lets it open fewer files than connections are asked for, it says to
+/// `faults` how many are open at most.
 ///
 /// Where the device fails, what is under way is answered, all else is refused, and the service ends
 /// by `DeviceFailed`. All that was answered as stable is there at the next start.
@@ -77,17 +87,53 @@ pub fn serve<
         + Wait
         + Sync,
     O: Write,
->(rt: &R, alloc: Global, service: Service<'w>, output: &mut O) -> Result<(), Fault<'w>> {
+    E: Write,
+>(
+    rt: &R,
+    alloc: Global,
+    service: Service<'w>,
+    output: &mut O,
+    faults: &mut E,
+) -> Result<(), Fault<'w>> {
     let disk = if service.is_read_only {
         open_shared(rt, alloc, service)?
     } else {
         open_alone(rt, alloc, service)?
     };
-    let listeners = open_listeners(rt, alloc, service, output)?;
-    let served = serve_disk(rt, alloc, disk, service, &listeners, output);
-    socket::remove(rt, service.socket);
+    let service = Service {
+        connections: allowed(service.connections, faults),
+        ..service
+    };
+    let entrance = open_entrance(rt, alloc, service, output)?;
+    let served = serve_disk(rt, alloc, disk, service, entrance, output);
+    remove_socket(rt, service.socket);
     served?;
     print_line(output, "stopped", "")
+}
+
+// How many connections are open at most, where as many are asked for: fewer where the system lets
+// the program have fewer files open, and then it says so.
+fn allowed<E: Write>(asked: u64, faults: &mut E) -> u64 {
+    let Some(files) = file_numbers() else {
+        return asked;
+    };
+    let most = most_connections(asked, files);
+    if most < asked {
+        // The service does not depend on whether this can be printed.
+        let _ = writeln!(
+            faults,
+            "jnl: the system lets it open {files} files, so {most} connections are open at most"
+        );
+    }
+    most
+}
+
+// As many connections as are asked for and as have a file each beside the program's own, and one at
+// least.
+fn most_connections(asked: u64, files: u64) -> u64
+    ensures { result ≡ min asked (max (files - OWN_FILES) 1) }
+{
+    files.saturating_sub(OWN_FILES).max(1).min(asked)
 }
 
 // Opens the disk to write it.
@@ -158,26 +204,43 @@ fn lay_out<'w>(facts: &DiskFacts, service: Service<'w>) -> Result<Layout, Fault<
 }
 
 // Opens the port, where one is asked for, and the socket.
-fn open_listeners<'w, R: Files + Net<Listener = TcpListener, Stream = TcpStream>, O: Write>(
+fn open_entrance<'w, R: Files + Net<Listener = TcpListener, Stream = TcpStream>, O: Write>(
     rt: &R,
     alloc: Global,
     service: Service<'w>,
     output: &mut O,
-) -> Result<Listeners, Fault<'w>> {
+) -> Result<Entrance, Fault<'w>> {
     let port = match service.port {
         Some(number) => Some(open_port(rt, number, output)?),
         None => None,
     };
-    match socket::listen(rt, alloc, service.socket) {
-        Ok(listener) => Ok(Listeners {
-            socket: Listener::Socket(listener),
-            port,
-        }),
-        Err(why) => Err(Fault::File {
-            path: service.socket,
-            why,
-        }),
+    let path = service.socket;
+    let socket = match make_socket(rt, alloc, path) {
+        Ok(listener) => Listener::Socket(listener),
+        Err(why) => return Err(Fault::File { path, why }),
+    };
+    match listen_at(rt, alloc, socket, port) {
+        Ok(entrance) => Ok(entrance),
+        Err(_) => {
+            remove_socket(rt, path);
+            Err(Fault::CannotListen)
+        }
     }
+}
+
+// Takes connections from the socket, and from the port if there is one.
+fn listen_at<R: Net>(
+    rt: &R,
+    alloc: Global,
+    socket: Listener,
+    port: Option<Listener>,
+) -> io::Result<Entrance> {
+    let mut listeners = Vec::new(alloc);
+    listeners.push(socket)?;
+    if let Some(port) = port {
+        listeners.push(port)?;
+    }
+    Entrance::new(rt, listeners)
 }
 
 // Opens the port, and prints which it is.
@@ -204,7 +267,7 @@ fn serve_disk<'w, R: Clock + Threads + Wait + Sync, O: Write>(
     alloc: Global,
     disk: LaidOut,
     service: Service<'w>,
-    listeners: &Listeners,
+    entrance: Entrance,
     output: &mut O,
 ) -> Result<(), Fault<'w>> {
     let Ok(book) = Book::<AnyMap>::open::<()>() else {
@@ -213,7 +276,7 @@ fn serve_disk<'w, R: Clock + Threads + Wait + Sync, O: Write>(
     let Ok(cell) = SlotCell::open(alloc) else {
         return Err(Fault::NoMemory);
     };
-    serve_book::<Brand, R, O>(rt, alloc, &book, cell, disk, service, listeners, output)
+    serve_book::<Brand, R, O>(rt, alloc, &book, cell, disk, service, entrance, output)
 }
 
 // Opens the journal, serves it, and gives the disk up.
@@ -224,14 +287,14 @@ fn serve_book<'w, J: Naming + Send + Sync, R: Clock + Threads + Wait + Sync, O: 
     cell: SlotCell,
     disk: LaidOut,
     service: Service<'w>,
-    listeners: &Listeners,
+    entrance: Entrance,
     output: &mut O,
 ) -> Result<(), Fault<'w>>
     requires book { book.now ≡ J.book }
     requires cell { cell ≡ J.cell }
     requires layout { shape disk.layout ≡ J.layout }
 {
-    let Ok(syncs) = SyncCounts::new(alloc) else {
+    let Ok(counts) = DiskCounts::new(alloc) else {
         return Err(Fault::NoMemory);
     };
     let LaidOut {
@@ -239,7 +302,7 @@ fn serve_book<'w, J: Naming + Send + Sync, R: Clock + Threads + Wait + Sync, O: 
         disk,
         number,
     } = disk;
-    let disk = CountedDisk::over(rt, disk, &syncs);
+    let disk = CountedDisk::over(rt, disk, &counts);
     let opened = Journal::open_layout(alloc, book, cell, layout, disk, &AnyMap, MAX_CACHED_BLOCKS);
     let journal: OpenJournal<CountedDisk<SizedDisk, R>, J> = match opened {
         Ok(journal) => journal,
@@ -247,16 +310,17 @@ fn serve_book<'w, J: Naming + Send + Sync, R: Clock + Threads + Wait + Sync, O: 
             return Err(Fault::failed_or_refused(service.path, disk.into_inner(), refusal));
         }
     };
+    counts.note_opened();
     let open = OpenDisk {
         alloc,
         journal: &journal,
         layout,
         number,
         opened_at: micros(rt),
-        syncs: &syncs,
+        counts: &counts,
         may_write: !service.is_read_only,
     };
-    let served = serve_beside_daemon(rt, &open, service, listeners, output);
+    let served = serve_beside_daemon(rt, &open, service, entrance, output);
     drop(open);
     let disk = journal.into_disk().disk.into_inner();
     ended(service.path, disk, served)
@@ -274,8 +338,24 @@ fn ended<'w>(
     }
 }
 
-// Serves while the daemon runs, and ends it. All commits are stable then. The daemon ends by itself
-// only where the device failed, and the service with it.
+// All that the threads of a service share.
+struct Serving<'s, 'j, 'b, D: BlockDisk, J: Naming> {
+    answering: Answering<'s, 'j, 'b, D, J>,
+    ending: Ending<'s>,
+    daemon: Daemon,
+}
+
+impl<'s, 'j, 'b, D: BlockDisk, J: Naming> Drop for Serving<'s, 'j, 'b, D, J> {
+    fn drop(self) {
+        let Serving {
+            answering: _,
+            ending: _,
+            daemon: _,
+        } = self;
+    }
+}
+
+// Serves while the daemon runs, and ends it. All commits are stable then.
 fn serve_beside_daemon<
     'w,
     'b,
@@ -287,37 +367,78 @@ fn serve_beside_daemon<
     rt: &R,
     disk: &OpenDisk<'_, 'b, D, J>,
     service: Service<'w>,
-    listeners: &Listeners,
+    entrance: Entrance,
     output: &mut O,
 ) -> Result<(), Fault<'w>> {
-    let Ok(workers) = Workers::new(disk, listeners) else {
+    let size = PoolSize {
+        workers: service.connections.min(MOST_WORKERS),
+        connections: service.connections,
+    };
+    let (Ok(load), Ok(answers)) = (
+        Load::new(disk.alloc, size),
+        AnswerCounts::new(disk.alloc, size.workers),
+    ) else {
+        return Err(Fault::NoMemory);
+    };
+    let Ok(ending) = Ending::new(disk.alloc, &load, &entrance) else {
         return Err(Fault::CannotListen);
     };
-    let workers = &workers;
-    let journal = disk.journal;
-    let daemon = if disk.may_write {
+    let serving = Serving {
+        answering: Answering {
+            disk,
+            answers: &answers,
+            load: &load,
+        },
+        ending,
+        daemon: daemon_of(disk.may_write),
+    };
+    serve_threads(rt, &serving, service, entrance, output)
+}
+
+// The daemon of a disk that may be written or not.
+fn daemon_of(may_write: bool) -> Daemon {
+    if may_write {
         Daemon::new()
     } else {
         Daemon::without_installer()
-    };
-    let daemon = &daemon;
+    }
+}
+
+// The same, once all is there that the threads share.
+fn serve_threads<
+    'w,
+    'b,
+    D: BlockDisk + Send,
+    J: Naming + Send + Sync,
+    R: Clock + Threads + Wait + Sync,
+    O: Write,
+>(
+    rt: &R,
+    serving: &Serving<'_, '_, 'b, D, J>,
+    service: Service<'w>,
+    entrance: Entrance,
+    output: &mut O,
+) -> Result<(), Fault<'w>> {
     thread::scope(thread::scope_env(), rt, |scope| -> Result<(), Fault<'_>> {
-        let run_daemon = || {
-            daemon.run(rt, journal);
-            workers.fail(rt);
-        };
-        let runs = scope.spawn(run_daemon).is_ok() && daemon.is_running(rt);
+        let runs = scope.spawn(|| run_daemon(rt, serving)).is_ok() && serving.daemon.is_running(rt);
         let served = if runs {
-            serve_clients(rt, workers, service, listeners, output)
+            serve_clients(rt, serving, service, entrance, output)
         } else {
             Err(Fault::NoMemory)
         };
-        workers.end(rt);
-        let flushed = flush(rt, journal, service.path);
-        journal.stop(rt);
+        let finished = finish(rt, serving, service.path);
         served?;
-        flushed
+        finished
     })
+}
+
+// Runs the daemon. It ends by itself only where the device failed, and the service with it.
+fn run_daemon<'b, D: BlockDisk + Send, J: Naming + Send + Sync, R: Clock + Threads + Wait + Sync>(
+    rt: &R,
+    serving: &Serving<'_, '_, 'b, D, J>,
+) {
+    serving.daemon.run(rt, serving.answering.disk.journal);
+    fail(rt, &serving.ending);
 }
 
 // Prints that the service listens, and serves what comes in.
@@ -330,17 +451,37 @@ fn serve_clients<
     O: Write,
 >(
     rt: &R,
-    workers: &Workers<'_, '_, 'b, D, J>,
+    serving: &Serving<'_, '_, 'b, D, J>,
     service: Service<'w>,
-    listeners: &Listeners,
+    entrance: Entrance,
     output: &mut O,
 ) -> Result<(), Fault<'w>> {
     print_line(output, "listening on ", service.socket)?;
-    match workers.serve(rt, service.connections, listeners) {
+    let answering = &serving.answering;
+    match journal_connections::serve(
+        rt,
+        answering.disk.alloc,
+        answering,
+        &serving.ending,
+        entrance,
+    ) {
         Ok(()) => Ok(()),
-        Err(WorkersFault::NoThread) => Err(Fault::NoMemory),
-        Err(WorkersFault::CannotAccept) => Err(Fault::CannotListen),
+        Err(PoolFault::NoMemory) => Err(Fault::NoMemory),
+        Err(PoolFault::CannotAccept) => Err(Fault::CannotListen),
     }
+}
+
+// Ends the service, waits until all commits are stable, and stops the journal.
+fn finish<'w, 'b, D: BlockDisk, J: Naming, W: Wait>(
+    rt: &W,
+    serving: &Serving<'_, '_, 'b, D, J>,
+    path: &'w str,
+) -> Result<(), Fault<'w>> {
+    serving.ending.end();
+    let journal = serving.answering.disk.journal;
+    let flushed = flush(rt, journal, path);
+    journal.stop(rt);
+    flushed
 }
 
 // Waits until all commits are stable.

@@ -9,14 +9,9 @@ use std::io::Write;
 use std::net::Net;
 use std::os::unix::net::UnixStream;
 
-// The counters of the lengths of syncs: that of class k has the name FIRST_CLASS + k, and counts
-// those below 2^(k + 1) microseconds, which no class below counts. The last has all others.
-const FIRST_CLASS: u32 = 64;
-
-const LAST_CLASS: u32 = 95;
-
-// The counter of the microseconds of all syncs.
-const SYNC_MICROS: u32 = 17;
+// How many classes of lengths there are. The class k has those below 2^(k + 1) microseconds that no
+// class below has, and the last has all others.
+const CLASSES: u32 = 32;
 
 /// How counters are printed.
 #[derive(Clone, Copy, Debug, PartialEq, Eq)]
@@ -95,15 +90,15 @@ const ROWS: [Row; 16] = [
     },
     Row {
         number: 10,
-        name: "connections_served",
+        name: "connections_open",
         rises: false,
-        help: "Connections that are being served",
+        help: "Connections that are open",
     },
     Row {
         number: 11,
         name: "connections_waiting",
         rises: false,
-        help: "Connections that wait for their turn",
+        help: "Open connections that have sent something and wait for their turn",
     },
     Row {
         number: 12,
@@ -136,6 +131,49 @@ const ROWS: [Row; 16] = [
         help: "Seconds since the disk was opened",
     },
 ];
+
+// The counters of the lengths of one kind of work.
+#[derive(Clone, Copy)]
+struct Lengths {
+    // The counter of the microseconds of all of it.
+    micros: u32,
+    // The counter of class 0. The others follow.
+    first: u32,
+    // What is printed before `_microseconds`, and for each class before `_from_`.
+    name: &'static str,
+    classes: &'static str,
+    help: &'static str,
+}
+
+const LENGTHS: [Lengths; 2] = [
+    Lengths {
+        micros: 17,
+        first: 64,
+        name: "sync",
+        classes: "syncs",
+        help: "How long syncs of the disk took",
+    },
+    Lengths {
+        micros: 18,
+        first: 96,
+        name: "group",
+        classes: "groups",
+        help: "How long groups of the log took, from the first write to the end of the sync",
+    },
+];
+
+// What a counter is of.
+#[derive(Clone, Copy)]
+enum Kind {
+    // A row of its own.
+    Row(Row),
+    // The microseconds of all work of a kind.
+    Micros(Lengths),
+    // A class of the lengths of a kind of work, by its number.
+    Class(Lengths, u32),
+    // This program does not know it.
+    Other,
+}
 
 // What a service answers who asks for its counters.
 #[derive(Drop)]
@@ -200,16 +238,18 @@ fn print_lines<O: Write>(told: &Told, output: &mut O) -> io::Result<()> {
 // Prints a counter. One that this program does not know is printed by its number.
 fn print_line<O: Write>(counter: &Counter, output: &mut O) -> io::Result<()> {
     let Counter { name, value } = *counter;
-    if name == SYNC_MICROS {
-        return writeln!(output, "sync_microseconds {value}");
-    }
-    if is_class(name) {
-        let least = least_micros(name);
-        return writeln!(output, "syncs_from_{least}_microseconds {value}");
-    }
-    match row_of(name) {
-        Some(row) => writeln!(output, "{} {value}", row.name),
-        None => writeln!(output, "counter_{name} {value}"),
+    match kind_of(name) {
+        Kind::Row(row) => writeln!(output, "{} {value}", row.name),
+        Kind::Micros(lengths) => writeln!(output, "{}_microseconds {value}", lengths.name),
+        Kind::Class(lengths, class) => {
+            let least = least_micros(class);
+            writeln!(
+                output,
+                "{}_from_{least}_microseconds {value}",
+                lengths.classes
+            )
+        }
+        Kind::Other => writeln!(output, "counter_{name} {value}"),
     }
 }
 
@@ -224,7 +264,12 @@ fn print_for_prometheus<O: Write>(told: &Told, output: &mut O) -> io::Result<()>
             print_metric(row, counter.value, output)?;
         }
     }
-    print_histogram(told, output)
+    for lengths in LENGTHS.iter() {
+        if is_told(told, lengths.micros) {
+            print_histogram(*lengths, told, output)?;
+        }
+    }
+    Ok(())
 }
 
 fn print_metric<O: Write>(row: Row, value: u64, output: &mut O) -> io::Result<()> {
@@ -239,31 +284,47 @@ fn print_metric<O: Write>(row: Row, value: u64, output: &mut O) -> io::Result<()
     writeln!(output, "jnl_{name}{total} {value}")
 }
 
-// Prints the lengths of syncs as a histogram, whose buckets have all syncs up to a length.
-fn print_histogram<O: Write>(told: &Told, output: &mut O) -> io::Result<()> {
+// Prints the lengths of a kind of work as a histogram, whose buckets have all work up to a length.
+fn print_histogram<O: Write>(lengths: Lengths, told: &Told, output: &mut O) -> io::Result<()> {
+    let Lengths {
+        micros,
+        first: _,
+        name,
+        classes: _,
+        help,
+    } = lengths;
     writeln!(
         output,
-        "# HELP jnl_sync_microseconds How long syncs of the disk took\n# TYPE jnl_sync_microseconds histogram"
+        "# HELP jnl_{name}_microseconds {help}\n# TYPE jnl_{name}_microseconds histogram"
     )?;
+    let all = print_buckets(lengths, told, output)?;
+    writeln!(
+        output,
+        "jnl_{name}_microseconds_sum {}",
+        value_of(told, micros)
+    )?;
+    writeln!(output, "jnl_{name}_microseconds_count {all}")
+}
+
+// Prints its buckets, and answers how much work all of them have.
+fn print_buckets<O: Write>(lengths: Lengths, told: &Told, output: &mut O) -> io::Result<u64> {
+    let Lengths { first, name, .. } = lengths;
     let mut shorter: u64 = 0;
-    for counter in told.counters.iter() {
-        if is_class(counter.name) && counter.name < LAST_CLASS {
-            shorter = shorter.saturating_add(counter.value);
-            let most = least_micros(counter.name + 1).saturating_sub(1);
+    for class in 0..CLASSES {
+        shorter = shorter.saturating_add(value_of(told, first.saturating_add(class)));
+        if class + 1 < CLASSES {
+            let most = least_micros(class + 1).saturating_sub(1);
             writeln!(
                 output,
-                "jnl_sync_microseconds_bucket{{le=\"{most}\"}} {shorter}"
+                "jnl_{name}_microseconds_bucket{{le=\"{most}\"}} {shorter}"
             )?;
         }
     }
-    let all = shorter.saturating_add(value_of(told, LAST_CLASS));
-    writeln!(output, "jnl_sync_microseconds_bucket{{le=\"+Inf\"}} {all}")?;
     writeln!(
         output,
-        "jnl_sync_microseconds_sum {}",
-        value_of(told, SYNC_MICROS)
+        "jnl_{name}_microseconds_bucket{{le=\"+Inf\"}} {shorter}"
     )?;
-    writeln!(output, "jnl_sync_microseconds_count {all}")
+    Ok(shorter)
 }
 
 // The row of a counter that is one of its own.
@@ -279,14 +340,31 @@ fn value_of(told: &Told, number: u32) -> u64 {
     }
 }
 
-// True if the counter is that of a class of lengths.
-fn is_class(number: u32) -> bool {
-    number >= FIRST_CLASS && number <= LAST_CLASS
+// True if the service counts that.
+fn is_told(told: &Told, number: u32) -> bool {
+    told.counters.iter().any(|counter| counter.name == number)
 }
 
-// How many microseconds a sync of the class takes at least.
-fn least_micros(number: u32) -> u64 {
-    match number.saturating_sub(FIRST_CLASS) {
+// What the counter of this number is of.
+fn kind_of(number: u32) -> Kind {
+    if let Some(row) = row_of(number) {
+        return Kind::Row(row);
+    }
+    for lengths in LENGTHS.iter() {
+        if number == lengths.micros {
+            return Kind::Micros(*lengths);
+        }
+        match number.checked_sub(lengths.first) {
+            Some(class) if class < CLASSES => return Kind::Class(*lengths, class),
+            _ => {}
+        }
+    }
+    Kind::Other
+}
+
+// How many microseconds a length of the class is at least.
+fn least_micros(class: u32) -> u64 {
+    match class {
         0 => 0,
         class => 1u64.checked_shl(class).unwrap_or(u64::MAX),
     }

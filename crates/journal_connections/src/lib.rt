@@ -4,7 +4,7 @@
 //! connection for a turn at a time: until the connection ends, or until it pauses between two
 //! requests, with nothing of the next one read and no answer owed.
 //!
-//! A `Pool` has workers, each in a thread of its own. Where there are no more connections than
+//! `serve` has workers, each in a thread of its own. Where there are no more connections than
 //! workers, each connection has a worker that reads it. Where there are more, those with nothing to
 //! read rest: the system says when something comes (`epoll`), and until then such a connection
 //! takes neither a thread nor a buffer. Those with something to read are ready, and are served in
@@ -18,6 +18,7 @@
 mod clock;
 mod connection;
 mod counts;
+mod entrance;
 mod limits;
 mod listener;
 mod load;
@@ -29,9 +30,10 @@ mod resting;
 mod service;
 
 pub use counts::{ConnectionCounts, Count, LaneCount};
+pub use entrance::{Ending, Entrance};
 pub use limits::file_numbers;
 pub use listener::Listener;
 pub use load::{Load, PoolSize};
 pub use peer::{Incoming, Outgoing, Peer};
-pub use pool::{Entrance, Pool, PoolFault};
+pub use pool::{PoolFault, serve};
 pub use service::{Service, Turned};

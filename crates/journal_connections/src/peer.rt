@@ -91,8 +91,9 @@ impl<'c, 'l, 'r, R: Clock + Wait> Peer<'c, 'l, 'r, R> {
             && !self.load.has_ended()
     }
 
-    /// Before more is read: so many bytes of a record have come that has begun. Where they are many,
-    /// it waits until there is room for a long record, and whoever waits longest has room first.
+    /// Called before more is read, with the number of bytes that have come of a record that has
+    /// begun. Where they are many, it waits until there is room for a long record. The connection
+    /// that has waited longest has room first.
     pub fn note_begun(&self, bytes: usize) {
         let is_long = bytes > SHORT_RECORD_BYTES;
         if is_long == self.has_room.load(Ordering::SeqCst) {

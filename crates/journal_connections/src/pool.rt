@@ -3,20 +3,20 @@ ghost use Rattle.std.specs.Prelude.{◌<◌, length};
 
 use crate::clock::millis;
 use crate::connection::{Connection, TURN_MILLIS, close, close_at_rest, prepare};
-use crate::listener::{Accepted, Closer, Listener, NoMore};
+use crate::entrance::{Ending, Entrance};
+use crate::listener::{Accepted, Listener, NoMore};
 use crate::load::Load;
 use crate::peer::{MILLIS_ALONE, MILLIS_IN_CROWD, Peer};
 use crate::ready::Ready;
 use crate::resting::Resting;
 use crate::service::{Service, Turned};
-use mio::{Events, Poll, Token, Waker};
+use mio::{Events, Poll};
 use std::alloc::Global;
-use std::net::Net;
 use std::sync::Wait;
 use std::sync::atomic::{AtomicBool, Ordering};
+use std::thread;
 use std::thread::Threads;
 use std::time::{Clock, Duration};
-use std::{io, thread};
 
 // The most bytes that are read at once. The requests of a piece that wait are waited for once.
 const PIECE_BYTES: usize = 131_072;
@@ -24,37 +24,12 @@ const PIECE_BYTES: usize = 131_072;
 // How many connections that have something to read are told at once.
 const EVENTS_AT_ONCE: usize = 64;
 
-// The number under which the end of a service is told.
-const END: usize = usize::MAX;
-
 // How often it is looked whether there is room for one more connection.
 const LOOK_MILLIS: u64 = 10;
 
 // For how many milliseconds a connection has rested at least that is ended where the system has no
 // file number left. So none is ended whose peer makes one call after the other.
 const MILLIS_AT_REST: u64 = 1_000;
-
-/// Where a service takes connections from, and by what it learns which of them sent something.
-#[derive(Drop)]
-pub struct Entrance {
-    /// What connections are accepted from.
-    pub listeners: Vec<Listener>,
-    poll: Poll,
-    waker: Waker,
-}
-
-impl Entrance {
-    /// Connections come to these listeners. Refused where the system refuses to watch connections.
-    pub fn new<N: Net>(net: &N, listeners: Vec<Listener>) -> io::Result<Entrance> {
-        let poll = Poll::new(net)?;
-        let waker = Waker::new(poll.registry(), Token(END))?;
-        Ok(Entrance {
-            listeners,
-            poll,
-            waker,
-        })
-    }
-}
 
 /// Why a service did not begin, or ended without having been asked to.
 #[derive(Clone, Copy, Debug, PartialEq, Eq)]
@@ -65,70 +40,70 @@ pub enum PoolFault {
     CannotAccept,
 }
 
-/// What the threads of a service share.
-pub struct Pool<'s, S: Service> {
+/// Serves what comes in by the entrance, until a client ends the service or another thread does.
+///
+/// # Errors
+///
+/// - `NoMemory`: nothing was served, or no more is.
+/// - `CannotAccept`: those that were accepted have been served.
+///
+/// The service has ended then.
+pub fn serve<S: Service + Sync, R: Clock + Threads + Wait + Sync>(
+    rt: &R,
+    alloc: Global,
+    service: &S,
+    ending: &Ending<'_>,
+    entrance: Entrance,
+) -> Result<(), PoolFault> {
+    let Entrance {
+        listeners,
+        poll,
+        registry,
+    } = entrance;
+    let pool = Pool {
+        service,
+        load: ending.load,
+        ending,
+        ready: Ready::new(alloc),
+        resting: Resting::new(alloc, registry),
+        has_failed: AtomicBool::new(false),
+    };
+    pool.serve(rt, alloc, &listeners, poll)
+}
+
+// What the threads of a service share.
+struct Pool<'s, 'l, S: Service> {
     service: &'s S,
-    load: &'s Load,
+    load: &'l Load,
+    ending: &'s Ending<'l>,
     ready: Ready<S::Session>,
     resting: Resting<S::Session>,
-    closers: Vec<Closer>,
-    waker: Waker,
     // Whether a listener could accept no connection, for a reason that does not pass.
     has_failed: AtomicBool,
 }
 
-impl<'s, S: Service> Drop for Pool<'s, S> {
+impl<'s, 'l, S: Service> Drop for Pool<'s, 'l, S> {
     fn drop(self) {
         let Pool {
             service: _,
             load: _,
+            ending: _,
             ready: _,
             resting: _,
-            closers: _,
-            waker: _,
             has_failed: _,
         } = self;
     }
 }
 
-impl<'s, S: Service + Sync> Pool<'s, S> {
-    /// A pool that answers by the service. Refused where the system refuses another number of a
-    /// file.
-    pub fn new(
-        alloc: Global,
-        service: &'s S,
-        load: &'s Load,
-        entrance: &Entrance,
-    ) -> io::Result<Self> {
-        let mut closers = Vec::new(alloc);
-        for listener in entrance.listeners.iter() {
-            closers.push(listener.closer()?)?;
-        }
-        let registry = entrance.poll.registry();
-        Ok(Pool {
-            service,
-            load,
-            ready: Ready::new(alloc),
-            resting: Resting::new(alloc, registry.try_clone()?),
-            closers,
-            waker: Waker::new(registry, Token(END))?,
-            has_failed: AtomicBool::new(false),
-        })
-    }
-
-    /// Serves what comes in by the entrance, until a client ends the service or `end` is called.
-    pub fn serve<R: Clock + Threads + Wait + Sync>(
+impl<'s, 'l, S: Service + Sync> Pool<'s, 'l, S> {
+    // Serves what the listeners accept, by as many workers as the load says.
+    fn serve<R: Clock + Threads + Wait + Sync>(
         &self,
         rt: &R,
         alloc: Global,
-        entrance: Entrance,
+        listeners: &[Listener],
+        poll: Poll,
     ) -> Result<(), PoolFault> {
-        let Entrance {
-            listeners,
-            poll,
-            waker: _,
-        } = entrance;
-        let listeners = &listeners;
         thread::scope(thread::scope_env(), rt, |scope| -> Result<(), PoolFault> {
             for worker in 0..self.load.size.workers {
                 if scope
@@ -153,14 +128,10 @@ impl<'s, S: Service + Sync> Pool<'s, S> {
         Ok(())
     }
 
-    /// Ends the service: no connection is accepted, and nothing more is read of those that are
-    /// open.
-    pub fn end<W: Wait>(&self, rt: &W) {
+    // Ends the service, and wakes the workers that wait.
+    fn end<W: Wait>(&self, rt: &W) {
         self.ready.end(rt, self.load);
-        for closer in self.closers.iter() {
-            closer.close();
-        }
-        let _ = self.waker.wake();
+        self.ending.end();
     }
 
     // Accepts connections until the service has ended. Where none can be accepted it ends the
@@ -326,7 +297,8 @@ impl<'s, S: Service + Sync> Pool<'s, S> {
         self.load.counts.open.take();
     }
 
-    // Watches the connections that rest, until the service has ended, and ends them then.
+    // Watches the connections that rest, until the service has ended. Then it wakes the workers,
+    // because who has ended the service may not know them, and ends what rests.
     fn watch<R: Clock + Wait>(
         &self,
         rt: &R,
@@ -350,6 +322,7 @@ impl<'s, S: Service + Sync> Pool<'s, S> {
             }
             self.end_silent(rt);
         }
+        self.end(rt);
         self.end_all(rt);
         Ok(())
     }

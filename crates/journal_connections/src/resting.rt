@@ -25,7 +25,8 @@ impl<S: Drop> Drop for Numbered<S> {
     }
 }
 
-// The connections that rest. The system tells who watches them under which number something came.
+// The connections that rest. The thread that watches them is notified of the number under which
+// something came.
 pub(crate) struct Resting<S> {
     numbered: Mutex<Numbered<S>>,
     registry: Registry,
