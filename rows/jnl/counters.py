@@ -63,8 +63,8 @@ def a_service_counts(room):
         wants("the status of a commit", service.connection.receive()[:4], status.to_bytes(4, "big"))
     after, metrics = stat(room), stat(room, "--prometheus")
     more = {name: int(after[name]) - int(before[name]) for name in after if name != "opening"}
-    names = ("commits", "stable_commits", "conflicts", "connections", "log_positions")
-    wants("what was counted", [more[name] for name in names], [2, 2, 1, 2, 0])
+    names = ("commits", "stable_commits", "conflicts", "connections", "log_positions", "waits_for_room")
+    wants("what was counted", [more[name] for name in names], [2, 2, 1, 2, 0, 0])
     wants("whether syncs were", more["syncs"] >= 1 and int(after["syncs"]) >= more["syncs"], True)
     wants("the groups before, and whether each of the two commits is in one", (before["groups"], 1 <= more["groups"] <= 2), ("0", True))
     wants("the metric of commits", metrics["jnl_commits_total"], after["commits"])

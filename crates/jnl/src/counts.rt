@@ -21,7 +21,7 @@ const FIRST_SYNC_CLASS: u32 = 64;
 
 const FIRST_GROUP_CLASS: u32 = 96;
 
-/// What is counted of a kind of work that takes time.
+/// Counts of a kind of work that takes time.
 #[derive(Drop)]
 pub struct LengthCounts {
     // How often it was done.
@@ -33,7 +33,7 @@ pub struct LengthCounts {
 }
 
 impl LengthCounts {
-    /// Of work that was not done yet.
+    /// The counts of work that was not done yet.
     ///
     /// # Errors
     ///
@@ -66,7 +66,7 @@ fn class_of(micros: u64) -> usize {
     (bits as usize).saturating_sub(1).min(CLASSES - 1)
 }
 
-/// What is counted of the calls of a disk.
+/// Counts of the calls of a disk.
 #[derive(Drop)]
 pub struct DiskCounts {
     /// The syncs.
@@ -77,7 +77,7 @@ pub struct DiskCounts {
 }
 
 impl DiskCounts {
-    /// Of a disk that is not opened yet.
+    /// The counts of a disk that is not opened yet.
     ///
     /// # Errors
     ///
@@ -101,7 +101,7 @@ impl DiskCounts {
     }
 }
 
-/// What is counted of the answers of a service.
+/// Counts of the answers of a service.
 #[derive(Drop)]
 pub struct AnswerCounts {
     /// The answers.
@@ -111,7 +111,7 @@ pub struct AnswerCounts {
 }
 
 impl AnswerCounts {
-    /// Of a service that has answered nothing, by as many workers.
+    /// The counts of a service that has answered nothing, by as many workers.
     pub fn new(alloc: Global, workers: u64) -> Result<AnswerCounts, AllocError> {
         Ok(AnswerCounts {
             answers: LaneCount::new(alloc, workers)?,
@@ -174,7 +174,8 @@ impl<'s, 'j, 'b, D: BlockDisk, J: Naming, R: Clock + Wait> Figures<'s, 'j, 'b, D
         add(counters, 1, stat.commits)?;
         add(counters, 2, stat.floor)?;
         add(counters, 5, stat.end.saturating_sub(stat.start))?;
-        add(counters, 6, LOG_POSITIONS)
+        add(counters, 6, LOG_POSITIONS)?;
+        add(counters, 7, self.disk.journal.room_waits())
     }
 
     // Adds those of the connections, and the seconds since the opening where the clock can be read.

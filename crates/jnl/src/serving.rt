@@ -163,10 +163,7 @@ fn open_shared<'w, R: Files<File = File> + RandomSource>(
         Err(why) => return Err(Fault::unopened(path, why)),
     };
     let layout = lay_out(&shared.facts, service)?;
-    match shared.disk() {
-        Ok(disk) => number_opening(rt, layout, disk),
-        Err(why) => Err(Fault::File { path, why }),
-    }
+    number_opening(rt, layout, shared.disk())
 }
 
 // Gives this opening of the disk its number.

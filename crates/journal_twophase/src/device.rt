@@ -34,6 +34,7 @@ use journal_parts::{
 };
 use journal_world::{Addr, MapRule, Refusal};
 use std::rt::Clock;
+use std::sync::atomic::Ordering;
 use std::sync::{MutexGuard, Wait};
 
 impl<'b, D: BlockDisk, R: MapRule, J: Naming> LockedParts<'b, D, R, J> {
@@ -296,6 +297,11 @@ impl<'b, D: BlockDisk, R: MapRule, J: Naming> LockedParts<'b, D, R, J> {
         }
     }
 
+    // How many commits waited for room.
+    pub(crate) fn room_waits(&self) -> u64 {
+        self.room_waits.load(Ordering::SeqCst)
+    }
+
     // Shows the session the whole history, and gives the disk up. Answers J9.
     pub(crate) fn close(
         self,
@@ -340,6 +346,7 @@ impl<'b, D: BlockDisk, R: MapRule, J: Naming> LockedParts<'b, D, R, J> {
             durable,
             memory,
             room: _,
+            room_waits: _,
             marked: _,
             logging: _,
             group_full: _,

@@ -339,6 +339,12 @@ impl<'b, D: BlockDisk, R: MapRule, J: Naming> Journal<'b, D, R, J> {
         self.core.stat(rt)
     }
 
+    /// How many commits had to wait for room in the log's tail since the disk was opened. A commit
+    /// that waited several times counts once.
+    pub fn room_waits(&self) -> u64 {
+        self.core.room_waits()
+    }
+
     /// Waits until the commit of the receipt is stable: until a mark covers it, so that no crash
     /// loses it. The session has then seen the mark, and is exact.
     ///

@@ -36,6 +36,7 @@ use journal_world::{Addr, CommitCount, Layout, MapRule, Refusal, Refused};
 use std::alloc::Global;
 use std::hint::spin_loop;
 use std::rt::Clock;
+use std::sync::atomic::{AtomicU64, Ordering};
 use std::sync::{Condvar, CondvarTimeouts, Mutex, MutexGuard, Wait};
 use std::time::Duration;
 
@@ -271,6 +272,8 @@ pub(crate) struct LockedParts<'b, D: BlockDisk, R: MapRule, J: Naming> {
     pub(crate) memory: Mutex<UnderMemoryLock<'b, R, J>>,
     // A commit waits for room in the log's tail, which a cut makes.
     pub(crate) room: Condvar,
+    // How many commits waited for it.
+    pub(crate) room_waits: AtomicU64,
     // A commit that has to be stable waits for its mark.
     pub(crate) marked: Condvar,
     // The logger waits for a commit, or for free positions.
@@ -337,6 +340,7 @@ impl<'b, D: BlockDisk, R: MapRule, J: Naming> LockedParts<'b, D, R, J> {
                 waiters: MarkWaiters::default(),
             }),
             room: Condvar::new(),
+            room_waits: AtomicU64::new(0),
             marked: Condvar::new(),
             logging: Condvar::new(),
             group_full: Condvar::new(),
@@ -603,6 +607,7 @@ impl<'b, D: BlockDisk, R: MapRule, J: Naming> LockedParts<'b, D, R, J> {
         ensures held { OnErr result.answer (held.new ≡ held.old) }
     {
         let mut memory = self.lock_memory(rt);
+        let mut has_waited = false;
         for _ in rt.forever() {
             let nothing = self.empty_fetch(&transaction);
             let step = memory
@@ -619,7 +624,7 @@ impl<'b, D: BlockDisk, R: MapRule, J: Naming> LockedParts<'b, D, R, J> {
                 Err(why) => (memory, Err(why)),
             };
             if when_full.waits(&answer) {
-                memory = self.room.wait(rt, guard);
+                memory = self.await_room(rt, guard, &mut has_waited);
             } else {
                 return AnsweredCommit {
                     memory: guard,
@@ -629,6 +634,22 @@ impl<'b, D: BlockDisk, R: MapRule, J: Naming> LockedParts<'b, D, R, J> {
             }
         }
         unreachable!()
+    }
+
+    // Waits for room, which a cut makes. A commit that waits again is counted once.
+    fn await_room<'s, W: Wait>(
+        &'s self,
+        rt: &W,
+        memory: MutexGuard<'s, UnderMemoryLock<'b, R, J>>,
+        has_waited: &mut bool,
+    ) -> MutexGuard<'s, UnderMemoryLock<'b, R, J>>
+        ensures noted { has_waited.new ≡ true }
+    {
+        if !*has_waited {
+            *has_waited = true;
+            self.room_waits.fetch_add(1, Ordering::SeqCst);
+        }
+        self.room.wait(rt, memory)
     }
 
     // Wakes the logger from the wait that was ended.
