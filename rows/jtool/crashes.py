@@ -85,6 +85,12 @@ def each_failing_call_is_told_from_then_on(room):
     wants("how many device calls can fail", failing, CALLS)
 
 
+def possible_states(output):
+    """What may be read after a crash: after as many commits as were marked, or more."""
+    commits, floor = map(int, re.search(rb"^commits (\d+) floor (\d+)", output, re.M).groups())
+    return STATES[floor : commits + 1]
+
+
 def has_image(room, call, place):
     """Whether the disk has an image of this place in CHOICES where this device call failed.
 
@@ -98,10 +104,10 @@ def has_image(room, call, place):
         raise Wrong(f"where call {call} fails, {pending} blocks are pending")
     if place >= 1 << pending:
         return False
-    commits, floor = map(int, re.search(rb"^commits (\d+) floor (\d+)", output, re.M).groups())
-    if not any(output.endswith(state) for state in STATES[floor : commits + 1]):
+    states = possible_states(output)
+    if not any(output.endswith(state) for state in states):
         left = output.rpartition(b"\nopened\n")[2]
-        raise Wrong(f"where call {call} fails, {choice} leaves {left!r}, of {floor} to {commits}")
+        raise Wrong(f"where call {call} fails, {choice} leaves {left!r}, of {len(states)} states")
     return True
 
 
@@ -114,3 +120,23 @@ def a_crash_at_each_call_leaves_a_front(room):
         place = 0
         while place < len(CHOICES) and has_image(room, call, place):
             place += 1
+
+
+def left_by_mending(room, call, choice):
+    """What is read of a disk that is mended where this device call failed and the choice is lost.
+
+    Wants that a crash of the disk once it is open changes nothing.
+    """
+    script = b"fail %d\n%slose %s\nmend\nopen\n%scrash none\n%s"
+    output = output_of(room, script % (call, TWO_GROUPS, choice, LOOKS, LOOKS))
+    for state in possible_states(output):
+        if output.endswith(b"\nok\nok" + state + state[1:]):
+            return state
+    raise Wrong(f"where call {call} fails and {choice!r} is lost, {output!r} is printed")
+
+
+def a_mended_disk_is_what_reads_gave(room):
+    """Whatever the device has of it, since a mending keeps what reads give."""
+    for call in range(1, CALLS_OF_TWO_GROUPS + 2):
+        left = {left_by_mending(room, call, choice) for choice in (b"none", b"1", b"0,1", b"all")}
+        wants(f"how many disks are left where call {call} fails", len(left), 1)

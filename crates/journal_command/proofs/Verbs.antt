@@ -7,29 +7,31 @@ use Rattle.journal_command.specs.declared.command.verb.Verb.{Verb}
 use Rattle.journal_command.specs.declared.command.verb.Verb.TheVariants as verbs
 use Rattle.journal_command.specs.Commands.{line_words, verb_text, FollowsVerb, Says, LineSays}
 
--- ---- a verb is known by its first two letters
+-- ---- a verb is known by its first three letters
 
 abbrev letters : List ℕ → ℕ
-letters w = get_or w 0 0 * 256 + get_or w 1 0
+letters w = get_or w 0 0 * 65536 + get_or w 1 0 * 256 + get_or w 2 0
 
 abbrev verb_at : ℕ → Verb
 verb_at n =
-    if n == 28789 then verbs.Put else
-    if n == 26469 then verbs.Get else
-    if n == 25455 then verbs.Commit else
-    if n == 24930 then verbs.Abort else
-    if n == 26213 then verbs.Fence else
-    if n == 30561 then verbs.Wait else
-    if n == 27759 then verbs.Log else
-    if n == 26990 then verbs.Install else
-    if n == 29556 then verbs.Stat else
-    if n == 28773 then verbs.Pend else
-    if n == 25705 then verbs.Disk else
-    if n == 26209 then verbs.Fail else
-    if n == 25711 then verbs.Down else
-    if n == 28528 then verbs.Open else
-    if n == 25458 then verbs.Crash else
-    verbs.Poke
+    if n == 7370100 then verbs.Put else
+    if n == 6776180 then verbs.Get else
+    if n == 6516589 then verbs.Commit else
+    if n == 6382191 then verbs.Abort else
+    if n == 6710638 then verbs.Fence else
+    if n == 7823721 then verbs.Wait else
+    if n == 7106407 then verbs.Log else
+    if n == 6909555 then verbs.Install else
+    if n == 7566433 then verbs.Stat else
+    if n == 7365998 then verbs.Pend else
+    if n == 6580595 then verbs.Disk else
+    if n == 6709609 then verbs.Fail else
+    if n == 6582135 then verbs.Down else
+    if n == 7303269 then verbs.Open else
+    if n == 6517345 then verbs.Crash else
+    if n == 7368555 then verbs.Poke else
+    if n == 7106419 then verbs.Lose else
+    verbs.Mend
 
 known : (v : Verb) → verb_at (letters (verb_text v)) ≡ v
 known verbs.Put = refl
@@ -48,6 +50,8 @@ known verbs.Down = refl
 known verbs.Open = refl
 known verbs.Crash = refl
 known verbs.Poke = refl
+known verbs.Lose = refl
+known verbs.Mend = refl
 
 verb_text_injective : (v w : Verb) → verb_text v ≡ verb_text w → v ≡ w
 verb_text_injective v w e = sym (known v) ∙ ap (λ t. verb_at (letters t)) e ∙ known w
@@ -88,7 +92,7 @@ none_said (Some c) line none = tt
 -- ---- the table of verbs
 
 -- a word that is none of the table's is no verb
-pub no_verb : (word : List ℕ) → ((k : ℕ) → k < 16 → word ≢ verb_text (get_or VERBS k verbs.Put)) → (verb : Verb) → word ≢ verb_text verb
+pub no_verb : (word : List ℕ) → ((k : ℕ) → k < 18 → word ≢ verb_text (get_or VERBS k verbs.Put)) → (verb : Verb) → word ≢ verb_text verb
 no_verb word none verbs.Put = none 0 (omega arith)
 no_verb word none verbs.Get = none 1 (omega arith)
 no_verb word none verbs.Commit = none 2 (omega arith)
@@ -105,3 +109,5 @@ no_verb word none verbs.Down = none 12 (omega arith)
 no_verb word none verbs.Open = none 13 (omega arith)
 no_verb word none verbs.Crash = none 14 (omega arith)
 no_verb word none verbs.Poke = none 15 (omega arith)
+no_verb word none verbs.Lose = none 16 (omega arith)
+no_verb word none verbs.Mend = none 17 (omega arith)

@@ -1,5 +1,5 @@
 -- The request in the words of a program.
-use Rattle.std.specs.Prelude.{ℕ, ◌≡◌, ◌⊎◌, ◌<◌, ◌≤◌, ◌^◌, List, [], ◌∷◌, codes}
+use Rattle.std.specs.Prelude.{ℕ, ◌≡◌, ◌⊎◌, ◌<◌, ◌≤◌, ◌^◌, Bool, true, false, List, [], ◌∷◌, codes}
 use Rattle.std.specs.Fmt.{decimal}
 use Rattle.journal_world.specs.declared.layout.TheConstants.{MIN_BLOCKS, MAX_BLOCKS}
 use Rattle.journal_command.specs.declared.ask.Ask.{Ask}
@@ -27,6 +27,15 @@ AsksMigrate words path = words ≡ codes "migrate" ∷ path ∷ []
 abbrev pub AsksServe : List (List ℕ) → List ℕ → ℕ → ℕ → Type 0
 AsksServe words path port k = (port < 2 ^ 16) × (k < 2 ^ 32) × (words ≡ codes "serve" ∷ path ∷ decimal port ∷ decimal k ∷ [])
 
+-- the same of a disk whose blocks are also in memory
+abbrev pub AsksMirror : List (List ℕ) → List ℕ → ℕ → ℕ → Type 0
+AsksMirror words path port k = (port < 2 ^ 16) × (k < 2 ^ 32) × (words ≡ codes "serve" ∷ path ∷ decimal port ∷ decimal k ∷ codes "mirror" ∷ [])
+
+-- the words ask for a service, whose disk is in memory too or not
+abbrev pub AsksService : List (List ℕ) → List ℕ → ℕ → ℕ → Bool → Type 0
+AsksService words path port k false = AsksServe words path port k
+AsksService words path port k true = AsksMirror words path port k
+
 -- a disk may have this many blocks
 abbrev pub IsSize : ℕ → Type 0
 IsSize n = (MIN_BLOCKS ≤ n) × (n ≤ MAX_BLOCKS)
@@ -37,7 +46,7 @@ AsksFor words (Script blocks) = AsksScript words blocks × IsSize blocks
 AsksFor words (Format path blocks) = AsksFormat words path.now blocks × IsSize blocks
 AsksFor words (Check path) = AsksCheck words path.now
 AsksFor words (Migrate path) = AsksMigrate words path.now
-AsksFor words (Serve path port connections) = AsksServe words path.now port connections
+AsksFor words (Serve path port connections is_mirrored) = AsksService words path.now port connections is_mirrored
 
 -- the words ask for a disk of this many blocks, in memory or in a file
 abbrev pub MayBeAsked : List (List ℕ) → ℕ → Type 0
@@ -52,4 +61,5 @@ CannotBegin words Usage =
     × ((path : List ℕ) → AsksCheck words path → ⊥)
     × ((path : List ℕ) → AsksMigrate words path → ⊥)
     × ((path : List ℕ) (port k : ℕ) → AsksServe words path port k → ⊥)
+    × ((path : List ℕ) (port k : ℕ) → AsksMirror words path port k → ⊥)
 CannotBegin words BadSize = (n : ℕ) × MayBeAsked words n × (IsSize n → ⊥)

@@ -39,6 +39,8 @@ verb_text verbs.Down = codes "down"
 verb_text verbs.Open = codes "open"
 verb_text verbs.Crash = codes "crash"
 verb_text verbs.Poke = codes "poke"
+verb_text verbs.Lose = codes "lose"
+verb_text verbs.Mend = codes "mend"
 
 -- a line can have the number
 abbrev pub IsNumber : ℕ → Type 0
@@ -96,6 +98,8 @@ FollowsVerb verbs.Down ws c = (choice : Choice) × IsChoice ws choice × (c ≡ 
 FollowsVerb verbs.Open ws c = (ws ≡ []) × (c ≡ commands.Open)
 FollowsVerb verbs.Crash ws c = (choice : Choice) × IsChoice ws choice × (c ≡ commands.Crash choice)
 FollowsVerb verbs.Poke ws c = (block : ℕ) × (at : ℕ) × (text : List ℕ) × (value : Bor (List ℕ)) × IsNumber block × InBlock at (length value.now) × SpellsValue text value.now × (ws ≡ decimal block ∷ decimal at ∷ text ∷ []) × (c ≡ commands.Poke block at value)
+FollowsVerb verbs.Lose ws c = (choice : Choice) × IsChoice ws choice × (c ≡ commands.Lose choice)
+FollowsVerb verbs.Mend ws c = (ws ≡ []) × (c ≡ commands.Mend)
 
 -- the words say the command
 abbrev pub Says : List (List ℕ) → Command → Type 0

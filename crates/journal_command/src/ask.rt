@@ -1,6 +1,6 @@
 // The request in the words of a program.
 ghost use Rattle.std.specs.Prelude.{ℕ, map, string_bytes, IfOk, IfErr, IfSome, IfNone, OnOk, List};
-ghost use Rattle.journal_command.specs.Asks.{AsksScript, AsksFormat, AsksCheck, AsksMigrate, AsksServe, AsksFor, IsSize, MayBeAsked, CannotBegin};
+ghost use Rattle.journal_command.specs.Asks.{AsksScript, AsksFormat, AsksCheck, AsksMigrate, AsksServe, AsksMirror, AsksFor, IsSize, MayBeAsked, CannotBegin};
 
 use crate::number::{read_number, read_port};
 use journal_world::Layout;
@@ -27,11 +27,12 @@ pub enum Ask<'w> {
         path: &'w str,
     },
     /// Serve the files of the disk in the file at the path, at a port, or at a free one if that is
-    /// 0, to this many connections.
+    /// 0, to this many connections. Its blocks are also in memory or not.
     Serve {
         path: &'w str,
         port: u16,
         connections: u64,
+        is_mirrored: bool,
     },
 }
 
@@ -71,11 +72,20 @@ impl<'w> Ask<'w> {
         if let Some(path) = migrate_asked(words) {
             return Ok(Ask::Migrate { path });
         }
-        match serve_asked(words) {
+        if let Some((path, port, connections)) = serve_asked(words) {
+            return Ok(Ask::Serve {
+                path,
+                port,
+                connections,
+                is_mirrored: false,
+            });
+        }
+        match mirror_asked(words) {
             Some((path, port, connections)) => Ok(Ask::Serve {
                 path,
                 port,
                 connections,
+                is_mirrored: true,
             }),
             None => Err(AskFault::Usage),
         }
@@ -142,6 +152,24 @@ fn serve_asked(words: &[String]) -> Option<(&str, u16, u64)>
             read_port(port.as_bytes())?,
             u64::from(read_number(connections.as_bytes())?),
         )),
+        _ => None,
+    }
+}
+
+// The service of a disk whose blocks are also in memory, if the words ask for one.
+fn mirror_asked(words: &[String]) -> Option<(&str, u16, u64)>
+    ensures some { IfSome result (λ asked. AsksMirror (map string_bytes words.now) asked.0.now asked.1 asked.2) }
+    ensures none { IfNone result ((path : List ℕ) (port k : ℕ) → AsksMirror (map string_bytes words.now) path port k → ⊥) }
+{
+    match words {
+        [what, path, port, connections, how]
+            if what.as_str() == "serve" && how.as_str() == "mirror" => {
+            Some((
+                path.as_str(),
+                read_port(port.as_bytes())?,
+                u64::from(read_number(connections.as_bytes())?),
+            ))
+        }
         _ => None,
     }
 }

@@ -69,6 +69,13 @@ pub enum Command<'a> {
     Crash {
         choice: Choice<'a>,
     },
+    /// Let a barrier fail, and end: reads give what they gave, and the device has an image of the
+    /// disk.
+    Lose {
+        choice: Choice<'a>,
+    },
+    /// Make what a disk reads stable, whatever was lost of it.
+    Mend,
     /// Write stable bytes. The value is not empty, and inside the block from byte `at` on.
     Poke {
         block: u32,
@@ -77,7 +84,7 @@ pub enum Command<'a> {
     },
 }
 
-/// Which image of the disk a crash leaves.
+/// Which image of the disk a crash leaves, or the device has once a barrier failed.
 #[derive(Clone, Copy)]
 pub enum Choice<'a> {
     /// `none`: each block as last synced.
@@ -143,6 +150,10 @@ fn read_behind<'a>(verb: Verb, words: &mut Words<'_>, room: &'a mut Room) -> Opt
             choice: read_choice(words, room)?,
         }),
         Verb::Poke => read_poke(words, room),
+        Verb::Lose => Some(Command::Lose {
+            choice: read_choice(words, room)?,
+        }),
+        Verb::Mend => alone(Command::Mend, words),
     }
 }
 

@@ -1,3 +1,4 @@
 pub mod Poking
 pub mod Talking
 pub mod Replying
+pub mod Losing

@@ -30,7 +30,7 @@ poked_image old block at bytes first lt lost image = record {
         (past_after (write block (with_bytes (read_of old block) at bytes)) old) (inr refl) lost
 
 -- what a crash leaves begins anew
-begun_first : (m : MemState) (n : ℕ) (first : List Bytes) → m ≡ disk_from n first → m.past ≡ past_from n m.past.first
+pub begun_first : (m : MemState) (n : ℕ) (first : List Bytes) → m ≡ disk_from n first → m.past ≡ past_from n m.past.first
 begun_first m n first is = subst (λ (k : MemState). k.past ≡ past_from n k.past.first) (sym is) refl
 
 -- the same of a disk as a call leaves it

@@ -129,6 +129,7 @@ opening_join a b c p (mid, talks, asks, opens) = (mid, talks_join a b mid p talk
 pub leaves_join : (next : Next) (a b c : Streams) → Talks a b → ComesTo next b c → ComesTo next a c
 leaves_join (nexts.Open disk) a b c p q = (q.0, opening_join a b c p q.1)
 leaves_join (nexts.Down disk) a b c p q = (q.0, talks_join a b c p q.1)
+leaves_join (nexts.Lost disk) a b c p q = (q.0, talks_join a b c p q.1)
 leaves_join nexts.End a b c p q = end_join a b c p q
 
 -- the line that opened the disk was answered

@@ -37,6 +37,7 @@ answer_line (answers.Pending pending) = codes "pending" ++ pending_text pending.
 answer_line answers.Opened = codes "opened" ++ 10 ∷ []
 answer_line answers.Up = codes "up" ++ 10 ∷ []
 answer_line answers.Down = codes "down" ++ 10 ∷ []
+answer_line answers.Lost = codes "lost" ++ 10 ∷ []
 answer_line (answers.Refused why) = codes "refused " ++ refusal_name why ++ 10 ∷ []
 answer_line answers.BadLine = codes "bad line" ++ 10 ∷ []
 answer_line answers.Nothing = []

@@ -1,5 +1,5 @@
 -- What a command does to the client of an open journal, and what it is answered.
-use Rattle.std.specs.Prelude.{ℕ, ◌≡◌, ◌⊎◌, ◌<◌, ◌≤◌, ◌-◌, ◌^◌, false, true, List, [], length, replicate, Option, Some, None, Result, Ok, Err, IsSome, MatchOption, unwrap_or}
+use Rattle.std.specs.Prelude.{ℕ, ◌≡◌, ◌⊎◌, ◌<◌, ◌≤◌, true, List, length, Option, Some, None, Result, Ok, Err, IsSome, MatchOption, unwrap_or}
 use Rattle.std.specs.declared.ops.ControlFlow.{ControlFlow}
 use Rattle.std.specs.declared.ops.ControlFlow.TheVariants.{Continue, Break}
 use Rattle.journal_world.specs.declared.address.Addr.{Addr}
@@ -14,14 +14,14 @@ use Rattle.journal_twophase.specs.Transactions.{TxnState, core_of, begun, holdin
 use Rattle.journal_twophase.specs.Commits.{IsCommitted, ShowsFence, IsTryRefusal}
 use Rattle.journal_command.specs.declared.command.Command.{Command}
 use Rattle.journal_command.specs.declared.command.Command.TheVariants as commands
-use Rattle.journal_command.specs.declared.command.Choice.{Choice}
-use Rattle.journal_command.specs.declared.command.Choice.TheVariants as choices
 use Rattle.journal_script.specs.declared.answer.Answer.{Answer}
 use Rattle.journal_script.specs.declared.answer.Answer.TheVariants as answers
-use Rattle.journal_script.specs.declared.client.Crash.{Crash}
+use Rattle.journal_script.specs.declared.ending.Crash.{Crash}
+use Rattle.journal_script.specs.declared.ending.Ending.TheVariants as endings
 use Rattle.journal_script.specs.declared.steps.Actor.{Actor}
 use Rattle.journal_script.specs.declared.steps.Actor.TheVariants as actors
 use Rattle.journal_script.specs.Answers.{to_no_command, Refuses}
+use Rattle.journal_script.specs.Endings.{IsChosen}
 use Rattle.journal_command.specs.Commands.{LineSays}
 
 -- The session, and the transaction that is open
@@ -117,6 +117,7 @@ IsRefusal commands.Pend why = why ≡ NoMemory
 IsRefusal (commands.Disk block at len) why = why ≡ NoMemory
 IsRefusal (commands.Down choice) why = why ≡ NoMemory
 IsRefusal (commands.Crash choice) why = why ≡ NoMemory
+IsRefusal (commands.Lose choice) why = why ≡ NoMemory
 IsRefusal command why = ⊥
 
 -- the answer is a refusal, which may come
@@ -135,6 +136,7 @@ GivesAnswer layout (commands.Disk block at len) (answers.Value v) = (block < lay
 GivesAnswer layout (commands.Disk block at len) answers.BadLine = block < layout.blocks → ⊥
 GivesAnswer layout (commands.Fail call) answers.Done = Unit {0}
 GivesAnswer layout commands.Open answers.Up = Unit {0}
+GivesAnswer layout commands.Mend answers.Up = Unit {0}
 GivesAnswer layout (commands.Poke block at v) answers.Up = block < layout.blocks
 GivesAnswer layout (commands.Poke block at v) answers.BadLine = block < layout.blocks → ⊥
 GivesAnswer layout command answer = ⊥
@@ -155,17 +157,12 @@ Obeys layout old commands.Fence answers.Done new = FencesSession old new
 Obeys layout old commands.Fence answer new = IsRefused (λ why. RefusesFence old why new) answer
 Obeys layout old command answer new = (GivesAnswer layout command answer ⊎ IsRefused (IsRefusal command) answer) × (new ≡ old)
 
--- The numbers choose the image: 0 for each block, the last write of each, or what the line lists
-abbrev pub IsChosen : Choice → List ℕ → Type 0
-IsChosen choices.Stable numbers = numbers ≡ []
-IsChosen choices.Last numbers = (blocks : ℕ) × (numbers ≡ replicate blocks (2 ^ 32 - 1))
-IsChosen (choices.Listed listed) numbers = numbers ≡ listed.now
-
 -- The command is obeyed and answered, or ends the journal by the crash that it names
 abbrev pub Replies : Shape → ClientState → Command → ControlFlow Crash Answer → ClientState → Type 0
 Replies layout old command (Continue answer) new = Obeys layout old command answer new
-Replies layout old (commands.Down choice) (Break crash) new = IsChosen choice crash.numbers.items × (crash.opens ≡ false) × (new ≡ old)
-Replies layout old (commands.Crash choice) (Break crash) new = IsChosen choice crash.numbers.items × (crash.opens ≡ true) × (new ≡ old)
+Replies layout old (commands.Down choice) (Break crash) new = IsChosen choice crash.numbers.items × (crash.ending ≡ endings.Down) × (new ≡ old)
+Replies layout old (commands.Crash choice) (Break crash) new = IsChosen choice crash.numbers.items × (crash.ending ≡ endings.Opens) × (new ≡ old)
+Replies layout old (commands.Lose choice) (Break crash) new = IsChosen choice crash.numbers.items × (crash.ending ≡ endings.Loses) × (new ≡ old)
 Replies layout old command (Break crash) new = ⊥
 
 -- The line says a command, which is replied to so; or it says none, which changes nothing

@@ -1,8 +1,11 @@
 -- What a command does to a disk that is down, and what it is answered.
 use Rattle.std.specs.Prelude.{ℕ, ◌≡◌, ◌≢◌, ◌⊎◌, ◌<◌, ◌+◌, List, Option, Some, None, length, slice_range}
-use Rattle.journal_world.specs.declared.refusal.Refusal.TheVariants.{NoMemory, DeviceFailed}
+use Rattle.journal_world.specs.declared.refusal.Refusal.{Refusal}
+use Rattle.journal_world.specs.declared.refusal.Refusal.TheVariants.{NoMemory, DeviceFailed, BadLog}
 use Rattle.journal_block.specs.Block.{Bytes, with_bytes}
 use Rattle.journal_disk.specs.Disks.{Past, read_of}
+use Rattle.journal_disk.specs.Images.{reading}
+use Rattle.journal_circ.specs.Log.{IsWellFormed}
 use Rattle.journal_command.specs.declared.command.Command.{Command}
 use Rattle.journal_command.specs.declared.command.Command.TheVariants as commands
 use Rattle.journal_script.specs.declared.answer.Answer.{Answer}
@@ -35,11 +38,23 @@ Pokes old block at bytes (answers.Refused why) new = (block < old.size) × ((why
 Pokes old block at bytes answers.BadLine new = (block < old.size → ⊥) × (new ≡ old)
 Pokes old block at bytes _ new = ⊥
 
+-- why a disk is not mended: memory is refused, the device failed, or as the disk reads its log is
+-- not well formed
+abbrev pub IsMendRefusal : Past → Refusal Unit → Type 0
+IsMendRefusal old why = (why ≡ NoMemory) ⊎ ((why ≡ DeviceFailed tt) ⊎ ((why ≡ BadLog) × (IsWellFormed (reading old) → ⊥)))
+
+-- a disk of which nothing is lost is mended, or that is refused: it reads as before
+abbrev pub MendsWhole : Past → Answer → Past → Type 0
+MendsWhole old answers.Done new = ReadsAsBefore old new
+MendsWhole old (answers.Refused why) new = IsMendRefusal old why × ReadsAsBefore old new
+MendsWhole old _ new = ⊥
+
 -- What a command is answered, and leaves. `open` has no answer here: the loop that mounts disks
 -- gives it
 abbrev pub ObeysDown : Past → Command → Option Answer → Past → Type 0
 ObeysDown old (commands.Disk block at len) (Some answer) new = ShowsBytes old block at len answer × (new ≡ old)
 ObeysDown old (commands.Poke block at v) (Some answer) new = Pokes old block at v.now answer new
+ObeysDown old commands.Mend (Some answer) new = MendsWhole old answer new
 ObeysDown old commands.Open answer new = (answer ≡ None) × (new ≡ old)
 ObeysDown old _ answer new = (answer ≡ Some answers.Down) × (new ≡ old)
 

@@ -11,10 +11,10 @@ use Rattle.journal_script.specs.declared.answer.Answer.TheVariants as answers
 use Rattle.journal_command.specs.declared.command.Choice.{Choice}
 use Rattle.journal_command.specs.declared.command.Command.TheVariants as commands
 use Rattle.journal_world.specs.declared.refusal.Refusal.{Refusal}
-use Rattle.journal_disk.specs.Disks.{Past, DiskState, IsSettled}
+use Rattle.journal_disk.specs.Disks.{Past, DiskState}
 use Rattle.journal_disk.specs.MemDisks.{MemState}
 use Rattle.journal_parts.specs.Openings.{IsOpenRefusal}
-use Rattle.journal_script.specs.declared.client.Crash.{Crash}
+use Rattle.journal_script.specs.declared.ending.Crash.{Crash}
 use Rattle.journal_script.specs.declared.script.Next.{Next}
 use Rattle.journal_script.specs.declared.script.Next.TheVariants as nexts
 use Rattle.journal_script.specs.declared.script_fault.ScriptFault.{ScriptFault}
@@ -23,6 +23,8 @@ use Rattle.journal_script.specs.declared.mounted.Opening.TheVariants as openings
 use Rattle.journal_script.specs.Answers.{answer_line, Refuses}
 use Rattle.journal_script.specs.Clients.{ClientState, IsRefused, AnswersLine as AnswersUp}
 use Rattle.journal_script.specs.Downs.{AnswersDown}
+use Rattle.journal_script.specs.Endings.{told_of, IsWhole, IsToMend}
+use Rattle.journal_script.specs.Lost.{AnswersLost}
 use Rattle.journal_command.specs.Commands.{LineSays}
 use Rattle.journal_command.specs.Lines.{first_line, kept, TakesLine}
 
@@ -56,14 +58,15 @@ abbrev pub IsOpened : Answer → Type 0
 IsOpened answers.Opened = Unit {0}
 IsOpened answer = (old : DiskState) × (new : DiskState) × IsRefused (IsOpenRefusal (λ _. Unit {0}) old new) answer
 
--- The line is answered so: by a journal; by a crash that opens no disk; by a disk that is down; or
--- by what comes of an opening
+-- The line is answered so: by a journal; by a crash that opens no disk; by a disk that is down; by
+-- what comes of an opening; or by a disk of which writes were lost
 abbrev pub IsAnswerTo : List ℕ → Answer → Type 0
 IsAnswerTo line answer =
     RepliesUp line (Continue answer)
-    ⊎ (((crash : Crash) × RepliesUp line (Break crash) × (crash.opens ≡ false) × (answer ≡ answers.Done))
+    ⊎ (((crash : Crash) × RepliesUp line (Break crash) × (told_of crash.ending ≡ Some answer))
     ⊎ (((old : Past) × (new : Past) × AnswersDown old line (Some answer) new)
-    ⊎ (IsOpening line × IsOpened answer)))
+    ⊎ ((IsOpening line × IsOpened answer)
+    ⊎ ((disk : MemState) × (next : Next) × AnswersLost disk line (Some answer) next))))
 
 -- A line, and what it was answered
 pub record Turn : Type 0 where
@@ -146,23 +149,32 @@ AsksOpening old new = (mid : Streams) × Talks old mid × TakesOneLine mid new �
 
 -- what comes next, and what was read and printed before
 abbrev pub ComesTo : Next → Streams → Streams → Type 0
-ComesTo (nexts.Open disk) old new = IsSettled disk.past × AsksOpening old new
-ComesTo (nexts.Down disk) old new = IsSettled disk.past × Talks old new
+ComesTo (nexts.Open disk) old new = IsWhole disk.past × AsksOpening old new
+ComesTo (nexts.Down disk) old new = IsWhole disk.past × Talks old new
+ComesTo (nexts.Lost disk) old new = IsToMend disk.past × Talks old new
 ComesTo nexts.End old new = TalksToTheEnd old new
 
--- the same, as the line tells it that ended the journal
-abbrev pub ComesToBy : Bool → Streams → Streams → Type 0
-ComesToBy true old new = AsksOpening old new
-ComesToBy false old new = Talks old new
+-- the same, by what the line is answered that ended the journal
+abbrev pub ComesToBy : Option Answer → Streams → Streams → Type 0
+ComesToBy None old new = AsksOpening old new
+ComesToBy (Some answer) old new = Talks old new
 
 abbrev pub ComesToCrash : Option Crash → Streams → Streams → Type 0
-ComesToCrash (Some crash) old new = ComesToBy crash.opens old new
+ComesToCrash (Some crash) old new = ComesToBy (told_of crash.ending) old new
 ComesToCrash None old new = TalksToTheEnd old new
 
 -- the line that asked for an opening, where one did, was told of it
 abbrev pub TellsOpening : Opening → Streams → Streams → Type 0
 TellsOpening openings.First old new = new ≡ old
 TellsOpening openings.Asked old new = Prints answers.Opened old new
+
+-- the line that ended the journal was told so, unless what comes of an opening is to tell it
+abbrev pub TellsBy : Option Answer → Streams → Streams → Type 0
+TellsBy None old new = new ≡ old
+TellsBy (Some answer) old new = Prints answer old new
+
+abbrev pub TellsEnd : Crash → Streams → Streams → Type 0
+TellsEnd crash old new = TellsBy (told_of crash.ending) old new
 
 -- it was told so, and then what was read and printed until the journal ended
 abbrev pub OpensToCrash : Opening → Option Crash → Streams → Streams → Type 0

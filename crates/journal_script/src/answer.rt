@@ -40,6 +40,8 @@ pub enum Answer {
     Up,
     /// The line is for one that is up.
     Down,
+    /// The line is for one of which no writes were lost.
+    Lost,
     /// It was refused.
     Refused(Refusal<()>),
     /// It is no line of a script.
@@ -86,6 +88,7 @@ impl Answer {
             Answer::Opened => print_words(output, "opened"),
             Answer::Up => print_words(output, "up"),
             Answer::Down => print_words(output, "down"),
+            Answer::Lost => print_words(output, "lost"),
             Answer::Refused(why) => print_refused(output, why),
             Answer::BadLine => print_words(output, "bad line"),
             Answer::Nothing => Ok(()),

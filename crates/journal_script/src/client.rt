@@ -5,10 +5,12 @@ ghost use Rattle.journal_world.specs.Files.{files};
 ghost use Rattle.journal_twophase.specs.Journals.{IsSessionRefusal};
 ghost use Rattle.journal_twophase.specs.Transactions.{IsOverwriteRefusal, IsReadRefusal};
 ghost use Rattle.journal_command.specs.Commands.{IsInside};
-ghost use Rattle.journal_script.specs.Clients.{most_of, FindsTransaction, PutsValue, Gets, KeepsOpen, CommitsOpen, FencesOwn, IsChosen, IsStepRefusal, GivesAnswer, Obeys, Replies, AnswersLine, FlowGoesOn, EndsMount};
+ghost use Rattle.journal_script.specs.Clients.{most_of, FindsTransaction, PutsValue, Gets, KeepsOpen, CommitsOpen, FencesOwn, IsStepRefusal, GivesAnswer, Obeys, Replies, AnswersLine, FlowGoesOn, EndsMount};
+ghost use Rattle.journal_script.specs.Endings.{IsChosen};
 
 use crate::answer::Answer;
 use crate::blocks::bytes_of;
+use crate::ending::{Crash, Ending};
 use crate::steps::{Actor, drive};
 use journal_block::Block;
 use journal_command::{Choice, Command, Room};
@@ -26,15 +28,6 @@ pub type Mount<'b, J> = Journal<'b, MemDisk, AnyMap, J>;
 
 // The answer of a journal, or why it refuses.
 type Answered<'b, J> = Result<Answer, JournalRefusal<'b, J, AnyMap>>;
-
-/// How the journal is to end.
-#[derive(Drop)]
-pub struct Crash {
-    /// The numbers that choose what the crash leaves of the disk.
-    pub numbers: Vec<u32>,
-    /// Whether the disk is to be opened again.
-    pub opens: bool,
-}
 
 /// The client of an open journal: its session, and the transaction that is open. It must be ended,
 /// by `end`.
@@ -122,9 +115,10 @@ impl<'j, 'b, J: Naming> Client<'j, 'b, J> {
             Command::Pend => goes_on(self.pend(rt)),
             Command::Disk { block, at, len } => goes_on(self.disk(rt, block, at, len)),
             Command::Fail { call } => ControlFlow::Continue(self.fail(rt, call)),
-            Command::Down { choice } => ends(self.crash(rt, choice, false)),
-            Command::Open => ControlFlow::Continue(Answer::Up),
-            Command::Crash { choice } => ends(self.crash(rt, choice, true)),
+            Command::Down { choice } => ends(self.crash(rt, choice, Ending::Down)),
+            Command::Open | Command::Mend => ControlFlow::Continue(Answer::Up),
+            Command::Crash { choice } => ends(self.crash(rt, choice, Ending::Opens)),
+            Command::Lose { choice } => ends(self.crash(rt, choice, Ending::Loses)),
             Command::Poke { block, .. } => ControlFlow::Continue(self.poke(block)),
         }
     }
@@ -269,10 +263,10 @@ impl<'j, 'b, J: Naming> Client<'j, 'b, J> {
         &self,
         rt: &W,
         choice: Choice<'_>,
-        opens: bool,
+        ending: Ending,
     ) -> Result<Crash, JournalRefusal<'b, J, AnyMap>>
         ensures chosen { IfOk result (λ crash. IsChosen choice.entry crash.numbers.items) }
-        ensures opens { IfOk result (λ crash. crash.opens ≡ opens) }
+        ensures ending { IfOk result (λ crash. crash.ending ≡ ending) }
         ensures refusal { IsOkUnless result Refusal.NoMemory }
     {
         let numbers = match choice {
@@ -283,7 +277,7 @@ impl<'j, 'b, J: Naming> Client<'j, 'b, J> {
             }
             Choice::Listed(numbers) => numbers.to_vec(self.alloc)?,
         };
-        Ok(Crash { numbers, opens })
+        Ok(Crash { numbers, ending })
     }
 
     // Takes the open transaction out, or begins one where none is open.

@@ -1,12 +1,14 @@
 // A disk that is up: its journal, from the opening until it is down.
-ghost use Rattle.std.specs.Prelude.{◌≡◌, IfOk, OnOk};
+ghost use Rattle.std.specs.Prelude.{◌≡◌, ◌≤◌, IfOk, OnOk};
 ghost use Rattle.journal_world.specs.Files.{files};
-ghost use Rattle.journal_disk.specs.Disks.{IsSettled};
-ghost use Rattle.journal_script.specs.Transcripts.{Streams, streams, Opens, OpensToCrash, TellsOpening, RefusesOpening, ComesTo, ComesToCrash};
+ghost use Rattle.journal_world.specs.declared.layout.TheConstants.{MIN_BLOCKS};
+ghost use Rattle.journal_script.specs.Endings.{IsWhole, IsToMend};
+ghost use Rattle.journal_script.specs.Transcripts.{Streams, streams, Opens, OpensToCrash, TellsOpening, TellsEnd, RefusesOpening, ComesTo, ComesToCrash};
 
 use crate::answer::Answer;
-use crate::client::{Client, Crash, Mount};
+use crate::client::{Client, Mount};
 use crate::console::Console;
+use crate::ending::Crash;
 use crate::script::Next;
 use crate::script_fault::ScriptFault;
 use journal_disk::{BlockDisk, MemDisk};
@@ -43,7 +45,7 @@ pub fn run<W: Wait, I: Read + Drop, O: Write>(
     console: &mut Console<I>,
     output: &mut O,
 ) -> Result<Next, ScriptFault>
-    requires settled { IsSettled disk.past }
+    requires whole { IsWhole disk.past }
     ensures { IfOk result (Opens opening (streams console.old (O.contents output.old)) (streams console.new (O.contents output.new))) }
 {
     let book: Book<AnyMap> = Book::open::<()>().unwrap();
@@ -67,7 +69,7 @@ fn mount<J: Naming, W: Wait, I: Read + Drop, O: Write>(
     requires book { book.now ≡ J.book }
     requires cell { cell ≡ J.cell }
     requires layout { J.layout ≡ files disk.past.size }
-    requires settled { IsSettled disk.past }
+    requires whole { IsWhole disk.past }
     ensures { IfOk result (Opens opening (streams console.old (O.contents output.old)) (streams console.new (O.contents output.new))) }
 {
     let blocks = disk.size();
@@ -107,6 +109,7 @@ fn serve<'b, J: Naming, W: Wait, I: Read + Drop, O: Write>(
     output: &mut O,
 ) -> Result<Next, ScriptFault>
     requires layout { J.layout ≡ files blocks }
+    requires in_range { MIN_BLOCKS ≤ blocks }
     ensures { IfOk result (Opens opening (streams console.old (O.contents output.old)) (streams console.new (O.contents output.new))) }
 {
     match answer_lines(rt, alloc, blocks, &journal, opening, console, output) {
@@ -121,6 +124,7 @@ fn close<'b, J: Naming>(
     journal: Mount<'b, J>,
     session: Session<'b, J, AnyMap>,
 ) -> Result<Next, ScriptFault>
+    requires in_range { MIN_BLOCKS ≤ J.layout.blocks }
     ensures { IfOk result (λ next. (old new : Streams) → ComesToCrash crash old new → ComesTo next old new) }
 {
     let mut session = session;
@@ -132,16 +136,12 @@ fn close<'b, J: Naming>(
 
 // What comes after the journal that had this disk.
 fn next_after(crash: Option<Crash>, disk: MemDisk) -> Next
+    requires to_mend { IsToMend disk.past }
     ensures { (old new : Streams) → ComesToCrash crash old new → ComesTo result old new }
 {
-    let Some(Crash { numbers, opens }) = crash else {
-        return Next::End;
-    };
-    let disk = disk.crash(&numbers);
-    if opens {
-        Next::Open(disk)
-    } else {
-        Next::Down(disk)
+    match crash {
+        Some(crash) => crash.leave(disk),
+        None => Next::End,
     }
 }
 
@@ -200,14 +200,24 @@ fn answer_each<'j, 'b, J: Naming, W: Wait, I: Read + Drop, O: Write>(
         match client.answer(rt, console.lines.line(), &mut console.room) {
             ControlFlow::Continue(answer) => console.print(&answer, output)?,
             ControlFlow::Break(crash) => {
-                // What comes of the opening answers the line else.
-                if crash.opens {
-                    return Ok(Some(crash));
-                }
-                console.print(&Answer::Done, output)?;
+                answer_end(&crash, console, output)?;
                 return Ok(Some(crash));
             }
         }
     }
     Err(ScriptFault::CannotRead)
+}
+
+// Answers the line that ends the journal, unless what comes of an opening answers it.
+fn answer_end<I: Read + Drop, O: Write>(
+    crash: &Crash,
+    console: &mut Console<I>,
+    output: &mut O,
+) -> Result<(), ScriptFault>
+    ensures { OnOk result (TellsEnd crash.now (streams console.old (O.contents output.old)) (streams console.new (O.contents output.new))) }
+{
+    match crash.answer() {
+        Some(answer) => console.print(&answer, output),
+        None => Ok(()),
+    }
 }

@@ -1,15 +1,16 @@
 // A script: lines that are read, obeyed and answered one after another, over one disk.
 ghost use Rattle.std.specs.Prelude.{◌≡◌, IfOk, OnOk};
-ghost use Rattle.journal_disk.specs.Disks.{IsSettled, read_of};
+ghost use Rattle.journal_disk.specs.Disks.{read_of};
 ghost use Rattle.journal_inode.specs.Nodes.{no_time};
 ghost use Rattle.journal_inode.specs.Formats.{IsFormatted};
+ghost use Rattle.journal_script.specs.Endings.{IsWhole};
 ghost use Rattle.journal_script.specs.Transcripts.{streams, ComesTo, Runs};
 ghost use Rattle.journal_command.specs.Asks.{IsSize};
 
 use crate::console::Console;
 use crate::mounted::Opening;
 use crate::script_fault::ScriptFault;
-use crate::{mounted, unmounted};
+use crate::{lost, mounted, unmounted};
 use journal_disk::MemDisk;
 use journal_inode::{FormatVersion, format};
 use journal_world::{Moment, Refused};
@@ -24,6 +25,8 @@ pub enum Next {
     Open(MemDisk),
     /// Lines to a disk that is down.
     Down(MemDisk),
+    /// Lines to a disk of which writes were lost.
+    Lost(MemDisk),
     /// Nothing: the input ended.
     End,
 }
@@ -58,7 +61,7 @@ pub fn run<W: Wait, I: Read, O: Write>(
 // A disk without files, of so many blocks. A script has no clock: the root directory's time is 0.
 fn new_disk(alloc: Global, blocks: u64) -> Result<MemDisk, ScriptFault>
     requires { IsSize blocks }
-    ensures settled { IfOk result (λ disk. IsSettled disk.past) }
+    ensures whole { IfOk result (λ disk. IsWhole disk.past) }
     ensures formatted { IfOk result (λ disk. IsFormatted FormatVersion.One blocks no_time (read_of disk.past)) }
 {
     let disk = match MemDisk::new::<()>(alloc, blocks) {
@@ -93,6 +96,7 @@ fn answer_all<W: Wait, I: Read + Drop, O: Write>(
         next = match next {
             Next::Open(disk) => mounted::run(rt, alloc, disk, Opening::Asked, console, output)?,
             Next::Down(disk) => unmounted::run(alloc, disk, console, output)?,
+            Next::Lost(disk) => lost::run(alloc, disk, console, output)?,
             Next::End => return Ok(()),
         };
     }

@@ -1,8 +1,9 @@
 // Lines to a disk that is down.
 ghost use Rattle.std.specs.Prelude.{◌≡◌, ◌≤◌, ◌+◌, ◌<◌, IfOk, IsOkUnless, slice_range, length};
-ghost use Rattle.journal_disk.specs.Disks.{IsSettled, read_of};
+ghost use Rattle.journal_disk.specs.Disks.{read_of};
 ghost use Rattle.journal_command.specs.Commands.{IsInside};
-ghost use Rattle.journal_script.specs.Downs.{AnswersDown, ObeysDown, Pokes, ShowsBytes};
+ghost use Rattle.journal_script.specs.Downs.{AnswersDown, ObeysDown, Pokes, MendsWhole, ShowsBytes};
+ghost use Rattle.journal_script.specs.Endings.{IsWhole};
 ghost use Rattle.journal_script.specs.Transcripts.{streams, ComesTo};
 
 use crate::answer::Answer;
@@ -11,9 +12,10 @@ use crate::console::Console;
 use crate::script::Next;
 use crate::script_fault::ScriptFault;
 use journal_block::Block;
+use journal_circ::Circ;
 use journal_command::{Command, Room};
 use journal_disk::{BlockDisk, MemDisk};
-use journal_world::{Refusal, Value};
+use journal_world::{Refusal, Refused, Value};
 use std::alloc::Global;
 use std::io::{Read, Write};
 
@@ -28,7 +30,7 @@ pub fn run<I: Read + Drop, O: Write>(
     console: &mut Console<I>,
     output: &mut O,
 ) -> Result<Next, ScriptFault>
-    requires settled { IsSettled disk.past }
+    requires whole { IsWhole disk.past }
     ensures { IfOk result (λ next. ComesTo next (streams console.old (O.contents output.old)) (streams console.new (O.contents output.new))) }
 {
     let mut disk = disk;
@@ -48,8 +50,8 @@ pub fn run<I: Read + Drop, O: Write>(
 
 // Does what the line says, and answers it. `None` says that the line opens the disk.
 fn answer(alloc: Global, disk: MemDisk, line: &[u8], room: &mut Room) -> (MemDisk, Option<Answer>)
-    requires settled { IsSettled disk.past }
-    ensures settled { IsSettled result.0.past }
+    requires whole { IsWhole disk.past }
+    ensures whole { IsWhole result.0.past }
     ensures answered { AnswersDown disk.past line.now result.1 result.0.past }
 {
     match Command::read(line, room) {
@@ -61,8 +63,8 @@ fn answer(alloc: Global, disk: MemDisk, line: &[u8], room: &mut Room) -> (MemDis
 // Does what the command says, likewise.
 fn obey(alloc: Global, disk: MemDisk, command: Command<'_>) -> (MemDisk, Option<Answer>)
     requires inside { IsInside command }
-    requires settled { IsSettled disk.past }
-    ensures settled { IsSettled result.0.past }
+    requires whole { IsWhole disk.past }
+    ensures whole { IsWhole result.0.past }
     ensures obeyed { ObeysDown disk.past command.entry result.1 result.0.past }
 {
     match command {
@@ -74,6 +76,10 @@ fn obey(alloc: Global, disk: MemDisk, command: Command<'_>) -> (MemDisk, Option<
             let (disk, answer) = poke(alloc, disk, u64::from(block), at as usize, value);
             (disk, Some(answer))
         }
+        Command::Mend => {
+            let (disk, answer) = mend(alloc, disk);
+            (disk, Some(answer))
+        }
         Command::Open => (disk, None),
         _ => (disk, Some(Answer::Down)),
     }
@@ -82,8 +88,8 @@ fn obey(alloc: Global, disk: MemDisk, command: Command<'_>) -> (MemDisk, Option<
 // Overwrites bytes of a block, at once stable.
 fn poke(alloc: Global, disk: MemDisk, block: u64, at: usize, value: &[u8]) -> (MemDisk, Answer)
     requires inside { at + length value.now ≤ 4096 }
-    requires settled { IsSettled disk.past }
-    ensures settled { IsSettled result.0.past }
+    requires whole { IsWhole disk.past }
+    ensures whole { IsWhole result.0.past }
     ensures poked { Pokes disk.past block at value.now result.1 result.0.past }
 {
     let mut disk = disk;
@@ -97,8 +103,21 @@ fn poke(alloc: Global, disk: MemDisk, block: u64, at: usize, value: &[u8]) -> (M
     }
 }
 
-// Shows bytes of a block, as a read of the disk gives them. It is no device call.
-fn show(alloc: Global, disk: &MemDisk, block: u32, at: u32, len: u32) -> Answer
+// Makes stable what the disk reads, of which nothing was lost.
+fn mend(alloc: Global, disk: MemDisk) -> (MemDisk, Answer)
+    requires whole { IsWhole disk.past }
+    ensures whole { IsWhole result.0.past }
+    ensures mended { MendsWhole disk.past result.1 result.0.past }
+{
+    match Circ::mend(alloc, disk) {
+        Ok(disk) => (disk, Answer::Done),
+        // Its writes may be pending.
+        Err(Refused { refusal, disk }) => (disk.crash(&[]), Answer::Refused(refusal)),
+    }
+}
+
+/// Shows bytes of a block, as a read of the disk gives them. It is no device call.
+pub(crate) fn show(alloc: Global, disk: &MemDisk, block: u32, at: u32, len: u32) -> Answer
     requires inside { at + len ≤ 4096 }
     ensures { ShowsBytes disk.now.past block at len result }
 {

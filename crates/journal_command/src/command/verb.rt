@@ -22,9 +22,11 @@ pub enum Verb {
     Open,
     Crash,
     Poke,
+    Lose,
+    Mend,
 }
 
-const VERBS: [Verb; 16] = [
+const VERBS: [Verb; 18] = [
     Verb::Put,
     Verb::Get,
     Verb::Commit,
@@ -41,6 +43,8 @@ const VERBS: [Verb; 16] = [
     Verb::Open,
     Verb::Crash,
     Verb::Poke,
+    Verb::Lose,
+    Verb::Mend,
 ];
 
 impl Verb {
@@ -78,6 +82,8 @@ impl Verb {
             Verb::Open => b"open",
             Verb::Crash => b"crash",
             Verb::Poke => b"poke",
+            Verb::Lose => b"lose",
+            Verb::Mend => b"mend",
         }
     }
 }

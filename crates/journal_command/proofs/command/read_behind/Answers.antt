@@ -1,4 +1,4 @@
-use Rattle.journal_command.proofs.Behind.{no_choice-down, no_choice-crash}
+use Rattle.journal_command.proofs.Behind.{no_choice-down, no_choice-crash, no_choice-lose}
 use Rattle.journal_command.proofs.command.read_behind.Goals as goal
 
 pub returns-in_err-read_choice-in-Down-clause-none : goal.returns-in_err-read_choice-in-Down-clause-none
@@ -8,6 +8,10 @@ returns-in_err-read_choice-in-Down-clause-none c =
 pub returns-in_err-read_choice-in-Crash-clause-none : goal.returns-in_err-read_choice-in-Crash-clause-none
 returns-in_err-read_choice-in-Crash-clause-none c =
     rw (c.from_residual-in_err-read_choice-in-Crash.ensures, c.in-Crash.is) (no_choice-crash _ c.in_err-read_choice-in-Crash.ensures.none)
+
+pub returns-in_err-read_choice-in-Lose-clause-none : goal.returns-in_err-read_choice-in-Lose-clause-none
+returns-in_err-read_choice-in-Lose-clause-none c =
+    rw (c.from_residual-in_err-read_choice-in-Lose.ensures, c.in-Lose.is) (no_choice-lose _ c.in_err-read_choice-in-Lose.ensures.none)
 
 pub returns-in-Put-clause-none : goal.returns-in-Put-clause-none
 returns-in-Put-clause-none c = rw c.in-Put.is c.read_put.ensures.none
