@@ -27,7 +27,7 @@ pub fn open_or_make<R: Files<File = File>>(
     match open_settled(rt, alloc, path) {
         Ok(settled) => Ok(settled.disk()),
         Err(OpenFault::File(why)) if why.kind() == ErrorKind::NotFound => {
-            let disk = create_new_disk(rt, path, BLOCKS)?;
+            let disk = create_new_disk(rt, alloc, path, BLOCKS)?;
             Ok(disk)
         }
         Err(why) => Err(why),

@@ -1,1 +1,2 @@
+mod Current
 mod Numbers

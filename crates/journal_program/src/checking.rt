@@ -1,10 +1,9 @@
 // Disks that are opened to be checked.
 
 use crate::device::{DeviceLock, Medium, lock_medium, medium_of};
-use crate::disk::SizedDisk;
 use crate::fault::{DeviceFault, OpenFault};
 use crate::file::{LockedFile, lock, open_file, open_to_write};
-use crate::inspecting::{DiskFacts, inspect_file};
+use crate::inspecting::{DiskFacts, InspectedDisk, inspect_file};
 use crate::settled::Settled;
 use crate::system::{KEEPS_NO_LOCKS, TAKES_NO_SYNC, is_done, is_locked, may_only_be_read};
 use os::RangeLock;
@@ -34,10 +33,9 @@ pub fn open_to_check<R: Files<File = File>, E: Write>(
     faults: &mut E,
 ) -> Result<ToCheck, OpenFault> {
     let LockedFile { file, lock } = open_file_to_check(rt, alloc, path, faults)?;
-    let facts = inspect_file(alloc, &file)?;
-    let disk = SizedDisk::over(file, facts.blocks)?;
+    let InspectedDisk { facts, disk } = inspect_file(alloc, file)?;
     Ok(ToCheck {
-        disk: Settled::unwritten(disk.locked(lock)),
+        disk: Settled::unwritten(disk.locked(lock).to_be_opened()),
         facts,
     })
 }

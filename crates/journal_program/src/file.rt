@@ -29,6 +29,7 @@ const NEW_MODE: u32 = 0o600;
 /// that was begun is removed then, unless another program has locked it already.
 pub fn create_new_disk<R: Files<File = File>>(
     rt: &R,
+    alloc: Global,
     path: &str,
     blocks: u64,
 ) -> io::Result<SizedDisk>
@@ -38,7 +39,7 @@ pub fn create_new_disk<R: Files<File = File>>(
     let made = fill_named(rt, path, &file, blocks);
     remove_unless(rt, path, made.is_ok());
     made?;
-    SizedDisk::over(file, blocks)
+    SizedDisk::over(alloc, file, blocks)
 }
 
 /// Makes a new file of zeros at the path, but for this label, and answers it as a disk as
@@ -58,7 +59,7 @@ pub fn create_labeled_disk<R: Files<File = File>>(
     let made = fill_labeled(rt, alloc, path, &file, label, room);
     remove_unless(rt, path, made.is_ok());
     made?;
-    let disk = SizedDisk::over(file, label.blocks)?;
+    let disk = SizedDisk::over(alloc, file, label.blocks)?;
     Ok(disk)
 }
 
@@ -68,7 +69,12 @@ pub fn create_labeled_disk<R: Files<File = File>>(
 ///
 /// Refused where another program has its lock, before its content is gone, and for the system's
 /// reason.
-pub fn create_disk<R: Files<File = File>>(rt: &R, path: &str, blocks: u64) -> io::Result<SizedDisk>
+pub fn create_disk<R: Files<File = File>>(
+    rt: &R,
+    alloc: Global,
+    path: &str,
+    blocks: u64,
+) -> io::Result<SizedDisk>
     requires { (MIN_BLOCKS ≤ blocks) × (blocks ≤ MAX_LAYOUT_BLOCKS) }
     ensures { IfOk result (λ disk. disk.size ≡ blocks) }
 {
@@ -76,7 +82,7 @@ pub fn create_disk<R: Files<File = File>>(rt: &R, path: &str, blocks: u64) -> io
     let file = open_file(rt, OpenOptions::new().write(true).create(true), path)?;
     lock(&file, RangeLock::Exclusive)?;
     fill_named(rt, path, &file, blocks)?;
-    SizedDisk::over(file, blocks)
+    SizedDisk::over(alloc, file, blocks)
 }
 
 /// Makes a new file at the path that its owner alone may read and write, and locks it.

@@ -31,46 +31,58 @@ pub struct DiskFacts {
     pub ghost labeled: { ForSome label IsLabel },
 }
 
+/// A disk in a file, and what its blocks tell of it.
+#[derive(Drop)]
+pub(crate) struct InspectedDisk {
+    pub(crate) facts: DiskFacts,
+    /// The disk. It holds the blocks of the log that were read.
+    pub(crate) disk: SizedDisk,
+    ghost sized: { disk.size ≡ facts.blocks },
+}
+
 /// Reads what the disk in a file is. Nothing is written.
 ///
 /// The first that applies of these refuses it: the system's reason, where it does not let the file
 /// be read; a label that is not well formed, or that says more blocks than the file has; a number
 /// of blocks that no disk has; J1 `NoMemory` where memory is refused, J6 `DeviceFailed` where the
 /// device fails, and J7 `BadLog` where the log is not well formed.
-pub(crate) fn inspect_file(alloc: Global, file: &File) -> Result<DiskFacts, OpenFault>
-    ensures files { IfOk result (λ facts. IsTrue facts.has_files → facts.blocks ≤ MAX_BLOCKS) }
-    ensures label { IfOk result (λ facts. ForSome facts.label (λ label. label.blocks ≡ facts.blocks)) }
+pub(crate) fn inspect_file(alloc: Global, file: File) -> Result<InspectedDisk, OpenFault>
+    ensures files { IfOk result (λ found. IsTrue found.facts.has_files → found.facts.blocks ≤ MAX_BLOCKS) }
+    ensures label { IfOk result (λ found. ForSome found.facts.label (λ label. label.blocks ≡ found.facts.blocks)) }
 {
-    let in_file = blocks_in(file)?;
-    let label = read_label(alloc, file, in_file)?;
+    let in_file = blocks_in(&file)?;
+    let label = read_label(alloc, &file, in_file)?;
     inspect_labeled(alloc, file, label, in_file)
 }
 
 /// The same of a file of so many blocks, which has this label.
 pub(crate) fn inspect_labeled(
     alloc: Global,
-    file: &File,
+    file: File,
     label: Option<Label>,
     in_file: u64,
-) -> Result<DiskFacts, OpenFault>
+) -> Result<InspectedDisk, OpenFault>
     requires { ForSome label IsLabel }
-    ensures files { IfOk result (λ facts. IsTrue facts.has_files → facts.blocks ≤ MAX_BLOCKS) }
-    ensures label { IfOk result (λ facts. ForSome facts.label (λ label. label.blocks ≡ facts.blocks)) }
+    ensures files { IfOk result (λ found. IsTrue found.facts.has_files → found.facts.blocks ≤ MAX_BLOCKS) }
+    ensures label { IfOk result (λ found. ForSome found.facts.label (λ label. label.blocks ≡ found.facts.blocks)) }
 {
     let blocks = blocks_by(label, in_file)?;
-    let disk = SizedDisk::over(file.try_clone()?, blocks)?;
-    match inspect(alloc, disk) {
+    let disk = SizedDisk::over(alloc, file, blocks)?;
+    match inspect(alloc, disk.holding_log(alloc)) {
         Ok(
             Inspected {
+                disk,
                 form,
                 has_files,
-                ..
             },
-        ) => Ok(DiskFacts {
-            blocks,
-            label,
-            form,
-            has_files: has_files && blocks <= MAX_BLOCKS,
+        ) => Ok(InspectedDisk {
+            facts: DiskFacts {
+                blocks,
+                label,
+                form,
+                has_files: has_files && blocks <= MAX_BLOCKS,
+            },
+            disk,
         }),
         Err(Refused { refusal, .. }) => Err(OpenFault::Refused(refusal)),
     }

@@ -20,6 +20,7 @@ mod device;
 mod disk;
 mod fault;
 mod file;
+mod held;
 mod inspecting;
 mod label;
 mod labeling;

@@ -84,7 +84,7 @@ impl FoundDevice {
         file.sync_data()?;
         write_label(alloc, file, label)?;
         file.sync_data()?;
-        Ok(SizedDisk::over(self.file, end)?.locked(self.lock))
+        Ok(SizedDisk::over(alloc, self.file, end)?.locked(self.lock))
     }
 }
 

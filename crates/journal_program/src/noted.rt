@@ -8,7 +8,7 @@ use std::io;
 
 /// A file of the system, and why the first of its calls failed that did.
 #[derive(Drop)]
-pub(crate) struct NotedFile {
+pub struct NotedFile {
     file: System<File>,
     why: Option<io::Error>,
 }

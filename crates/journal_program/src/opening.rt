@@ -2,11 +2,10 @@
 ghost use Rattle.std.specs.Prelude.{◌≡◌, ◌≤◌, IfOk};
 ghost use Rattle.journal_world.specs.declared.layout.TheConstants.{MIN_BLOCKS};
 
-use crate::device::DeviceLock;
 use crate::disk::SizedDisk;
 use crate::fault::OpenFault;
 use crate::file::{LockedFile, open_to_write};
-use crate::inspecting::{DiskFacts, inspect_file};
+use crate::inspecting::{DiskFacts, InspectedDisk, inspect_file};
 use crate::settled::Settled;
 use journal_world::Refused;
 use std::alloc::Global;
@@ -18,9 +17,8 @@ use std::fs::{File, Files, OpenFile};
 pub struct FoundDisk {
     /// What its blocks tell of it.
     pub facts: DiskFacts,
-    // The file of the disk, and the lock of its device.
-    file: File,
-    lock: Option<DeviceLock>,
+    disk: SizedDisk,
+    ghost sized: { disk.size ≡ facts.blocks },
 }
 
 impl FoundDisk {
@@ -36,8 +34,7 @@ impl FoundDisk {
     pub fn settle(self, alloc: Global) -> Result<Settled, OpenFault>
         ensures { IfOk result (λ settled. settled.inner.size ≡ self.facts.blocks) }
     {
-        let disk = SizedDisk::over(self.file, self.facts.blocks)?;
-        settle(alloc, disk.locked(self.lock))
+        settle(alloc, self.disk)
     }
 }
 
@@ -57,8 +54,11 @@ pub fn find_disk<R: Files<File = File>>(
     path: &str,
 ) -> Result<FoundDisk, OpenFault> {
     let LockedFile { file, lock } = open_to_write(rt, alloc, path)?;
-    let facts = inspect_file(alloc, &file)?;
-    Ok(FoundDisk { facts, file, lock })
+    let InspectedDisk { facts, disk } = inspect_file(alloc, file)?;
+    Ok(FoundDisk {
+        facts,
+        disk: disk.locked(lock),
+    })
 }
 
 /// The disk in the file at the path, on which nothing is pending, and which no other program uses
@@ -80,7 +80,7 @@ pub(crate) fn settle(alloc: Global, disk: SizedDisk) -> Result<Settled, OpenFaul
     ensures { IfOk result (λ settled. settled.inner.size ≡ disk.size) }
 {
     match Settled::mended(alloc, disk) {
-        Ok(settled) => Ok(settled),
+        Ok(settled) => Ok(settled.to_be_opened()),
         Err(Refused { refusal, disk }) => match disk.into_failure() {
             Some(why) => Err(OpenFault::File(why)),
             None => Err(OpenFault::Refused(refusal)),

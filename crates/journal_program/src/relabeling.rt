@@ -7,7 +7,7 @@ use crate::device::DeviceLock;
 use crate::disk::SizedDisk;
 use crate::fault::{LabelFault, OpenFault};
 use crate::file::{LockedFile, open_to_write};
-use crate::inspecting::{DiskFacts, blocks_in, inspect_labeled};
+use crate::inspecting::{DiskFacts, InspectedDisk, blocks_in, inspect_labeled};
 use crate::label::Label;
 use crate::labeling::{read_label, write_label};
 use crate::making::refuse_others;
@@ -96,7 +96,7 @@ impl DiskToLabel {
 
     // Makes stable what the disk reads.
     fn settle(&self, alloc: Global) -> Result<(), OpenFault> {
-        let disk = SizedDisk::over(self.file.try_clone()?, self.facts.blocks)?;
+        let disk = SizedDisk::over(alloc, self.file.try_clone()?, self.facts.blocks)?;
         settle(alloc, disk)?;
         Ok(())
     }
@@ -121,7 +121,12 @@ pub fn find_disk_to_label<R: Files<File = File>>(
     let LockedFile { file, lock } = open_to_write(rt, alloc, path)?;
     let in_file = blocks_in(&file)?;
     let OldLabel { label, is_bad } = read_old_label(alloc, &file, in_file)?;
-    let facts = inspect_labeled(alloc, &file, label, in_file)?;
+    let InspectedDisk { facts, disk: _ } = inspect_labeled(
+        alloc,
+        file.try_clone()?,
+        label,
+        in_file,
+    )?;
     Ok(DiskToLabel {
         facts,
         has_bad_label: is_bad,

@@ -76,3 +76,14 @@ impl<D: BlockDisk> Settled<D> {
         self.inner
     }
 }
+
+impl Settled<SizedDisk> {
+    /// The same, whose disk holds what it has of the log only until the journal is open.
+    pub(crate) fn to_be_opened(self) -> Settled
+        ensures { result.inner ≡ self.inner }
+    {
+        Settled {
+            inner: self.inner.to_be_opened(),
+        }
+    }
+}

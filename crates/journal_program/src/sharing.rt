@@ -1,14 +1,12 @@
 // Disks that are opened to be read alone.
-ghost use Rattle.std.specs.Prelude.{◌≡◌, IfOk};
+ghost use Rattle.std.specs.Prelude.{◌≡◌};
 
-use crate::device::DeviceLock;
 use crate::disk::SizedDisk;
 use crate::fault::OpenFault;
 use crate::file::{LockedFile, open_to_share};
-use crate::inspecting::{DiskFacts, inspect_file};
+use crate::inspecting::{DiskFacts, InspectedDisk, inspect_file};
 use std::alloc::Global;
 use std::fs::{File, Files};
-use std::io;
 
 /// A disk in a file that may be read alone, and that no program writes as long as it is open. Its
 /// log is well formed.
@@ -16,21 +14,18 @@ use std::io;
 pub struct SharedDisk {
     /// What its blocks tell of it.
     pub facts: DiskFacts,
-    // The file of the disk, and the lock of its device.
     file: File,
-    lock: Option<DeviceLock>,
+    disk: SizedDisk,
+    ghost sized: { disk.size ≡ facts.blocks },
 }
 
 impl SharedDisk {
     /// The disk. Each write to it and each sync that has something to write fails, because the
     /// system refuses it.
-    ///
-    /// Refused where the system does not tell where the file ends.
-    pub fn disk(self) -> io::Result<SizedDisk>
-        ensures { IfOk result (λ disk. disk.size ≡ self.facts.blocks) }
+    pub fn disk(self) -> SizedDisk
+        ensures { result.size ≡ self.facts.blocks }
     {
-        let disk = SizedDisk::over(self.file, self.facts.blocks)?;
-        Ok(disk.locked(self.lock))
+        self.disk
     }
 
     /// The file of the disk.
@@ -49,6 +44,10 @@ pub fn share_disk<R: Files<File = File>>(
     path: &str,
 ) -> Result<SharedDisk, OpenFault> {
     let LockedFile { file, lock } = open_to_share(rt, alloc, path)?;
-    let facts = inspect_file(alloc, &file)?;
-    Ok(SharedDisk { facts, file, lock })
+    let InspectedDisk { facts, disk } = inspect_file(alloc, file.try_clone()?)?;
+    Ok(SharedDisk {
+        facts,
+        file,
+        disk: disk.locked(lock).to_be_opened(),
+    })
 }
