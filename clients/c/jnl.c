@@ -28,7 +28,8 @@ enum { SPARE_ROOM = 8192 };
 
 struct jnl {
     struct connection connection;
-    jnl_txn *spare; /* one that has ended, for the next one, or NULL */
+    jnl_txn *spare;   /* one that has ended, for the next one, or NULL */
+    jnl_addr refused; /* as jnl_refused says */
 };
 
 /* The transaction's record, as far as it is spelled. */
@@ -64,10 +65,18 @@ static void discard(void *memory)
 
 /* ---- the connection */
 
+/* Answers a status, and keeps of which object it is said, where it refuses one. */
+static int refuse(jnl *j, jnl_addr a, int status)
+{
+    if (status == JNL_BAD_ADDRESS || status == JNL_BAD_SIZE) j->refused = a;
+    return status;
+}
+
 static int ask(jnl *j, uint32_t operation, uint8_t *record, size_t n, uint8_t *answer,
                size_t room, size_t wanted, size_t *size)
 {
-    return jnl_ask(&j->connection, operation, record, n, answer, room, wanted, size);
+    int s = jnl_ask(&j->connection, operation, record, n, answer, room, wanted, size);
+    return refuse(j, (jnl_addr){0, 0}, s);
 }
 
 static int open_at(const char *path, uint16_t number, unsigned milliseconds, jnl **out)
@@ -135,6 +144,11 @@ void jnl_describe(const jnl *j, jnl_disk *out)
     if (out) *out = j ? j->connection.disk : (jnl_disk){0};
 }
 
+jnl_addr jnl_refused(const jnl *j)
+{
+    return j ? j->refused : (jnl_addr){0, 0};
+}
+
 /* ---- addresses */
 
 /* How many bits the objects of a block have, or 0 where it has none. */
@@ -159,7 +173,7 @@ static int check(jnl *j, jnl_addr a, const uint8_t *value, size_t size)
     int is_bit = bits == 1 && size == 1 && (!value || *value <= 1);
     if (is_there && (bits == 1 ? is_bit : size == bits / 8)) return JNL_OK;
     if (!d->region_count || !jnl_is_current(&j->connection)) return JNL_OK;
-    return is_there ? JNL_BAD_SIZE : JNL_BAD_ADDRESS;
+    return refuse(j, a, is_there ? JNL_BAD_SIZE : JNL_BAD_ADDRESS);
 }
 
 /* ---- transactions */
@@ -301,7 +315,9 @@ static int find_missing(jnl_txn *t, const jnl_object *objects, size_t n, struct 
     for (size_t i = 0; i < n; i++) {
         uint8_t *own = own_part(t, objects[i].addr);
         if (!objects[i].value) return JNL_MISUSE;
-        if (own && size_of(own) != objects[i].size) return JNL_BAD_SIZE;
+        if (own && size_of(own) != objects[i].size) {
+            return refuse(t->j, objects[i].addr, JNL_BAD_SIZE);
+        }
         int s = own ? JNL_OK : check(t->j, objects[i].addr, NULL, objects[i].size);
         if (s) return s;
         if (!own) m->numbers[m->count++] = (uint16_t)i;
@@ -338,7 +354,7 @@ static int keep(jnl_txn *t, const jnl_object *objects, const struct missing *m,
     const uint8_t *at = value;
     for (size_t i = 0; i < m->count; i++, at = next_value(at)) {
         size_t size = objects[m->numbers[i]].size;
-        if (get32(at) != size) return JNL_BAD_SIZE;
+        if (get32(at) != size) return refuse(t->j, objects[m->numbers[i]].addr, JNL_BAD_SIZE);
         bytes += PART_HEAD + padded(size);
     }
     int s = make_room(t, m->count, bytes);
@@ -399,9 +415,8 @@ int jnl_read(jnl_txn *t, jnl_addr a, void *into, size_t size)
 int jnl_write(jnl_txn *t, jnl_addr a, const void *bytes, size_t size)
 {
     if (!t || !bytes) return JNL_MISUSE;
-    if (size > MAX_VALUE) return JNL_BAD_SIZE;
     uint8_t *own = find(t, WRITE, a);
-    if (own && size_of(own) != size) return JNL_BAD_SIZE;
+    if (size > MAX_VALUE || (own && size_of(own) != size)) return jnl_refuse(t, a, JNL_BAD_SIZE);
     if (own) return memcpy(own + PART_HEAD, bytes, size), JNL_OK;
     int s = check(t->j, a, bytes, size);
     return s ? s : note(t, add(t, WRITE, a, bytes, size));
@@ -410,12 +425,16 @@ int jnl_write(jnl_txn *t, jnl_addr a, const void *bytes, size_t size)
 int jnl_expect(jnl_txn *t, jnl_addr a, const void *bytes, size_t size)
 {
     if (!t || !bytes) return JNL_MISUSE;
-    if (size > MAX_VALUE) return JNL_BAD_SIZE;
     uint8_t *own = find(t, COMPARE, a);
-    if (own && size_of(own) != size) return JNL_BAD_SIZE;
+    if (size > MAX_VALUE || (own && size_of(own) != size)) return jnl_refuse(t, a, JNL_BAD_SIZE);
     if (own) return memcmp(own + PART_HEAD, bytes, size) ? JNL_CONFLICT : JNL_OK;
     int s = check(t->j, a, bytes, size);
     return s ? s : note(t, add(t, COMPARE, a, bytes, size));
+}
+
+int jnl_refuse(jnl_txn *t, jnl_addr a, int status)
+{
+    return refuse(t->j, a, status);
 }
 
 int jnl_has(jnl_txn *t, jnl_addr a)
@@ -478,7 +497,7 @@ int jnl_next(jnl *j, uint64_t *tag, int *status, jnl_receipt *receipt)
     int s = jnl_take_answer(&j->connection, &f);
     if (s) return s;
     *tag = f.tag;
-    *status = f.status;
+    *status = refuse(j, (jnl_addr){0, 0}, f.status);
     if (receipt) *receipt = f.receipt;
     return JNL_OK;
 }

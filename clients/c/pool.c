@@ -108,9 +108,9 @@ int jnl_pool_give(jnl_pool *p, jnl_txn *t, uint32_t bit)
     static const uint8_t is_free = 0;
     uint8_t is_used;
     if (!p || !t) return JNL_MISUSE;
-    if (bit < p->first || bit >= p->end) return JNL_BAD_ADDRESS;
     jnl_addr a = {p->block, bit};
+    if (bit < p->first || bit >= p->end) return jnl_refuse(t, a, JNL_BAD_ADDRESS);
     int s = jnl_read(t, a, &is_used, 1);
     if (s) return s;
-    return is_used ? jnl_write(t, a, &is_free, 1) : JNL_BAD_ADDRESS;
+    return is_used ? jnl_write(t, a, &is_free, 1) : jnl_refuse(t, a, JNL_BAD_ADDRESS);
 }

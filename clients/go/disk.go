@@ -45,16 +45,16 @@ func (d *Disk) objectAt(a Address) (bits uint32, isOne bool) {
 	return bits, bits != 0 && a.Bit < blockBits && a.Bit&(bits-1) == 0
 }
 
-// checkAddress returns BadAddress where an address names no object. Where the port has told no
+// checkAddress refuses an address that names no object, by BadAddress. Where the port has told no
 // regions it does not: the port is to find that.
 func (d *Disk) checkAddress(a Address) error {
 	if _, isOne := d.objectAt(a); !isOne && len(d.Regions) > 0 {
-		return BadAddress
+		return &ObjectRefusal{BadAddress, a}
 	}
 	return nil
 }
 
-// check returns what checkAddress does, or BadSize where the object never has the value.
+// check refuses what checkAddress does, and by BadSize a value that the object never has.
 func (d *Disk) check(a Address, value []byte) error {
 	bits, isOne := d.objectAt(a)
 	isBit := bits == 1 && len(value) == 1 && value[0] <= 1
@@ -62,11 +62,11 @@ func (d *Disk) check(a Address, value []byte) error {
 	case len(d.Regions) == 0:
 		return nil
 	case !isOne:
-		return BadAddress
+		return &ObjectRefusal{BadAddress, a}
 	case isBit || (bits > 1 && len(value) == int(bits/8)):
 		return nil
 	}
-	return BadSize
+	return &ObjectRefusal{BadSize, a}
 }
 
 // checkAll checks each of some objects.

@@ -59,6 +59,22 @@ func (r Refusal) Error() string {
 	return fmt.Sprintf("jnl: refused by %d: %s", uint32(r), reasons[r])
 }
 
+// ObjectRefusal is a Refusal of one object, by BadAddress or BadSize, that the client has found.
+// errors.Is finds the Refusal in it. A port that refuses an object itself does not say which, so that
+// is the Refusal alone.
+type ObjectRefusal struct {
+	Refusal Refusal
+	Address Address
+}
+
+func (r *ObjectRefusal) Error() string {
+	return fmt.Sprintf("%v: block %d, bit %d", r.Refusal, r.Address.Block, r.Address.Bit)
+}
+
+func (r *ObjectRefusal) Unwrap() error {
+	return r.Refusal
+}
+
 func (r Refusal) endsSession() bool {
 	return r == Stale || r == Stranger || r == Worn || r == Fenced
 }

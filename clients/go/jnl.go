@@ -151,16 +151,20 @@ func (j *Journal) refuse(found error) error {
 // checkCommit refuses a commit of what no record can hold, or of objects that the disk does not
 // have.
 func (j *Journal) checkCommit(compared, written *objects) error {
+	err := compared.checkSizes()
+	if err == nil {
+		err = written.checkSizes()
+	}
 	switch {
 	case len(compared.list)+len(written.list) > maxParts:
 		return TooLarge
-	case compared.longest() > maxValue || written.longest() > maxValue:
-		return BadSize
+	case err != nil:
+		return err
 	case commitBytes+len(compared.parts)+len(written.parts) > maxRecord:
 		return TooLarge
 	}
 	disk := j.promises.disk.Load()
-	err := disk.checkAll(compared)
+	err = disk.checkAll(compared)
 	if err == nil {
 		err = disk.checkAll(written)
 	}

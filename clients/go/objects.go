@@ -107,13 +107,12 @@ func (o *objects) replace(at int, value []byte) {
 	}
 }
 
-// longest returns the size of the longest value.
-func (o *objects) longest() int {
-	most := 0
+// checkSizes refuses a value that no record can hold.
+func (o *objects) checkSizes() error {
 	for i := range o.list {
-		if size := o.list[i].size; size > most {
-			most = size
+		if o.list[i].size > maxValue {
+			return &ObjectRefusal{BadSize, o.list[i].address}
 		}
 	}
-	return most
+	return nil
 }

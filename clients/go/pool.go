@@ -46,16 +46,16 @@ func (p *Pool) Take(t *Tx) (uint32, error) {
 // Give gives a record back in a transaction. It returns BadAddress where the record is not in use,
 // or none of the pool.
 func (p *Pool) Give(t *Tx, record uint32) error {
-	if record < p.first || record >= p.end {
-		return BadAddress
-	}
 	at := Address{p.block, record}
+	if record < p.first || record >= p.end {
+		return &ObjectRefusal{BadAddress, at}
+	}
 	value, err := t.Read(at)
 	if err != nil {
 		return err
 	}
 	if value[0] == 0 {
-		return BadAddress
+		return &ObjectRefusal{BadAddress, at}
 	}
 	t.Write(at, []byte{0})
 	return nil

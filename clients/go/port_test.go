@@ -192,7 +192,9 @@ func TestRefusals(t *testing.T) {
 		{Address{514, 0}, []byte{2}, BadSize},
 		{Address{515, 1024}, make([]byte, 127), BadSize},
 	} {
-		if err := writeOne(j, row.address, row.value); !errors.Is(err, row.want) {
+		err := writeOne(j, row.address, row.value)
+		var object *ObjectRefusal
+		if !errors.Is(err, row.want) || !errors.As(err, &object) || object.Address != row.address {
 			t.Errorf("%v: %v, not %v", row.address, err, row.want)
 		}
 	}
@@ -229,7 +231,9 @@ func TestWhatNoRecordHolds(t *testing.T) {
 			t.Errorf("too many: %v", err)
 		}
 	}
-	if err := commitOf(j, blocks[:1], make([]byte, 4097)); !errors.Is(err, BadSize) {
+	var long *ObjectRefusal
+	err = commitOf(j, blocks[:1], make([]byte, 4097))
+	if !errors.As(err, &long) || *long != (ObjectRefusal{BadSize, blocks[0]}) {
 		t.Errorf("a value of 4097 bytes: %v", err)
 	}
 	if after, err := j.Stat(); err != nil || after.Commits != before.Commits {

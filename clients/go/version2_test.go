@@ -174,8 +174,11 @@ func TestCountersAndRegions(t *testing.T) {
 	if d := j.Disk(); len(d.Regions) != 4 || d.Regions[3].First != 531 || d.Version != 2 {
 		t.Errorf("%v", d)
 	}
-	_, err = j.Read(Address{515, 1})
-	wantError(t, "a read", err, BadAddress)
+	var object *ObjectRefusal
+	_, err = j.Read(Address{515, 0}, Address{515, 1})
+	if !errors.As(err, &object) || *object != (ObjectRefusal{BadAddress, Address{515, 1}}) {
+		t.Errorf("a read: %v", err)
+	}
 }
 
 func TestAPortOfVersion1(t *testing.T) {

@@ -143,6 +143,12 @@ static void refusals(jnl *j)
     want(jnl_read(NULL, (jnl_addr){531, 0}, value, BLOCK), JNL_MISUSE, "no transaction");
 }
 
+static void want_refused(jnl *j, jnl_addr wanted)
+{
+    jnl_addr found = jnl_refused(j);
+    want(found.block == wanted.block && found.bit == wanted.bit, 1, "the object that is refused");
+}
+
 static void reads_of_many(jnl *j)
 {
     static unsigned char block[BLOCK], small[SIZE], again[SIZE], bit;
@@ -158,11 +164,14 @@ static void reads_of_many(jnl *j)
     block[0] = small[0] = 9;
     many[2].size = 2;
     want(jnl_read_many(t, many, 4), JNL_BAD_SIZE, "a size of its own");
+    want_refused(j, many[2].addr);
     many[2].size = 1;
     many[3].size = SIZE - 1;
     want(jnl_read_many(t, many, 4), JNL_BAD_SIZE, "a size");
+    want_refused(j, many[3].addr);
     many[3] = (jnl_object){{3, 0}, again, SIZE};
     want(jnl_read_many(t, many, 4), JNL_BAD_ADDRESS, "an address");
+    want_refused(j, many[3].addr);
     want(block[0] + small[0] + bit, 18, "what refused reads leave");
     many[3] = (jnl_object){{521, 0}, again, SIZE};
     want(jnl_read_many(t, many, 4), JNL_OK, "many");
@@ -201,6 +210,7 @@ static void what_no_record_holds(jnl *j)
         want(write_many(j, blocks, 512, BLOCK, 1), JNL_TOO_LARGE, "2 MiB");
     }
     want(write_many(j, blocks, 1, BLOCK + 1, 1), JNL_BAD_SIZE, "a value of 4097 bytes");
+    want_refused(j, blocks);
 }
 
 static jnl_addr bit_of(unsigned i)

@@ -197,6 +197,7 @@ static void pools(jnl *j)
     want(jnl_run(j, take_some, &all, 0, NULL), JNL_NO_FREE, "a take of none");
     want(jnl_run(j, give_first, &all, 0, NULL), JNL_OK, "a give");
     want(jnl_run(j, give_first, &all, 0, NULL), JNL_BAD_ADDRESS, "a give of a free record");
+    want(jnl_refused(j).bit, all.bits[0], "which record is free");
     all.count = 1;
     want(jnl_run(j, take_some, &all, 0, NULL), JNL_OK, "a take of what was given");
     jnl_pool_close(all.pool);
@@ -253,6 +254,8 @@ static void an_old_port(const char *path)
     jnl_describe(j, &d);
     want(d.version == 1 && d.blocks > 531 && !d.region_count, 1, "what version 1 tells");
     want(put(j, FIRST, 1, 0), JNL_OK, "a commit");
+    want(put(j, ALL, 1, 0), JNL_BAD_ADDRESS, "an address");
+    want((long)jnl_refused(j).block, 0, "the object, which a port of version 1 does not tell");
     want(jnl_counters(j, NULL, 0, &n), JNL_OTHER_VERSION, "counters");
     want(jnl_scan(j, (jnl_scan_of){BITS, 0, 0}, NULL, 0, &n), JNL_OTHER_VERSION, "a scan");
     want(jnl_flush(j, NULL), JNL_OK, "flush");

@@ -89,15 +89,6 @@ class Transaction(Objects):
             self._keep(missing, self._journal.read(missing))
         return [self._own(a) for a in addresses]
 
-    def has(self, block: int, bit: int) -> bool:
-        """True if the transaction has read or overwritten the object."""
-        return self._own((block, bit)) is not None
-
-    def expect(self, block: int, bit: int, value: bytes) -> None:
-        """Has the commit compare an object with a value that the caller knows, as if it had been
-        read. Raises Conflict where the transaction has read another value."""
-        self._expect((block, bit), value)
-
     def commit(self, wait: bool = False) -> Receipt:
         """Commits. With `wait` it is stable once this returns."""
         return self._journal.commit(self._parts(), wait)
@@ -379,13 +370,10 @@ class Journal:
     def _check(self, objects: Sequence[Tuple[Address, Optional[bytes]]]) -> None:
         """Refuses what the disk does not have, where the port has told its regions. A port that may
         be another by now is to say so itself."""
-        if not self.disk.regions or self._socket is None:
-            return
         try:
-            for address, value in objects:
-                self.disk.check(address, value)
+            self.disk.check_all(objects)
         except Refused:
-            if self._flights or self._is_quiet():
+            if self._socket is not None and (self._flights or self._is_quiet()):
                 raise
 
     def submit(self, parts: Sequence[Part], wait: bool = False, tag: object = None) -> None:

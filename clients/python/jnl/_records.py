@@ -68,15 +68,18 @@ T = TypeVar("T")
 
 
 class Refused(Exception):
-    """Nothing was done. `status` says why.
+    """Nothing was done. `status` says why. `address` is the object that 2 or 3 is said of, where the
+    client has refused it, and None where the port has, which does not say which.
 
     What no record can hold is refused before anything is sent: by 3 a value of more than 4096
     bytes, and by 4 a read of more than 256 objects, and a commit of more than 4096 parts or 2 MiB.
     """
 
-    def __init__(self, status: int):
-        super().__init__(f"{status}: {REASONS.get(status, 'unknown')}")
+    def __init__(self, status: int, address: Optional[Address] = None):
+        which = "" if address is None else f": block {address[0]}, bit {address[1]}"
+        super().__init__(f"{status}: {REASONS.get(status, 'unknown')}{which}")
         self.status = status
+        self.address = address
 
 
 class Conflict(Refused):
@@ -185,11 +188,17 @@ class Disk(NamedTuple):
         block, bit = address
         bits = self._bits_of(block)
         if bits == 0 or not 0 <= bit < BLOCK_BITS or bit % bits:
-            raise Refused(BAD_ADDRESS)
+            raise Refused(BAD_ADDRESS, address)
         if value is not None and len(value) != (bits + 7) // 8:
-            raise Refused(BAD_SIZE)
+            raise Refused(BAD_SIZE, address)
         if value is not None and bits == 1 and value[0] > 1:
-            raise Refused(BAD_SIZE)
+            raise Refused(BAD_SIZE, address)
+
+    def check_all(self, objects: Sequence[Tuple[Address, Optional[bytes]]]) -> None:
+        """The same of many. A port that has told no regions is to refuse them itself."""
+        if self.regions:
+            for address, value in objects:
+                self.check(address, value)
 
     def _bits_of(self, block: int) -> int:
         """How many bits the objects of a block have, or 0 where it has none."""
@@ -336,13 +345,14 @@ def _address(address: Address) -> bytes:
     try:
         return struct.pack(">QI", *address)
     except struct.error:
-        raise Refused(BAD_ADDRESS) from None
+        raise Refused(BAD_ADDRESS, address) from None
 
 
-def _value(value: bytes) -> bytes:
+def _object(address: Address, value: bytes) -> bytes:
+    spelled = _address(address)
     if len(value) > MAX_VALUE:
-        raise Refused(BAD_SIZE)
-    return struct.pack(">I", len(value)) + value + bytes(-len(value) % 4)
+        raise Refused(BAD_SIZE, address)
+    return spelled + struct.pack(">I", len(value)) + value + bytes(-len(value) % 4)
 
 
 def _region(answer: Reader) -> Region:
@@ -392,7 +402,7 @@ def commit_of(parts: Sequence[Part], wait: bool) -> Request[Receipt]:
     """A commit of parts, each of which compares or writes."""
     check_number(parts, MAX_PARTS)
     body = struct.pack(">II", wait, len(parts))
-    body += b"".join(struct.pack(">I", act) + _address(a) + _value(v) for act, a, v in parts)
+    body += b"".join(struct.pack(">I", act) + _object(a, v) for act, a, v in parts)
     return Request(COMMIT, body, Reader.receipt)
 
 
@@ -453,9 +463,14 @@ class Objects:
         """Has the object overwritten by the commit."""
         self._writes[(block, bit)] = bytes(value)
 
-    def _expect(self, address: Address, value: bytes) -> None:
-        """Has the commit compare an object with a value that was not read."""
-        if self._reads.setdefault(address, bytes(value)) != value:
+    def has(self, block: int, bit: int) -> bool:
+        """True if the transaction has read or overwritten the object."""
+        return self._own((block, bit)) is not None
+
+    def expect(self, block: int, bit: int, value: bytes) -> None:
+        """Has the commit compare an object with a value that the caller knows, as if it had been
+        read. Raises Conflict where the transaction has read another value."""
+        if self._reads.setdefault((block, bit), bytes(value)) != value:
             raise Conflict()
 
     def _own(self, address: Address) -> Optional[bytes]:

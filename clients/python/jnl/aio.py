@@ -40,7 +40,7 @@ from typing import (
     TypeVar,
 )
 
-from . import _records
+from . import _records, pool
 from ._records import (
     Address,
     Conflict,
@@ -291,7 +291,8 @@ class Journal:
             if isinstance(error, (OSError, Lost)) and not isinstance(error, ProtocolError):
                 raise _records.no_port(error) from error
             raise
-        self._is_another = self._promises.meet(disk)
+        # Where a call was cancelled before it could tell of an earlier one, that is still to be told.
+        self._is_another = self._promises.meet(disk) or self._is_another
         return connection
 
     async def _usable(self) -> _Connection:
@@ -329,17 +330,36 @@ class Journal:
 
     async def read(self, addresses: Sequence[Address]) -> list:
         """The values of at most 256 objects, all at one place of the history."""
-        return await self._ask(_records.read_of(addresses))
+        request = _records.read_of(addresses)
+        self._check([(address, None) for address in addresses])
+        return await self._ask(request)
 
     async def commit(self, parts: Sequence[Part], wait: bool = False) -> Receipt:
         """Commits parts, each of which compares or writes."""
+        request = _records.commit_of(parts, wait)
+        self._check([(address, value) for _, address, value in parts])
         try:
-            receipt = await self._ask(_records.commit_of(parts, wait))
+            receipt = await self._ask(request)
         except Unsure as error:
             self._promises.note_commit(error.receipt, False)
             raise
         self._promises.note_commit(receipt, wait)
         return receipt
+
+    def _check(self, objects: Sequence[Tuple[Address, Optional[bytes]]]) -> None:
+        """Refuses what the disk does not have, where the port has told its regions. A port that may
+        be another by now is to say so itself."""
+        try:
+            self.disk.check_all(objects)
+        except Refused:
+            if self._is_current():
+                raise
+
+    def _is_current(self) -> bool:
+        """Whether the port has not ended the connection, so that the disk is as it was told."""
+        with contextlib.suppress(Lost):
+            return self._connection is not None and self._connection.is_usable()
+        return False
 
     def begin(self) -> Transaction:
         """A transaction that has done nothing yet."""
@@ -400,6 +420,29 @@ class Journal:
         await self._ask(_records.stop())
         self._promises.note_stop()
         await self.close()
+
+
+class Pool(pool.Records):
+    """Free records by the bits of a block, as `jnl.Pool`, for all tasks of one event loop."""
+
+    def __init__(
+        self, journal: Journal, block: int, records: range = range(_records.BLOCK_BITS)
+    ):
+        super().__init__(block, records)
+        self._journal = journal
+        self._looking = asyncio.Lock()
+
+    async def take(self, transaction: Transaction) -> int:
+        """Takes a record that is free, as `jnl.Pool.take` does."""
+        async with self._looking:
+            if not self._free:
+                self._keep(await self._journal.scan(self._block, self._records.start, False))
+            return self._take_found(transaction)
+
+    async def give(self, transaction: Transaction, record: int) -> None:
+        """Gives a record back, as `jnl.Pool.give` does."""
+        self._check(record)
+        self._give_back(transaction, record, await transaction.read(self._block, record))
 
 
 async def _greet(connection: _Connection) -> Disk:

@@ -96,6 +96,10 @@ class Done(unittest.IsolatedAsyncioTestCase):
             with self.assertRaises(jnl.Refused) as caught:
                 await self.journal.commit(parts(address, value))
             self.assertEqual(caught.exception.status, status)
+        for call in (self.journal.read([(3, 0)]), self.journal.commit(parts((527, 0), b""))):
+            with self.assertRaises(jnl.Refused) as caught:
+                call.send(None)  # it waits for nothing
+            self.assertIn(caught.exception.address, [(3, 0), (527, 0)])
         with self.assertRaises(jnl.Refused) as caught:
             await self.journal.read([(531, 0)] * 257)
         self.assertEqual(caught.exception.status, 4)

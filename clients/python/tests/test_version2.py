@@ -4,6 +4,7 @@ JNL_SOCKET is the port's socket and JNL_FAULTY_SOCKET that of clients/tests/faul
 lists the faults. JNL_OLD_SOCKET is that of a port of version 1.
 """
 
+import asyncio
 import os
 import sys
 import time
@@ -195,8 +196,18 @@ class Finds(unittest.TestCase):
         self.assertEqual(regions, [513, 514, 515, 531])
         for address in ((3, 0), (BITS, 32768), (515, 1), (self.journal.blocks, 0)):
             with self.assertRaises(jnl.Refused) as caught:
-                self.journal.read([address])
-            self.assertEqual(caught.exception.status, 2)
+                self.journal.read([(515, 0), address])
+            self.assertEqual((caught.exception.status, caught.exception.address), (2, address))
+
+    def test_which_object_is_refused(self) -> None:
+        wrong = [((BITS, 40000), b"\1", 2), ((BITS, 7), b"\2", 3), ((515, 0), bytes(4097), 3)]
+        for address, value, status in wrong:
+            t = self.journal.begin()
+            for block, bit, of in ((515, 1024, bytes(128)), (*address, value), (516, 1024, b"")):
+                t.write(block, bit, of)
+            with self.assertRaises(jnl.Refused) as caught:
+                t.commit()
+            self.assertEqual((caught.exception.status, caught.exception.address), (status, address))
 
     def test_expected_values(self) -> None:
         self.clear(FIRST + 1)
@@ -204,6 +215,23 @@ class Finds(unittest.TestCase):
         t.expect(BITS, FIRST, b"\1")
         self.assertRaises(jnl.Conflict, t.commit)
         self.assertRaises(jnl.Conflict, t.expect, BITS, FIRST, b"\0")
+
+
+@unittest.skipUnless(PATH, "there is no port")
+class FindsOfTasks(unittest.IsolatedAsyncioTestCase):
+    async def test_many_tasks_take_from_a_pool(self) -> None:
+        async with await jnl.aio.connect(PATH, timeout=30) as j:
+            bits = range(FIRST, FIRST + 64)
+            await j.commit([(jnl.WRITE, (BITS, bit), b"\0") for bit in bits])
+            pool = jnl.aio.Pool(j, BITS, bits)
+            taken = await asyncio.gather(*(j.run(pool.take, wait=False) for _ in bits))
+            self.assertEqual(sorted(taken), list(bits))
+            with self.assertRaises(jnl.NoneFree):
+                await j.run(pool.take)
+            await j.run(lambda t: pool.give(t, FIRST + 9))
+            self.assertEqual(await j.run(pool.take), FIRST + 9)
+            with self.assertRaises(jnl.Refused):
+                await j.run(lambda t: pool.give(t, FIRST + 64))
 
 
 @unittest.skipUnless(OLD_PATH, "there is no port of version 1")
@@ -220,6 +248,9 @@ class Old(unittest.TestCase):
                     call()
                 self.assertEqual(caught.exception.status, 69)
             self.assertEqual(j.stat().commits, commits)
+            with self.assertRaises(jnl.Refused) as caught:
+                j.read([(3, 0)])
+            self.assertEqual((caught.exception.status, caught.exception.address), (2, None))
 
 
 @unittest.skipUnless(OLD_PATH, "there is no port of version 1")
@@ -230,6 +261,9 @@ class OldOfTasks(unittest.IsolatedAsyncioTestCase):
             with self.assertRaises(jnl.Refused) as caught:
                 await j.scan(BITS)
             self.assertEqual(caught.exception.status, 69)
+            with self.assertRaises(jnl.Refused) as caught:
+                await j.read([(3, 0)])
+            self.assertEqual((caught.exception.status, caught.exception.address), (2, None))
             await j.flush()
 
 

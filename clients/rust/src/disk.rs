@@ -58,7 +58,7 @@ impl Disk {
     pub(crate) fn check_address(&self, address: &Address) -> Result<u32, Error> {
         match self.bits_of(address.block) {
             Some(bits) if address.bit < BLOCK_BITS && address.bit % bits == 0 => Ok(bits),
-            _ => Err(Error::Refused(Refusal::BadAddress)),
+            _ => Err(Error::RefusedObject(Refusal::BadAddress, *address)),
         }
     }
 
@@ -70,7 +70,7 @@ impl Disk {
         };
         match is_value {
             true => Ok(()),
-            false => Err(Error::Refused(Refusal::BadSize)),
+            false => Err(Error::RefusedObject(Refusal::BadSize, *address)),
         }
     }
 }

@@ -1,4 +1,4 @@
-use crate::Receipt;
+use crate::{Address, Receipt};
 use std::{error, fmt, io};
 
 /// Why a call did not end well.
@@ -6,6 +6,10 @@ use std::{error, fmt, io};
 pub enum Error {
     /// Nothing was done, and nothing will be, for this reason.
     Refused(Refusal),
+    /// Nothing was done: the client has refused the object at this address, by
+    /// [`Refusal::BadAddress`] or [`Refusal::BadSize`]. A port that refuses one itself does not say
+    /// which, so that is [`Error::Refused`].
+    RefusedObject(Refusal, Address),
     /// Nothing was done, because a value that was read is another now.
     Conflict,
     /// No port answers. Nothing was done.
@@ -111,20 +115,28 @@ impl Refusal {
 }
 
 impl Error {
+    /// The reason of a refusal, by the client or by the port.
+    pub fn refusal(&self) -> Option<Refusal> {
+        match self {
+            Error::Refused(refusal) | Error::RefusedObject(refusal, _) => Some(*refusal),
+            _ => None,
+        }
+    }
+
     /// Whether the connection is of no more use.
     pub(crate) fn ends_connection(&self) -> bool {
         match self {
             Error::Refused(refusal) => refusal.ends_session(),
             Error::Lost(_) | Error::Protocol(_) | Error::NoPort(_) => true,
             Error::Conflict | Error::Unsure(_) | Error::Full => false,
-            Error::Restarted | Error::NoneFree => false,
+            Error::RefusedObject(..) | Error::Restarted | Error::NoneFree => false,
         }
     }
 
     /// Whether what was asked for is wrong, and the port has not failed.
     pub(crate) fn is_of_arguments(&self) -> bool {
         use Refusal::{BadAddress, BadSize, TooLarge};
-        matches!(self, Error::Refused(BadAddress | BadSize | TooLarge))
+        matches!(self.refusal(), Some(BadAddress | BadSize | TooLarge))
     }
 
     /// The same error of the first exchange of a connection, before anything was asked.
@@ -141,6 +153,10 @@ impl fmt::Display for Error {
         match self {
             Error::Refused(refusal) => {
                 write!(f, "refused by {}: {}", *refusal as u32, refusal.reason())
+            }
+            Error::RefusedObject(refusal, Address { block, bit }) => {
+                let why = Error::Refused(*refusal);
+                write!(f, "{why}: block {block}, bit {bit}")
             }
             Error::Conflict => write!(f, "a value that was read is another now"),
             Error::NoPort(error) => write!(f, "no port answers: {error}"),

@@ -63,7 +63,7 @@ impl Pool {
     pub fn give(&self, transaction: &mut Transaction<'_>, record: u32) -> Result<(), Error> {
         let at = Address { block: self.block, bit: record };
         if !self.records.contains(&record) || transaction.read(at)? != [1] {
-            return Err(Error::Refused(Refusal::BadAddress));
+            return Err(Error::RefusedObject(Refusal::BadAddress, at));
         }
         transaction.write(at, [0]);
         Ok(())

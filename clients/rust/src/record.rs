@@ -59,7 +59,7 @@ impl Record {
 
     pub fn part(&mut self, action: Action, address: Address, value: &[u8]) -> Result<(), Error> {
         if value.len() > MAX_VALUE {
-            return Err(Error::Refused(Refusal::BadSize));
+            return Err(Error::RefusedObject(Refusal::BadSize, address));
         }
         self.word(action as u32);
         self.address(address);

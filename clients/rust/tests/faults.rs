@@ -90,13 +90,13 @@ fn fail_after(journal: &mut Journal, at_once: bool, reads: &[Address]) -> (OfWor
 }
 
 fn errors_of_work(j: &mut Journal) {
-    use Error::{Lost, NoPort, Protocol, Refused};
+    use Error::{Lost, NoPort, Protocol, Refused, RefusedObject};
     use OfWork::{Journal, NotAsItShouldBe};
     let (first, before) = (bit(100), commits(j));
     let found = fail_after(j, false, &[first, bit(30)]);
     assert!(matches!(found, (NotAsItShouldBe, 3)), "what was read still holds: {found:?}");
     let found = fail_after(j, false, &[first, bit(30), Address { block: 0, bit: 0 }]);
-    let is_refused = matches!(found, (Journal(Refused(Refusal::BadAddress)), 3));
+    let is_refused = matches!(found, (Journal(RefusedObject(Refusal::BadAddress, _)), 3));
     assert!(is_refused, "a refused address: {found:?}");
     let found = fail_after(j, false, &[first, bit(31)]);
     assert!(matches!(found, (Journal(Lost(_)), 1)), "no answer: {found:?}");
@@ -122,7 +122,7 @@ fn a_refused_commit_is_judged_as_an_error_of_work(j: &mut Journal) {
         t.write(Address { block: 0, bit: 0 }, [0; 4096]);
         t.read(bit(100)).and(t.read(bit(30))).map(|_| ())
     });
-    assert!(matches!(found, Err(Error::Refused(Refusal::BadAddress))), "{found:?}");
+    assert!(matches!(found, Err(Error::RefusedObject(Refusal::BadAddress, _))), "{found:?}");
     assert_eq!((times, commits(j)), (3, before + 1));
 }
 
@@ -155,7 +155,7 @@ fn each_fault_is_told_and_the_next_call_does_well() {
     a_refused_commit_is_judged_as_an_error_of_work(&mut j);
     commit(&mut j, 13).expect("a commit");
     assert!(matches!(j.flush(), Err(Error::Protocol(_))));
-    j.set_timeout(Some(Duration::from_millis(200)));
+    j.set_timeout(Some(Duration::from_secs(2)));
     look_at(&mut j, 14, |r| matches!(r, Err(Error::Lost(_))), 1);
     a_limit_is_of_the_whole_call(&mut j);
 }

@@ -67,7 +67,8 @@ fn many_are_read_at_once() {
     t.write(written, value_of(3));
     assert!(t.read_many(&[]).expect("no objects").is_empty());
     let refused = t.read_many(&[one, at(3, 0)]);
-    assert!(matches!(refused, Err(Error::Refused(Refusal::BadAddress))));
+    let (refused, wanted) = (refused.expect_err("no object"), at(3, 0));
+    assert!(matches!(refused, Error::RefusedObject(Refusal::BadAddress, at) if at == wanted));
     let found = t.read_many(&[two, one, written, one]).expect("a read of many");
     assert_eq!(found[1..], [value_of(1), value_of(3), value_of(1)]);
     assert_eq!(found[0], t.read(two).expect("a read"));
@@ -110,7 +111,7 @@ fn refusals() {
         (at(515, 1024), vec![0; 127], Refusal::BadSize),
     ] {
         match commit_one(&mut j, address, &value) {
-            Err(Error::Refused(refusal)) => assert_eq!(refusal, wanted),
+            Err(Error::RefusedObject(refusal, at)) => assert_eq!((refusal, at), (wanted, address)),
             other => panic!("{address:?}: {other:?}"),
         }
     }
@@ -137,7 +138,11 @@ fn what_no_record_holds() {
         assert!(matches!(found, Err(Error::Refused(Refusal::TooLarge))), "{found:?}");
     }
     let long = commit_of(&mut j, &blocks[..1], &[0; 4097]);
-    assert!(matches!(long, Err(Error::Refused(Refusal::BadSize))), "{long:?}");
+    let long = long.expect_err("4097 bytes");
+    assert!(
+        matches!(long, Error::RefusedObject(Refusal::BadSize, at) if at == blocks[0]),
+        "{long:?}"
+    );
     assert_eq!(j.read(&many[..256]).expect("a read of 256").len(), 256);
 }
 

@@ -142,8 +142,9 @@ fn counters_and_regions() {
     assert!(counters[&1] >= counters[&2]);
     let firsts: Vec<u64> = journal.disk().regions.iter().map(|region| region.first).collect();
     assert_eq!(firsts, [513, 514, 515, 531]);
-    let refused = journal.read(&[Address { block: 515, bit: 1 }]);
-    assert!(matches!(refused, Err(Error::Refused(Refusal::BadAddress))));
+    let refused = journal.read(&[Address { block: 515, bit: 1 }]).expect_err("no object");
+    assert_eq!(refused.refusal(), Some(Refusal::BadAddress));
+    assert!(matches!(refused, Error::RefusedObject(_, Address { block: 515, bit: 1 })));
 }
 
 #[test]
@@ -158,5 +159,7 @@ fn a_port_of_version_1() {
     };
     assert_eq!(journal.counters().map(|_| ()).map_err(refusal), old);
     assert_eq!(journal.scan(514, 0, false, 1).map(|_| ()).map_err(refusal), old);
+    let refused = journal.read(&[Address { block: 3, bit: 0 }]);
+    assert!(matches!(refused, Err(Error::Refused(Refusal::BadAddress))));
     journal.flush().expect("a flush");
 }
