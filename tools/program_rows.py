@@ -100,13 +100,21 @@ class Row(NamedTuple):
     names: dict
 
     def programs(self):
-        """The programs that it runs."""
-        return {shlex.split(step.text)[0] for step in self.steps if step.verb in ("$", "&")}
+        """The programs that it runs, also those that its table names."""
+        texts = [step.text for step in self.steps if step.verb in ("$", "&")]
+        return {program_of(text, names) for text in texts for names in self.alternatives()}
 
     def alternatives(self):
         """The names of each of its cases: those of the file, and those of the table's columns."""
         for cells in self.cells or [[]]:
             yield {**self.names, **dict(zip(self.columns, cells))}
+
+
+def program_of(text, names):
+    """The program of a line of words, whose first word may be a name."""
+    for name, value in names.items():
+        text = text.replace("{" + name + "}", value)
+    return shlex.split(text)[0]
 
 
 # How a file of rows is read.

@@ -46,12 +46,12 @@ def stop_says_what_a_service_answers(room):
         wants_run(stop_answered(room, answer), Ended(b"", NO_ANSWER, 1))
 
 
-def begin(room):
+def begin(in_room):
     """A service of a new disk, that of a user whose new files everybody may use."""
     line = ["jnlfs", "make", "disk", "--blocks", "532"]
-    wants_run(room.run(line), Ended(b"", b"", 0))
+    wants_run(in_room.run(line), Ended(b"", b"", 0))
     line = ["jnlfs", "serve", "disk", "--port", "0", "--control", "s"]
-    return room.start(line, preexec_fn=lambda: os.umask(0))
+    return in_room.start(line, preexec_fn=lambda: os.umask(0))
 
 
 # Of `jnlfs::serving::serve`: the socket of a service is its owner's alone, ends it by the word

@@ -4,7 +4,7 @@ use crate::serving::Service;
 use clap::{Arg, ArgAction, ArgMatches, Command, value_parser};
 use journal_commands::{FILE, Fault, JNLFS_VERSIONS, file_arg, program_command, word};
 use journal_program::Room;
-use journal_service::Endpoint;
+use journal_service::{Endpoint, Reads};
 use std::alloc::{AllocError, Global};
 use std::net::Ipv4Addr;
 
@@ -14,7 +14,10 @@ pub const PROGRAM: &str = "jnlfs";
 const ABOUT: &str = "Files on a disk of a transactional block journal";
 
 const SERVE_NOTES: &str =
-    "A client mounts /files, or /, by version 3 of NFS and of MOUNT, which are both on this port:\n  mount -t nfs -o vers=3,nolock,proto=tcp,port=P,mountproto=tcp,mountport=P HOST:/files DIRECTORY\n\nThe service looks at no credential. Whoever reaches the address reads and writes all files: each program on this machine, and with another address than 127.0.0.1 each machine of the network too.\n\nThe first line of the output says at which port it listens. jnlfs stop ends it once all is stable, where --control names a socket. Only the owner of that socket can open it. A socket whose program is gone is replaced, and anything else at PATH is refused. A signal ends the service as a crash does: all that was answered as stable stands, and a client sends its other writes again once the disk is served anew. Where the device fails, standard error has the reason, and the status is 1.\n\njnlfs make makes a disk of files. Any other is refused.";
+    "A client mounts /files, or /, by version 3 of NFS and of MOUNT, which are both on this port:\n  mount -t nfs -o vers=3,nolock,proto=tcp,port=P,mountproto=tcp,mountport=P HOST:/files DIRECTORY\n\nThe service looks at no credential. Whoever reaches the address reads and writes all files: each program on this machine, and with another address than 127.0.0.1 each machine of the network too.\n\nThe first line of the output says at which port it listens. jnlfs stop ends it once all is stable, where --control names a socket. Only the owner of that socket can open it. A socket whose program is gone is replaced, and anything else at PATH is refused. A signal ends the service as a crash does: all that was answered as stable stands, and a client sends its other writes again once the disk is served anew. Where the device fails, standard error has the reason, and the status is 1.\n\nWith --read-only nothing is written to FILE, which need not be writable then, and others may read it too. A client mounts it with the option ro.\n\njnlfs make makes a disk of files. Any other is refused.";
+
+// How many connections are open at most.
+const MOST_CONNECTIONS: u64 = 1024;
 
 // The names of the arguments.
 const BLOCKS: &str = "blocks";
@@ -26,6 +29,10 @@ const PORT: &str = "port";
 const ADDRESS: &str = "address";
 
 const CONTROL: &str = "control";
+
+const READ_ONLY: &str = "read-only";
+
+const MIRROR: &str = "mirror";
 
 /// What the words of the command line ask for.
 #[derive(Drop)]
@@ -108,8 +115,18 @@ fn parse_serve<'w>(given: &ArgMatches<'w>) -> Result<Subcommand<'w>, Fault<'w>> 
     };
     Ok(Subcommand::Serve(Service {
         path: word(given, FILE)?,
-        endpoint: Endpoint { address, port },
+        endpoint: Endpoint {
+            address,
+            port,
+            connections: MOST_CONNECTIONS,
+        },
         control: given.get_str(CONTROL),
+        is_read_only: given.get_flag(READ_ONLY),
+        reads: if given.get_flag(MIRROR) {
+            Reads::FromMemory
+        } else {
+            Reads::FromFile
+        },
     }))
 }
 
@@ -174,13 +191,25 @@ fn serve_command<'w>(alloc: Global) -> Result<Command<'w>, AllocError> {
         .help(
             "The address of this machine to listen on; whoever reaches it reads and writes all files",
         );
+    let read_only = Arg::new(alloc, READ_ONLY)
+        .long(READ_ONLY)
+        .action(ArgAction::SetTrue)
+        .help(
+            "Opens FILE to read it alone, and answers each call that changes a file by NFS3ERR_ROFS",
+        );
+    let mirror = Arg::new(alloc, MIRROR)
+        .long(MIRROR)
+        .action(ArgAction::SetTrue)
+        .help("Reads the whole disk into memory at the start, and answers each read from there");
     Command::new(alloc, "serve")
         .about("Serves the files of a disk so that a Linux machine mounts them")
         .after_help(SERVE_NOTES)
         .arg(file_arg(alloc, "The file of the disk"))?
         .arg(port)?
         .arg(address)?
-        .arg(control_arg(alloc, "The socket to make, by which the service is ended"))
+        .arg(control_arg(alloc, "The socket to make, by which the service is ended"))?
+        .arg(read_only)?
+        .arg(mirror)
 }
 
 fn stop_command<'w>(alloc: Global) -> Result<Command<'w>, AllocError> {

@@ -2,7 +2,7 @@
 
 use crate::unserved::unserved;
 use journal_commands::{Fault, find, label_of, open_to_read, refuse_other_regions};
-use journal_program::{DiskFacts, Room, Settled};
+use journal_program::{DiskFacts, Room, Settled, SharedDisk, share_disk};
 use std::alloc::Global;
 use std::fs::{File, Files};
 use std::io::Write;
@@ -89,6 +89,27 @@ pub fn open<'w, R: Files<File = File>>(
     want_files(path, &found.facts)?;
     match found.settle(alloc) {
         Ok(disk) => Ok(disk),
+        Err(why) => Err(Fault::unopened(path, why)),
+    }
+}
+
+/// The disk of files in the file at the path, to be read alone. No program writes it as long as it
+/// is open, and nothing is written to it.
+///
+/// # Errors
+/// - Those of `share_disk`.
+/// - `HasNoFiles`: it is no disk of files.
+/// - `OtherRegions`: its label has other regions than those of files.
+pub fn share<'w, R: Files<File = File>>(
+    rt: &R,
+    alloc: Global,
+    path: &'w str,
+) -> Result<SharedDisk, Fault<'w>> {
+    match share_disk(rt, alloc, path) {
+        Ok(shared) => {
+            want_files(path, &shared.facts)?;
+            Ok(shared)
+        }
         Err(why) => Err(Fault::unopened(path, why)),
     }
 }

@@ -1,12 +1,13 @@
 // The files of a disk are served so that clients mount them.
 
 use crate::command::PROGRAM;
-use crate::disks::open;
+use crate::disks::{open, share};
 use crate::unserved::unserved;
 use journal_commands::{Fault, make_socket, print_line, remove_socket};
-use journal_mount3::Exported;
-use journal_program::Settled;
-use journal_service::{Control, Endpoint};
+use journal_connections::file_numbers;
+use journal_mount3::{Exported, ExportedToRead};
+use journal_program::{Settled, SharedDisk};
+use journal_service::{Control, Endpoint, Reads};
 use std::alloc::Global;
 use std::fs::{File, Files};
 use std::io::Write;
@@ -14,6 +15,10 @@ use std::net::{Net, TcpListener, TcpStream};
 use std::sync::Wait;
 use std::thread::Threads;
 use std::time::Clock;
+
+// How many files are kept for all but connections: the disk, listeners, outputs, what is watched,
+// and what a further connection takes for a moment.
+const OWN_FILES: u64 = 24;
 
 /// A service that is asked for.
 #[derive(Clone, Copy)]
@@ -24,21 +29,38 @@ pub struct Service<'w> {
     pub endpoint: Endpoint,
     /// The path of the socket by which it is ended, where there is to be one.
     pub control: Option<&'w str>,
+    /// True if the disk is only read.
+    pub is_read_only: bool,
+    /// Where reads of the disk come from.
+    pub reads: Reads,
+}
+
+// The disk of a service.
+#[derive(Drop)]
+enum ServedDisk {
+    // It may be written, and no other program uses it.
+    Written(Settled),
+    // It is only read, as by others.
+    Read(SharedDisk),
 }
 
 /// Serves the files of the disk in a file, of either version, so that clients mount them: NFS and
 /// MOUNT in their versions 3 (RFC 1813). Prints the port before the first connection is accepted,
 /// and that it has stopped once a client has ended it by its socket. All is stable then, the disk
 /// is closed and unlocked, and the socket is gone. Where the address is not one that this machine
-/// alone reaches, the first line of `faults` says what that means.
+/// alone reaches, a line of `faults` says what that means, and another where the system lets the
+/// program have fewer files open than are needed for all connections.
+///
+/// Where the disk is only read, no byte of it is written, other services that only read it may have
+/// it too, and each call that asks to change a file is answered by NFS3ERR_ROFS.
 ///
 /// Where the device fails, the calls under way are answered, and the service ends by
 /// `DeviceFailed`.
 ///
 /// # Errors
-/// - Those of `open`, `Refused` where the files are sound in no version, `CannotListen` where the
-///   address or the port is not to be had, and `File` for the socket. Nothing listens then, and no
-///   file was changed.
+/// - Those of `open`, or of `share`. `Refused`: the files are sound in no version. `CannotListen`:
+///   the address or the port is not to be had. `File`: the socket is not. Nothing listens then, and
+///   no file was changed.
 /// - `DeviceFailed`: the device has failed.
 pub fn serve<
     'w,
@@ -57,7 +79,7 @@ pub fn serve<
     output: &mut O,
     faults: &mut E,
 ) -> Result<(), Fault<'w>> {
-    let disk = open(rt, alloc, service.path)?;
+    let disk = open_served(rt, alloc, service)?;
     let Some(socket) = service.control else {
         return export(rt, alloc, disk, service, None, output, faults);
     };
@@ -67,6 +89,19 @@ pub fn serve<
     control.answer(rt, served.is_ok());
     served?;
     print_line(output, "stopped", "")
+}
+
+// Opens the disk of the service.
+fn open_served<'w, R: Files<File = File>>(
+    rt: &R,
+    alloc: Global,
+    service: Service<'w>,
+) -> Result<ServedDisk, Fault<'w>> {
+    if service.is_read_only {
+        Ok(ServedDisk::Read(share(rt, alloc, service.path)?))
+    } else {
+        Ok(ServedDisk::Written(open(rt, alloc, service.path)?))
+    }
 }
 
 // Serves the files of the disk until the service is ended by the control.
@@ -83,27 +118,72 @@ fn export<
 >(
     rt: &R,
     alloc: Global,
-    disk: Settled,
+    disk: ServedDisk,
     service: Service<'w>,
     control: Option<&Control>,
     output: &mut O,
     faults: &mut E,
 ) -> Result<(), Fault<'w>> {
-    let Service { path, endpoint, .. } = service;
-    if !endpoint.address.is_loopback() {
-        // The service does not depend on whether the warning can be printed.
-        let _ = writeln!(
-            faults,
-            "{PROGRAM}: whoever reaches {} reads and writes all files of {path}",
-            endpoint.address
-        );
-    }
-    match journal_service::export::<Exported, R, O, E>(
-        rt, alloc, disk, endpoint, control, output, faults,
-    ) {
+    let Service {
+        path,
+        endpoint,
+        reads,
+        ..
+    } = service;
+    let endpoint = Endpoint {
+        connections: allowed(endpoint.connections, faults),
+        ..endpoint
+    };
+    warn_of_address(service, faults);
+    let served = match disk {
+        ServedDisk::Written(disk) => journal_service::export::<Exported, R, O, E>(
+            rt, alloc, disk, reads, endpoint, control, output, faults,
+        ),
+        ServedDisk::Read(disk) => journal_service::export_to_read::<ExportedToRead, R, O, E>(
+            rt, alloc, disk, reads, endpoint, control, output, faults,
+        ),
+    };
+    match served {
         Ok(()) => Ok(()),
         Err(why) => Err(unserved(path, why)),
     }
+}
+
+// How many connections are open at most: fewer than asked for where the system lets the program
+// have fewer files open, and then it is said.
+fn allowed<E: Write>(connections: u64, faults: &mut E) -> u64 {
+    let Some(files) = file_numbers() else {
+        return connections;
+    };
+    let most = files.saturating_sub(OWN_FILES).max(1);
+    if most >= connections {
+        return connections;
+    }
+    // The service does not depend on whether this can be printed.
+    let _ = writeln!(
+        faults,
+        "{PROGRAM}: the system lets it open {files} files, so {most} connections are open at most"
+    );
+    most
+}
+
+// Says who may use the files, where more than this machine reaches the address. The service does
+// not depend on whether that can be printed.
+fn warn_of_address<E: Write>(service: Service<'_>, faults: &mut E) {
+    let address = service.endpoint.address;
+    if address.is_loopback() {
+        return;
+    }
+    let uses = if service.is_read_only {
+        "reads"
+    } else {
+        "reads and writes"
+    };
+    let _ = writeln!(
+        faults,
+        "{PROGRAM}: whoever reaches {address} {uses} all files of {}",
+        service.path
+    );
 }
 
 // Makes the socket by which the service is ended.

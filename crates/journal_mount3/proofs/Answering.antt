@@ -25,7 +25,7 @@ use Rattle.journal_nfs3.specs.Calls.{asks as asks_nine_alone}
 use Rattle.journal_nfs3.specs.Served.{Standing, ServesAs, marked, awaiting, refusal_error}
 use Rattle.journal_nfs3.specs.Answers.{IsCallOf, IsResult, sent, pending_wait_for, procedure_for}
 use Rattle.journal_nfs3.proofs.Pendings.{call_paid, call_takes_place}
-use Rattle.journal_server.specs.Protocols.{IsAwaitedCall, StandsInFor}
+use Rattle.journal_server.specs.FileProtocols.{IsAwaitedCall, StandsInFor}
 use Rattle.journal_mount3.specs.declared.results.Told as code_told
 use Rattle.journal_mount3.specs.declared.results.Told.TheVariants as code_tellings
 use Rattle.journal_mount3.specs.Arguments.{Query, MountCall}

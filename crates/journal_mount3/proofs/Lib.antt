@@ -12,3 +12,4 @@ pub mod Seeing
 pub mod Telling
 pub mod Deciding
 pub mod Written
+pub mod Denying

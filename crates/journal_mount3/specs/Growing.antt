@@ -17,7 +17,8 @@ use Rattle.journal_mount3.specs.Served.{IsGetAttributes, TellsThen, Lists, Statu
 use Rattle.journal_mount3.specs.Mounts.{root_handle}
 use Rattle.journal_mount3.specs.Roots.{attributes_at}
 use Rattle.journal_mount3.specs.Results as results
-use Rattle.journal_server.specs.NineLaws.{tells_grows, grows-same, grows-trans}
+use Rattle.journal_protocol.specs.Grows.{grows-same, grows-trans}
+use Rattle.journal_server.specs.NineLaws.{tells_grows}
 
 abbrev Grows : SessionState → SessionState → Type 0
 Grows old new = IsPrefix old.seen new.seen

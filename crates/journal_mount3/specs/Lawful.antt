@@ -22,8 +22,9 @@ use Rattle.journal_nfs3.specs.Served.{Standing, marked, awaiting, refusal_error}
 use Rattle.journal_nfs3.specs.Calls as nine_calls
 use Rattle.journal_nfs3.specs.Answers.{IsCallOf, sent}
 use Rattle.journal_nfs3.proofs.Pendings.{call_paid, call_stays, call_takes_place}
-use Rattle.journal_server.specs.Protocols.{IsLawful, StandsInFor}
-use Rattle.journal_server.specs.NineLaws.{call_grows, grows-same}
+use Rattle.journal_server.specs.FileProtocols.{IsFileLawful, StandsInFor}
+use Rattle.journal_protocol.specs.Grows.{grows-same}
+use Rattle.journal_server.specs.NineLaws.{call_grows}
 use Rattle.journal_mount3.specs.Calls.{Requested, nine, query, mount, asks}
 use Rattle.journal_mount3.specs.Roots.{results_at}
 use Rattle.journal_mount3.specs.Answers.{nine_text, Comes, AnswersBoth, both_programs}
@@ -31,20 +32,20 @@ use Rattle.journal_mount3.specs.Growing.{query_grows}
 use Rattle.journal_mount3.specs.Routing.{asked_nine}
 
 module _ (version : FormatVersion) (blocks : ℕ) (verifier : List ℕ) where
-  comes_grow : (standing : Standing) (now : Time) (asked : Result Requested CallRefused) (old new : SessionState) (outcome : Result (List ℕ) CallRefused) → Comes version blocks standing verifier now asked old outcome new → IsPrefix old.seen new.seen
+  pub comes_grow : (standing : Standing) (now : Time) (asked : Result Requested CallRefused) (old new : SessionState) (outcome : Result (List ℕ) CallRefused) → Comes version blocks standing verifier now asked old outcome new → IsPrefix old.seen new.seen
   comes_grow standing now (Err why) old new outcome h = grows-same old new h.1
   comes_grow standing now (Ok (nine operation)) old new outcome h = call_grows version standing verifier now (Ok operation) old new h.0 h.1
   comes_grow standing now (Ok (query q)) old new outcome h = query_grows version blocks now q old new h.0 h.1
   comes_grow standing now (Ok (mount call)) old new outcome h = grows-same old new h.1
 
-  comes_paid : (now : Time) (asked : Result Requested CallRefused) (old new then : SessionState) (wait : PendingWait CommitPlace) (outcome : Result (List ℕ) CallRefused) → IsWaitOver wait then
+  pub comes_paid : (now : Time) (asked : Result Requested CallRefused) (old new then : SessionState) (wait : PendingWait CommitPlace) (outcome : Result (List ℕ) CallRefused) → IsWaitOver wait then
       → Comes version blocks (awaiting wait) verifier now asked old outcome new → Comes version blocks (marked then.seen) verifier now asked old outcome new
   comes_paid now (Err why) old new then wait outcome paid h = (h.0, h.1, tt)
   comes_paid now (Ok (nine operation)) old new then wait outcome paid h = (h.0, call_paid version verifier now (Ok operation) old new then wait h.0 paid h.1, h.2)
   comes_paid now (Ok (query q)) old new then wait outcome paid h = (h.0, h.1, h.2, tt)
   comes_paid now (Ok (mount call)) old new then wait outcome paid h = (h.0, h.1, tt)
 
-  comes_stay : (now : Time) (asked : Result Requested CallRefused) (old new : SessionState) (history longer : List Entry) (outcome : Result (List ℕ) CallRefused) → floor history ≤ floor longer
+  pub comes_stay : (now : Time) (asked : Result Requested CallRefused) (old new : SessionState) (history longer : List Entry) (outcome : Result (List ℕ) CallRefused) → floor history ≤ floor longer
       → Comes version blocks (marked history) verifier now asked old outcome new → Comes version blocks (marked longer) verifier now asked old outcome new
   comes_stay now (Err why) old new history longer outcome grows h = (h.0, h.1, tt)
   comes_stay now (Ok (nine operation)) old new history longer outcome grows h = (h.0, call_stays version verifier now (Ok operation) old new history longer h.0 grows h.1, h.2)
@@ -83,7 +84,7 @@ module _ (version : FormatVersion) (blocks : ℕ) (verifier : List ℕ) where
             is_sent = rw (same, refusal_at now p (refusal_error why)) refl;
           }
 
-  pub both_lawful : IsLawful (both_programs version blocks verifier)
+  pub both_lawful : IsFileLawful (both_programs version blocks verifier)
   both_lawful = record {
     grows = λ standing now call old new text a. comes_grow standing now (asks call.asked) old new a.outcome a.comes;
     paid = λ now call old new then wait text a paid. record { outcome = a.outcome; comes = comes_paid now (asks call.asked) old new then wait a.outcome paid a.comes; is_sent = a.is_sent };

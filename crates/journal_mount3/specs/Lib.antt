@@ -12,3 +12,5 @@ pub mod CodeViews
 pub mod Routing
 pub mod Growing
 pub mod Lawful
+pub mod Readers
+pub mod ReaderLaws

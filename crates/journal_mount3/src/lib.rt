@@ -7,6 +7,9 @@
 //! times of the root. A listing is made of LOOKUPs, one for each name, each at a place of its own
 //! in the history, places rising: so a file that is there all the time is told once, and one that
 //! is never there is not told. The name of an entry follows from its cookie, which does not end.
+//!
+//! `Exported` is both programs, and `ExportedToRead` both where files are only read: there a call
+//! that asks to change one is answered by NFS3ERR_ROFS, and nothing is done.
 #![tactic(auto)]
 
 mod arguments;
@@ -17,6 +20,7 @@ mod listing;
 mod page;
 mod procedure;
 mod protocol;
+mod reader;
 mod reading;
 mod replying;
 mod results;
@@ -27,4 +31,5 @@ mod writing;
 pub use decision::{MOUNT_PROGRAM, MOUNT_VERSION};
 pub use laws::old_calls_are_answered_as_before;
 pub use procedure::{MountProcedure, QueryProcedure};
+pub use reader::ExportedToRead;
 pub use replying::Exported;

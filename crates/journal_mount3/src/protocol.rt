@@ -1,4 +1,4 @@
-// NFS and MOUNT as a protocol of a server.
+// NFS and MOUNT as a protocol over files.
 ghost use Rattle.std.specs.Prelude.{◌≡◌};
 
 use crate::replying::{Exported, answer_no_wait};
@@ -8,12 +8,12 @@ use journal_history::{Naming, Receipt, Session};
 use journal_inode::{SoundFiles, Version};
 use journal_nfs3::{PendingReply, Procedure, Verifier};
 use journal_rpc::Call;
-use journal_server::{PoolSize, Programs, Protocol};
+use journal_server::{FileProtocol, Programs};
 use journal_world::{Layout, Moment, Refusal};
 use std::alloc::{AllocError, Global};
 use std::sync::Wait;
 
-impl<V: Version> Protocol<V> for Exported {
+impl<V: Version> FileProtocol<V> for Exported {
     ghost use Rattle.journal_mount3.specs.Answers.{both_programs};
     ghost use Rattle.journal_mount3.specs.Lawful.{both_lawful};
 
@@ -47,8 +47,6 @@ impl<V: Version> Protocol<V> for Exported {
     }
 }
 
-// A client has a connection as long as it has the files mounted, so there are more workers than
-// where NFS alone is served.
 impl Programs for Exported {
     ghost told = { λ p. p.verifier.0 };
 
@@ -56,12 +54,5 @@ impl Programs for Exported {
 
     fn on(layout: Layout, verifier: Verifier) -> Exported {
         Exported { verifier, layout }
-    }
-
-    fn pool(&self) -> PoolSize {
-        PoolSize {
-            workers: 16,
-            waiting: 16,
-        }
     }
 }

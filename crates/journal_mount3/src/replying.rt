@@ -6,7 +6,7 @@ ghost use Rattle.journal_rpc.specs.CallViews.{asked_of, message_of};
 ghost use Rattle.journal_filestore.specs.Handles.{time_of};
 ghost use Rattle.journal_nfs3.specs.Served.{marked, awaiting};
 ghost use Rattle.journal_nfs3.specs.Answers.{pending_wait_for};
-ghost use Rattle.journal_server.specs.Protocols.{IsAwaitedCall};
+ghost use Rattle.journal_server.specs.FileProtocols.{IsAwaitedCall};
 ghost use Rattle.journal_nfs3.specs.Arguments.{operation_of};
 ghost use Rattle.journal_nfs3.specs.Calls.{asks as asks_nine};
 ghost use Rattle.journal_mount3.specs.Calls.{nine, asks};

@@ -1,11 +1,3 @@
-pub mod Answering
-pub mod Behind
-pub mod Counting
-pub mod Serving
-pub mod Settling
-pub mod PieceSteps
-pub mod Sends
-pub mod Slices
+pub mod Holding
 pub mod Staying
 pub mod Steps
-pub mod Turns

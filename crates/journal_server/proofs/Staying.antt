@@ -18,10 +18,11 @@ use Rattle.journal_nfs3.specs.Calls.{asks}
 use Rattle.journal_nfs3.specs.Served.{marked, has_to_wait, is_accepted, CommitsOnceAt, IsMarked}
 use Rattle.journal_nfs3.specs.Answers.{ServesCall}
 use Rattle.journal_nfs3.proofs.Marked.{HasMarked, serves_marked_in}
-use Rattle.journal_server.specs.Protocols.{Answering, IsLawful}
-use Rattle.journal_server.specs.NineLaws.{Grows, grows-same, grows-trans, call_grows}
-use Rattle.journal_server.specs.Output.{IsReplyBy, IsReply, IsRepliedUnlessBad, RepliesUpToBad, AllReplies}
-use Rattle.journal_server.proofs.Answering.{then_replies}
+use Rattle.journal_server.specs.NineLaws.{call_grows}
+use Rattle.journal_protocol.specs.Output.{IsRepliedUnlessBad, RepliesUpToBad}
+use Rattle.journal_protocol.specs.Grows.{Grows, grows-same, grows-trans}
+use Rattle.journal_server.specs.Output.{IsReply}
+use Rattle.journal_protocol.proofs.Staying.{floor_grows}
 
 module _ (version : FormatVersion) (tells : Time → Type 0) (verifier : List ℕ) (history : List Entry) where
   reply_grows : (call : Message) (old new : SessionState) (text : List ℕ) → IsReply version tells verifier history call old new text → Grows old new
@@ -35,9 +36,6 @@ module _ (version : FormatVersion) (tells : Time → Type 0) (verifier : List �
           → (m : Option Message) → IsRepliedUnlessBad (IsReply version tells verifier history) m old new text (λ mid more. RepliesUpToBad (IsReply version tells verifier history) rs mid new more) → Grows old new
       of rest None k = grows-same old new k.0
       of rest (Some call) k = grows-trans old k.0 new (reply_grows call old k.0 k.1 k.3) (rest k.0 k.2 k.4)
-
-floor_grows : (old new : SessionState) → Grows old new → floor old.seen ≤ floor new.seen
-floor_grows old new p = subst (λ (h : List Entry). floor old.seen ≤ floor h) p.1 (floor-append-le old.seen p.0)
 
 pub replies_grow : (version : FormatVersion) (tells : Time → Type 0) (verifier : List ℕ) (records : List (List ℕ)) (old new : SessionState) (text : List ℕ) (history : List Entry) → RepliesUpToBad (IsReply version tells verifier history) records old new text → IsPrefix old.seen new.seen × (floor old.seen ≤ floor new.seen)
 replies_grow version tells verifier records old new text history h =
@@ -88,22 +86,3 @@ stays_later old last now place later once low = (
   commits_later old last now place later once,
   marked_whole last.seen now.seen place (commit once.made) later.seen once.stands (omega (arith, low, floor_grows last now later.seen)),
 )
-
-pub all_are_replies : {S : Type 0} (answers : Message → S → S → List ℕ → Type 0) (records : List (List ℕ)) (old new : S) (text : List ℕ) → AllReplies answers records old new text → RepliesUpToBad answers records old new text
-all_are_replies answers records old new text h =
-    subst (λ (rs : List (List ℕ)). RepliesUpToBad answers rs old new text) (append-nil records)
-    (subst (λ (t : List ℕ). RepliesUpToBad answers (records ++ []) old new t) (append-nil text)
-    (then_replies answers records [] old new new text [] h (refl, refl)))
-
--- ---- of any protocol
-
-pub all_replies_grow : (replies : Answering) (tells : Time → Type 0) (laws : IsLawful replies) (history : List Entry) (rs : List (List ℕ)) (old new : SessionState) (text : List ℕ) → AllReplies (IsReplyBy replies tells history) rs old new text → floor old.seen ≤ floor new.seen
-all_replies_grow replies tells laws history rs old new text h = floor_grows old new (all rs old text h)
-  where
-    all : (qs : List (List ℕ)) (from : SessionState) (t : List ℕ) → AllReplies (IsReplyBy replies tells history) qs from new t → Grows from new
-    all [] from t k = grows-same from new k.0
-    all (q ∷ qs) from t k =
-        let one = k.2 in
-        let reply = one.3 in
-        let first : Grows from one.0 = grows-trans from reply.done one.0 (laws.grows (marked history) reply.moment k.0 from reply.done one.1 reply.answers) reply.later.seen in
-        grows-trans from one.0 new first (all qs one.0 one.2 one.4)

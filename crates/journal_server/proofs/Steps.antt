@@ -153,10 +153,6 @@ pub numbers_of_append : {N : Type 0} (about : N → ℕ) (ns ms : List N) → nu
 numbers_of_append about [] ms = refl
 numbers_of_append about (n ∷ ns) ms = ap (λ l. about n ∷ l) (numbers_of_append about ns ms)
 
-pub numbers_count : {N : Type 0} (about : N → ℕ) (ns : List N) → length (numbers_by about ns) ≡ length ns
-numbers_count about [] = refl
-numbers_count about (n ∷ ns) = let s = numbers_count about ns in omega arith
-
 -- a note more, of one more that was taken
 pub noted : {N : Type 0} (about : N → ℕ) (ns : List N) (n : N) (k : ℕ) (taken : List ℕ) → about n ≡ k → taken ≡ numbers_by about ns → taken ++ k ∷ [] ≡ numbers_by about (ns ++ n ∷ [])
 noted about ns n k taken is same = ap (λ l. l ++ k ∷ []) same ∙ ap (λ (j : ℕ). numbers_by about ns ++ j ∷ []) (sym is) ∙ sym (numbers_of_append about ns (n ∷ []))
@@ -226,74 +222,6 @@ took_in about mine other new ns ms all is whole moved same =
 pub settled : (put done taken numbers : List ℕ) → done ≡ put → taken ≡ numbers → ((x : ℕ) → times x done ≡ times x taken) → (x : ℕ) → times x numbers ≡ times x put
 settled put done taken numbers p t even x = ap (times x) (sym t) ∙ sym (even x) ∙ ap (times x) p
 
--- ---- how many numbers there are, where each stands once
-
--- how often the numbers below n stand in the list, together
-abbrev sum_below : ℕ → List ℕ → ℕ
-sum_below zero xs = 0
-sum_below (suc n) xs = sum_below n xs + times n xs
-
-sum_none : (n : ℕ) → sum_below n [] ≡ 0
-sum_none zero = refl
-sum_none (suc n) = let s = sum_none n in omega arith
-
-sum_cons : (n y : ℕ) (ys : List ℕ) → sum_below n (y ∷ ys) ≡ sum_below n (y ∷ []) + sum_below n ys
-sum_cons zero y ys = refl
-sum_cons (suc n) y ys = let s = sum_cons n y ys in omega (arith, times_append n (y ∷ []) ys)
-
-sum_outside : (n y : ℕ) → n ≤ y → sum_below n (y ∷ []) ≡ 0
-sum_outside zero y le = refl
-sum_outside (suc n) y le =
-    let s = sum_outside n y (omega (arith, le)) in
-    let t = none_is n y (λ e. absurd (omega (arith, le, e))) in
-    omega (arith, s, t)
-
-sum_inside : (n y : ℕ) → y < n → sum_below n (y ∷ []) ≡ 1
-sum_inside zero y lt = absurd (omega (arith, lt))
-sum_inside (suc n) y lt = of (λ less. sum_inside n y less) (y == n) refl
-  where
-    of : (y < n → sum_below n (y ∷ []) ≡ 1) → (b : Bool) → (y == n) ≡ b → sum_below n (y ∷ []) + times n (y ∷ []) ≡ 1
-    of rest true is =
-        let e : y ≡ n = grind (arith, nat_tests, is) in
-        let s = sum_outside n y (omega (arith, e)) in
-        let t : times n (y ∷ []) ≡ 1 = subst (λ (k : ℕ). times n (k ∷ []) ≡ 1) (sym e) (one_is n) in
-        omega (arith, s, t)
-    of rest false is =
-        let apart : y ≢ n = grind (arith, nat_tests, is) in
-        let s = rest (omega (arith, lt, apart)) in
-        let t = none_is n y apart in
-        omega (arith, s, t)
-
-sum_each : (n : ℕ) (xs : List ℕ) → ((x : ℕ) → x < n → times x xs ≡ 1) → sum_below n xs ≡ n
-sum_each zero xs h = refl
-sum_each (suc n) xs h =
-    let s = sum_each n xs (λ x lt. h x (omega (arith, lt))) in
-    let t = h n (omega arith) in
-    omega (arith, s, t)
-
-sum_all : (n : ℕ) (xs : List ℕ) → ((x : ℕ) → n ≤ x → times x xs ≡ 0) → sum_below n xs ≡ length xs
-sum_all n [] h = sum_none n
-sum_all n (y ∷ ys) h =
-    let s = sum_all n ys (λ x le. let z = h x le in omega (arith, z, times_append x (y ∷ []) ys)) in
-    omega (arith, s, sum_cons n y ys, sum_inside n y (of (nat_lt y n) refl))
-  where
-    of : (b : Bool) → nat_lt y n ≡ b → y < n
-    of true is = grind (arith, nat_tests, is)
-    of false is =
-        let le : n ≤ y = grind (arith, nat_tests, is) in
-        let z = h y le in
-        absurd (omega (arith, z, times_append y (y ∷ []) ys, one_is y))
-
--- there are n of them
-pub each_counts : (numbers : List ℕ) (n : ℕ) → HasEachOnce numbers n → length numbers ≡ n
-each_counts numbers n each = let s = sum_each n numbers each.0 in let t = sum_all n numbers each.1 in omega (arith, s, t)
-
--- as many notes as connections
-pub notes_count : {A N E : Type 0} (items : A → List N) (about : N → ℕ) (all : Result A E) (ns : A) (n : ℕ) → all ≡ Ok ns → IfOk all (λ ms. HasEachOnce (numbers_by about (items ms)) n) → length (items ns) ≡ n
-notes_count {A} {N} {E} items about all ns n is each =
-    let sound : HasEachOnce (numbers_by about (items ns)) n = subst (λ (r : Result A E). IfOk r (λ ms. HasEachOnce (numbers_by about (items ms)) n)) is each in
-    sym (numbers_count about (items ns)) ∙ each_counts (numbers_by about (items ns)) n sound
-
 -- what each of some threads was promised, the first and the others were
 pub next_promised : {W L : Type 0} (w : W) (all rest : List W) (f : W → L) (line : L) → all ≡ w ∷ rest → All (λ x. f x ≡ line) all → (f w ≡ line) × All (λ x. f x ≡ line) rest
 next_promised {W} w all rest f line is h =
@@ -301,5 +229,5 @@ next_promised {W} w all rest f line is h =
     (All-head P w rest (subst (All P) is h), All-rest P w rest all is h)
 
 -- a worker's work at one end of the queue is that at the other
-pub moved_work : {T N E : Type 0} (a b : E) (is_seat : E → Pass (Job T) PassState → Type 0) (about : N → ℕ) (w : Work T N) → a ≡ b → IsWork (is_seat a) about w → IsWork (is_seat b) about w
-moved_work a b is_seat about w same h = subst (λ x. IsWork (is_seat x) about w) same h
+pub moved_work : {T E : Type 0} (a b : E) (is_seat : E → Pass (Job T) PassState → Type 0) (w : Work T) → a ≡ b → IsWork (is_seat a) w → IsWork (is_seat b) w
+moved_work a b is_seat w same h = subst (λ x. IsWork (is_seat x) w) same h

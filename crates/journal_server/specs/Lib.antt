@@ -1,11 +1,7 @@
-pub mod Connections
-pub mod PoolSizes
-pub mod ReplyBatches
-pub mod Queues
+pub mod FileLaws
+pub mod FileProtocols
 pub mod NineLaws
 pub mod Output
-pub mod Protocols
+pub mod Queues
 pub mod Refusals
-pub mod Sending
-pub mod Serving
 pub mod Sources

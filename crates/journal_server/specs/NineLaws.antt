@@ -24,18 +24,9 @@ use Rattle.journal_nfs3.specs.Profile.{refused_results}
 use Rattle.journal_nfs3.specs.Served.{Standing, marked, awaiting, refusal_error, IsAnsweredAs, TellsOutcome, Performs, ServesAs}
 use Rattle.journal_nfs3.specs.Answers.{ServesCall, AnswersAs, TakesPlace, sent}
 use Rattle.journal_nfs3.proofs.Pendings.{answers_paid, answers_stay, takes_place}
-use Rattle.journal_server.specs.Protocols.{IsLawful, StandsInFor}
+use Rattle.journal_protocol.specs.Grows.{Grows, grows-same, grows-trans}
+use Rattle.journal_server.specs.FileProtocols.{IsFileLawful, StandsInFor}
 use Rattle.journal_server.specs.Output.{nine}
-
--- the session has seen all that it had seen
-abbrev pub Grows : SessionState → SessionState → Type 0
-Grows old new = IsPrefix old.seen new.seen
-
-pub grows-same : (old new : SessionState) → new ≡ old → Grows old new
-grows-same old new e = ([], append-nil old.seen ∙ ap (λ (s : SessionState). s.seen) (sym e))
-
-pub grows-trans : (old mid new : SessionState) → Grows old mid → Grows mid new → Grows old new
-grows-trans old mid new p q = (p.0 ++ q.0, sym (append_assoc old.seen p.0 q.0) ∙ ap (λ (h : List Entry). h ++ q.0) p.1 ∙ q.1)
 
 answer_grows : {A : Type 0} (version : FormatVersion) (standing : Standing) (w : Bool) (case : Files → Result A Status → Files → Type 0) (old new : SessionState) (answer : Result (Result A Status) (Fault CauseState)) → IsAnsweredAs version standing w case old new answer → Grows old new
 answer_grows version standing w case old new (Ok v) d = d.made.extends
@@ -72,7 +63,7 @@ nine_stands version verifier xid procedure text place now call old new receipt s
     subst (λ (n : ℕ). AnswersAs version (marked history) verifier now n (asks call.asked) old new text) (sym same)
     (place version verifier now (asks call.asked) old new receipt soon history is number)
 
-pub nine_lawful : (version : FormatVersion) (verifier : List ℕ) → IsLawful (nine version verifier)
+pub nine_lawful : (version : FormatVersion) (verifier : List ℕ) → IsFileLawful (nine version verifier)
 nine_lawful version verifier = record {
   grows = λ standing now call old new text a. call_grows version standing verifier now (asks call.asked) old new a.outcome a.comes;
   paid = λ now call old new then wait text a paid. answers_paid version verifier now call.xid (asks call.asked) old new then wait text a paid;

@@ -24,9 +24,13 @@ abbrev pub numbers_by : {N : Type 0} → (N → ℕ) → List N → List ℕ
 numbers_by about [] = []
 numbers_by about (n ∷ ns) = about n ∷ numbers_by about ns
 
+-- the number of the connection that a note is about
+abbrev pub note_number : {O : Type 0} → ℕ × O → ℕ
+note_number note = note.0
+
 -- the numbers of some outcomes
 abbrev pub outcome_numbers : {O : Type 0} → List (ℕ × O) → List ℕ
-outcome_numbers os = numbers_by (λ o. o.0) os
+outcome_numbers os = numbers_by note_number os
 
 -- the numbers below n
 abbrev pub below : ℕ → List ℕ
@@ -76,5 +80,5 @@ IsUncut is_seat pass = is_seat pass × (view pass ≡ pass_state 65 [] [])
 
 -- What a worker gives back: it has put nothing, and there is a note of each connection that it
 -- took, unless memory was refused
-abbrev pub IsWork : {T N : Type 0} → (Pass (Job T) PassState → Type 0) → (N → ℕ) → Work T N → Type 0
-IsWork is_seat about w = is_seat w.pass × ((view w.pass).parts ≡ 1) × ((view w.pass).put ≡ []) × (w.is_whole ≡ true → (view w.pass).taken ≡ numbers_by about w.notes.items)
+abbrev pub IsWork : {T : Type 0} → (Pass (Job T) PassState → Type 0) → Work T → Type 0
+IsWork is_seat w = is_seat w.pass × ((view w.pass).parts ≡ 1) × ((view w.pass).put ≡ []) × (w.is_whole ≡ true → (view w.pass).taken ≡ numbers_by note_number w.notes.items)

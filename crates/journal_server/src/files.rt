@@ -1,6 +1,6 @@
-// The nine procedures of `journal_nfs3` as a protocol.
+// The nine procedures of `journal_nfs3` as a protocol over files.
 
-use crate::protocol::Protocol;
+use crate::file_protocol::FileProtocol;
 use journal_disk::BlockDisk;
 use journal_filestore::FileStore;
 use journal_history::{Naming, Receipt, Session};
@@ -18,7 +18,7 @@ pub struct NineProcedures {
     pub verifier: Verifier,
 }
 
-impl<V: Version> Protocol<V> for NineProcedures {
+impl<V: Version> FileProtocol<V> for NineProcedures {
     ghost use Rattle.journal_server.specs.Output.{nine};
     ghost use Rattle.journal_server.specs.NineLaws.{nine_lawful};
 

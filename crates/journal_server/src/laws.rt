@@ -9,9 +9,10 @@ ghost use Rattle.journal_nfs3.specs.Arguments.{Operation};
 ghost use Rattle.journal_nfs3.specs.Results.{Results};
 ghost use Rattle.journal_nfs3.specs.Calls.{asks};
 ghost use Rattle.journal_nfs3.specs.Served.{has_to_wait, is_accepted, CommitsOnceAt, IsMarked};
-ghost use Rattle.journal_server.specs.Output.{IsReply, RepliesUpToBad, AllReplies};
+ghost use Rattle.journal_protocol.specs.Output.{RepliesUpToBad, AllReplies};
+ghost use Rattle.journal_server.specs.Output.{IsReply};
 
-use crate::service::Clock;
+use journal_protocol::Clock;
 
 /// What the session had seen before the replies of a connection it has seen after them, with each
 /// mark. So where an operation that waits until it is stable was answered OK, a mark covers its

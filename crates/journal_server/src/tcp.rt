@@ -6,7 +6,7 @@ use std::io::{ErrorKind, Read, Write};
 use std::marker::Model;
 use std::net::{Shutdown, TcpListener, TcpStream};
 use std::sync::Wait;
-use std::sync::atomic::{AtomicBool, AtomicU64, Ordering};
+use std::sync::atomic::{AtomicU64, Ordering};
 use std::time::{Clock, Duration};
 use std::{io, thread};
 
@@ -40,12 +40,11 @@ const LAST_PAUSE_MILLIS: u64 = 1000;
 // ENETDOWN, ECONNABORTED and ENOBUFS.
 const PASSING: [i32; 8] = [4, 12, 23, 24, 71, 100, 103, 105];
 
-/// The connections that wait for a worker, and whether the service has ended. A port and its
-/// connections share it, so that who holds a worker without need makes room.
+/// The connections that wait for a worker. A port and its connections share it, so that who holds a
+/// worker without need makes room.
 #[derive(Drop)]
 pub struct WaitingConnections {
     waiting: AtomicU64,
-    has_ended: AtomicBool,
 }
 
 impl WaitingConnections {
@@ -53,18 +52,7 @@ impl WaitingConnections {
     pub fn new() -> WaitingConnections {
         WaitingConnections {
             waiting: AtomicU64::new(0),
-            has_ended: AtomicBool::new(false),
         }
-    }
-
-    /// Ends the service: nothing more is taken from a peer, within a second, and it has five seconds
-    /// to take its replies.
-    pub fn end(&self) {
-        self.has_ended.store(true, Ordering::SeqCst);
-    }
-
-    fn has_ended(&self) -> bool {
-        self.has_ended.load(Ordering::SeqCst)
     }
 
     fn join(&self) {
@@ -82,7 +70,7 @@ impl WaitingConnections {
 
 /// A connection that came to a port. Its calls fail once the peer has brought no record to its end,
 /// and has taken no byte of a reply, for some minutes, and for some seconds where another
-/// connection waits for a worker. Once the service has ended nothing more is taken from the peer.
+/// connection waits for a worker.
 pub struct Peer<'l, R: Clock> {
     stream: TcpStream,
     waiting: &'l WaitingConnections,
@@ -134,8 +122,7 @@ impl<'l, R: Clock> Peer<'l, R> {
 
     // Whether the peer is waited for no longer after so many seconds.
     fn is_over(&self, secs: u64) -> bool {
-        let is_short = !self.waiting.is_empty() || self.waiting.has_ended();
-        secs >= SECS_ALONE || (secs >= SECS_WHILE_OTHERS_WAIT && is_short)
+        secs >= SECS_ALONE || (secs >= SECS_WHILE_OTHERS_WAIT && !self.waiting.is_empty())
     }
 }
 
@@ -169,7 +156,7 @@ impl<R: Clock> Connection for Peer<'_, R> {
     fn receive(&self, into: &mut [u8]) -> io::Result<usize> {
         let mut stream = &self.stream;
         for turns in 0..SECS_ALONE {
-            if self.waiting.has_ended() || self.is_over(turns.max(self.secs_since())) {
+            if self.is_over(turns.max(self.secs_since())) {
                 return Err(ErrorKind::TimedOut.into());
             }
             let received = stream.read(into);

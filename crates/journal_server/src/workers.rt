@@ -4,19 +4,15 @@ ghost use Rattle.std.specs.List.{All};
 ghost use Rattle.crossbeam_channel.specs.Claims.{view, IsSeatAt};
 ghost use Rattle.crossbeam_channel.specs.Ends.{sends_on, receives_on};
 ghost use Rattle.journal_server.specs.declared.workers.TheConstants.{MOST_WORKERS};
-ghost use Rattle.journal_server.specs.PoolSizes.{IsPoolSize};
-ghost use Rattle.journal_server.specs.Queues.{pass_state, both, below, numbers_by, outcome_numbers, times, HasEachOnce, IsFresh, IsWork, IsUncut};
+ghost use Rattle.journal_server.specs.Queues.{pass_state, both, below, numbers_by, note_number, outcome_numbers, times, HasEachOnce, IsFresh, IsWork, IsUncut};
 ghost use Rattle.std.specs.Option.{ForSome};
 ghost use Rattle.journal_memory.specs.declared.refusal_number.RefusalNumber.TheVariants.{J11};
 ghost use Rattle.journal_memory.specs.Causes.{IsUnexplained};
 ghost use Rattle.journal_server.specs.Refusals.{IsWorkersRefusal};
 
 use crate::adapters::{Incoming, Outgoing};
-use crate::connection::{ConnFault, Served, serve_protocol};
-use crate::files::NineProcedures;
-use crate::protocol::Protocol;
 use crate::queue::{Balance, Cut, Drains, Job, PassState, Puts, QueueReceiver, QueueSender, Takes};
-use crate::service::Clock;
+use crate::serving::serve;
 use crate::source::{Connection, Source};
 use crossbeam_channel::{Pass, bounded_with};
 use journal_daemon::Gate;
@@ -26,71 +22,27 @@ use journal_history::Naming;
 use journal_inode::{SoundFiles, Version};
 use journal_memory::Cause;
 use journal_nfs3::Verifier;
+use journal_protocol::{Clock, ConnFault, Served};
 use journal_world::Refusal;
 use std::alloc::{AllocError, Global};
-use std::snapshot::Snapshot;
 use std::sync::{Mutex, Wait};
 use std::thread;
 use std::thread::{Promise, PromisedHandle, Scope, Threads};
 
-/// The most workers that there may be. The queue's rule has a part for each of them.
-pub const MOST_WORKERS: u64 = 64;
+// The most workers that there may be. The queue's rule has a part for each of them.
+const MOST_WORKERS: u64 = 64;
 
-/// How many workers serve the connections of a source, and how many connections wait for one of
-/// them at most.
-#[derive(Clone, Copy, Debug, PartialEq, Eq)]
-pub struct PoolSize {
-    /// The workers, at least one and at most `MOST_WORKERS`.
-    pub workers: u64,
-    /// The connections that may wait in the queue, at least one. Further ones wait with the source.
-    pub waiting: usize,
-}
+// How many workers there are.
+const WORKERS: u64 = 4;
 
-// Four workers, and sixteen connections that wait.
-const FOUR_WORKERS: PoolSize = PoolSize {
-    workers: 4,
-    waiting: 16,
-};
+// How many connections wait for a worker at most. Further ones wait with the source.
+const WAITING: usize = 16;
 
 /// How a connection ended: served to its end, or given up.
 pub type Outcome = Result<Served, ConnFault>;
 
-// What a worker keeps of a connection that it has served.
-trait Note {
-    ghost use Rattle.std.specs.Prelude.{◌≡◌, ℕ};
-
-    // The number of the connection.
-    ghost about: { Self → ℕ };
-
-    // The note of a connection with this number, which ended so.
-    fn of(number: u64, outcome: Outcome) -> Self
-        ensures { about result ≡ number };
-}
-
-// All that is known of it.
-impl Note for (u64, Outcome) {
-    ghost about = { λ note. note.0 };
-
-    fn of(number: u64, outcome: Outcome) -> Self {
-        (number, outcome)
-    }
-}
-
-// That it was served, which takes no memory.
-#[derive(Drop)]
-struct Tick {
-    number: Snapshot<u64>,
-}
-
-impl Note for Tick {
-    ghost about = { λ tick. tick.number.value };
-
-    fn of(number: u64, _outcome: Outcome) -> Self {
-        Tick {
-            number: Snapshot::of(&number),
-        }
-    }
-}
+// What a worker keeps of a connection that it has served: its number, and how it ended.
+type Note = (u64, Outcome);
 
 // What serves the connections that workers take, under their numbers. `None` says that one could
 // not be begun.
@@ -106,22 +58,22 @@ struct Refused<'b, J: Naming, V: Version> {
 }
 
 // What the workers share.
-struct WorkerContext<'s, 'b, D: BlockDisk, J: Naming, V: Version, P, C: Clock, G: Gate> {
+struct WorkerContext<'s, 'b, D: BlockDisk, J: Naming, V: Version, C: Clock, G: Gate> {
     alloc: Global,
     files: &'s FileStore<'b, D, J, V>,
-    protocol: &'s P,
+    verifier: Verifier,
     clock: &'s C,
     gate: &'s G,
     refused: Mutex<Refused<'b, J, V>>,
 }
 
-impl<'s, 'b, D: BlockDisk, J: Naming, V: Version, P, C: Clock, G: Gate> Drop
-    for WorkerContext<'s, 'b, D, J, V, P, C, G> {
+impl<'s, 'b, D: BlockDisk, J: Naming, V: Version, C: Clock, G: Gate> Drop
+    for WorkerContext<'s, 'b, D, J, V, C, G> {
     fn drop(self) {
         let WorkerContext {
             alloc: _,
             files: _,
-            protocol: _,
+            verifier: _,
             clock: _,
             gate: _,
             refused: _,
@@ -129,27 +81,26 @@ impl<'s, 'b, D: BlockDisk, J: Naming, V: Version, P, C: Clock, G: Gate> Drop
     }
 }
 
-impl<'s, 'b, D: BlockDisk, J: Naming, V: Version, P, C: Clock, G: Gate> WorkerContext<
+impl<'s, 'b, D: BlockDisk, J: Naming, V: Version, C: Clock, G: Gate> WorkerContext<
     's,
     'b,
     D,
     J,
     V,
-    P,
     C,
     G,
 > {
     fn new(
         alloc: Global,
         files: &'s FileStore<'b, D, J, V>,
-        protocol: &'s P,
+        verifier: Verifier,
         clock: &'s C,
         gate: &'s G,
     ) -> Self {
         WorkerContext {
             alloc,
             files,
-            protocol,
+            verifier,
             clock,
             gate,
             refused: Mutex::new(Refused { cause: None }),
@@ -157,11 +108,11 @@ impl<'s, 'b, D: BlockDisk, J: Naming, V: Version, P, C: Clock, G: Gate> WorkerCo
     }
 
     // What the workers' notes come to: J11 where a session was refused.
-    fn end<N: Drop, H: Wait>(
+    fn end<H: Wait>(
         self,
         rt: &H,
-        notes: Result<Vec<N>, AllocError>,
-    ) -> Result<Vec<N>, Refusal<Cause<'b, J, SoundFiles<V>>>>
+        notes: Result<Vec<Note>, AllocError>,
+    ) -> Result<Vec<Note>, Refusal<Cause<'b, J, SoundFiles<V>>>>
         ensures ok { IfOk result (λ all. notes ≡ Ok all) }
         ensures refusal { IfErr result IsWorkersRefusal }
     {
@@ -175,22 +126,11 @@ impl<'s, 'b, D: BlockDisk, J: Naming, V: Version, P, C: Clock, G: Gate> WorkerCo
     }
 }
 
-impl<
-    's,
-    'b,
-    D: BlockDisk,
-    J: Naming,
-    V: Version,
-    P: Protocol<V>,
-    C: Clock,
-    G: Gate,
-    S: Connection + Drop,
-> Serve<S> for WorkerContext<'s, 'b, D, J, V, P, C, G> {
+impl<'s, 'b, D: BlockDisk, J: Naming, V: Version, C: Clock, G: Gate, S: Connection + Drop> Serve<S>
+    for WorkerContext<'s, 'b, D, J, V, C, G> {
     fn serve<H: Wait>(&self, rt: &H, number: u64, connection: S) -> Option<Outcome> {
         connection.begin();
-        let (files, protocol) = (self.files, self.protocol);
-        let (clock, gate) = (self.clock, self.gate);
-        let mut session = match files.journal().session(rt) {
+        let mut session = match self.files.journal().session(rt) {
             Ok(session) => session,
             Err(why) => {
                 if let Refusal::Worn(cause) = why {
@@ -199,16 +139,16 @@ impl<
                 return None;
             }
         };
-        let outcome = serve_protocol(
+        let outcome = serve(
             rt,
             self.alloc,
             &mut Incoming(&connection),
             &mut Outgoing(&connection),
-            files,
-            protocol,
+            self.files,
             &mut session,
-            clock,
-            gate,
+            self.clock,
+            self.verifier,
+            self.gate,
             number,
         );
         connection.close();
@@ -219,24 +159,24 @@ impl<
 // What a worker gives back: its pass, its notes, and whether there is one of each connection that
 // it took.
 #[derive(Drop)]
-struct Work<S: Drop, N: Drop> {
+struct Work<S: Drop> {
     pass: Pass<Job<S>, PassState>,
-    notes: Vec<N>,
+    notes: Vec<Note>,
     is_whole: bool,
 }
 
 // Serves connections until it takes a stop. Where memory for a note is refused it goes on serving,
 // so that nobody waits for room in the queue for ever.
 #[tactic(auto, using(crate::proofs::Steps::noted))]
-fn work_on<S: Drop, K: Serve<S>, N: Note + Drop, H: Wait>(
+fn work_on<S: Drop, K: Serve<S>, H: Wait>(
     rt: &H,
     alloc: Global,
     context: &K,
     queue: &QueueReceiver<S>,
     mut pass: Pass<Job<S>, PassState>,
-) -> Work<S, N>
+) -> Work<S>
     requires { IsFresh (IsSeatAt (receives_on queue.now)) pass }
-    ensures work { IsWork (IsSeatAt (receives_on queue.now)) N.about result }
+    ensures work { IsWork (IsSeatAt (receives_on queue.now)) result }
 {
     let mut notes = Vec::new(alloc);
     let mut is_whole = true;
@@ -244,7 +184,7 @@ fn work_on<S: Drop, K: Serve<S>, N: Note + Drop, H: Wait>(
         let has_room = notes.reserve(1).is_ok();
         match queue.recv_as::<Takes, H>(rt, &mut pass) {
             Ok(Job::Serve(number, connection)) => match context.serve(rt, number, connection) {
-                Some(outcome) if has_room => notes.push_reserved(N::of(number, outcome)),
+                Some(outcome) if has_room => notes.push_reserved((number, outcome)),
                 _ => is_whole = false,
             },
             Ok(Job::Stop) | Err(_) => break,
@@ -266,12 +206,12 @@ impl<'l, S: Drop> Drop for Works<'l, S> {
     }
 }
 
-impl<'l, S: Drop, N: Note + Drop> Promise<Work<S, N>> for Works<'l, S> {
+impl<'l, S: Drop> Promise<Work<S>> for Works<'l, S> {
     ghost use Rattle.crossbeam_channel.specs.Claims.{IsSeatAt};
     ghost use Rattle.crossbeam_channel.specs.Ends.{receives_on};
     ghost use Rattle.journal_server.specs.Queues.{IsWork};
 
-    ghost kept_by = { λ p work. IsWork (IsSeatAt (receives_on p.0.now)) N.about work };
+    ghost kept_by = { λ p work. IsWork (IsSeatAt (receives_on p.0.now)) work };
 }
 
 // Puts the connections of the source into the queue, each under its number. Answers how many there
@@ -360,17 +300,17 @@ fn absorb<S: Drop>(
 
 // Takes in a worker's work: what its pass has done, and its notes. It is refused where memory was
 // refused to the worker, or is now.
-fn take_in<S: Drop, N: Note + Drop>(
+fn take_in<S: Drop>(
     queue: &QueueSender<S>,
     pass: &mut Pass<Job<S>, PassState>,
-    notes: &mut Vec<N>,
-    work: Work<S, N>,
+    notes: &mut Vec<Note>,
+    work: Work<S>,
 ) -> Result<(), AllocError>
-    requires { IsSeatAt (sends_on queue.now) pass.old × (0 < (view pass.old).parts) × IsWork (IsSeatAt (sends_on queue.now)) N.about work }
+    requires { IsSeatAt (sends_on queue.now) pass.old × (0 < (view pass.old).parts) × IsWork (IsSeatAt (sends_on queue.now)) work }
     ensures seat { IsSeatAt (sends_on queue.now) pass.new }
     ensures part { ((view pass.new).parts ≡ (view pass.old).parts + 1) × ((view pass.new).put ≡ (view pass.old).put) }
-    ensures taken { (view pass.old).taken ≡ numbers_by N.about notes.old.items
-        → OnOk result ((view pass.new).taken ≡ numbers_by N.about notes.new.items) }
+    ensures taken { (view pass.old).taken ≡ numbers_by note_number notes.old.items
+        → OnOk result ((view pass.new).taken ≡ numbers_by note_number notes.new.items) }
 {
     let Work {
         pass: other,
@@ -433,177 +373,40 @@ where
     ensures numbered { IfOk result.0 (λ outcomes. HasEachOnce (outcome_numbers outcomes.items) (I.given result.1 - I.given source)) }
     ensures refusal { IfErr result.0 IsWorkersRefusal }
 {
-    let protocol = NineProcedures { verifier };
-    run_protocol(
-        rt,
-        alloc,
-        source,
-        files,
-        &protocol,
-        clock,
-        gate,
-        FOUR_WORKERS,
-    )
-}
-
-/// Serves all connections of the source as `run_workers` does, and forgets how each ended: what it
-/// keeps of a connection takes no memory, however many there are.
-///
-/// Answers how many there were, each served once, or what `run_workers` is refused by.
-pub fn serve_all<
-    's,
-    'b,
-    I: Source + Drop,
-    D: BlockDisk + Send,
-    J: Naming + Send + Sync,
-    V: Version + Send + Sync,
-    C: Clock + Sync,
-    G: Gate + Sync,
-    H: Threads + Wait + Sync,
->(
-    rt: &H,
-    alloc: Global,
-    source: I,
-    files: &'s FileStore<'b, D, J, V>,
-    clock: &'s C,
-    verifier: Verifier,
-    gate: &'s G,
-) -> (Result<u64, Refusal<Cause<'b, J, SoundFiles<V>>>>, I)
-where
-    I::Connection: Drop + Send,
-    // Each connection that the source gave was served, and no more.
-    ensures served { IfOk result.0 (λ served. served ≡ I.given result.1 - I.given source) }
-    ensures refusal { IfErr result.0 IsWorkersRefusal }
-{
-    let protocol = NineProcedures { verifier };
-    serve_all_by(
-        rt,
-        alloc,
-        source,
-        files,
-        &protocol,
-        clock,
-        gate,
-        FOUR_WORKERS,
-    )
-}
-
-/// Serves all connections of the source by a protocol, as `run_workers` does by the nine procedures
-/// of NFS version 3, by as many workers as the size says, while at most as many connections wait as
-/// it says.
-pub fn run_protocol<
-    's,
-    'b,
-    I: Source + Drop,
-    D: BlockDisk + Send,
-    J: Naming + Send + Sync,
-    V: Version + Send + Sync,
-    P: Protocol<V> + Sync,
-    C: Clock + Sync,
-    G: Gate + Sync,
-    H: Threads + Wait + Sync,
->(
-    rt: &H,
-    alloc: Global,
-    source: I,
-    files: &'s FileStore<'b, D, J, V>,
-    protocol: &'s P,
-    clock: &'s C,
-    gate: &'s G,
-    size: PoolSize,
-) -> (
-    Result<Vec<(u64, Outcome)>, Refusal<Cause<'b, J, SoundFiles<V>>>>,
-    I,
-)
-where
-    I::Connection: Drop + Send,
-    requires size { IsPoolSize size }
-    ensures numbered { IfOk result.0 (λ outcomes. HasEachOnce (outcome_numbers outcomes.items) (I.given result.1 - I.given source)) }
-    ensures refusal { IfErr result.0 IsWorkersRefusal }
-{
-    let context = WorkerContext::new(alloc, files, protocol, clock, gate);
+    let context = WorkerContext::new(alloc, files, verifier, clock, gate);
     let Ended {
         notes,
         source,
         context,
-    } = run_pool::<I, WorkerContext<'s, 'b, D, J, V, P, C, G>, (u64, Outcome), H>(
-        rt, alloc, source, context, size,
-    );
+    } = run_pool::<I, WorkerContext<'s, 'b, D, J, V, C, G>, H>(rt, alloc, source, context);
     (context.end(rt, notes), source)
 }
 
-/// Serves all connections of the source as `run_protocol` does, and forgets how each ended: what it
-/// keeps of a connection takes no memory, however many there are.
-///
-/// Answers how many there were, each served once, or what `run_protocol` is refused by.
-pub fn serve_all_by<
-    's,
-    'b,
-    I: Source + Drop,
-    D: BlockDisk + Send,
-    J: Naming + Send + Sync,
-    V: Version + Send + Sync,
-    P: Protocol<V> + Sync,
-    C: Clock + Sync,
-    G: Gate + Sync,
-    H: Threads + Wait + Sync,
->(
-    rt: &H,
-    alloc: Global,
-    source: I,
-    files: &'s FileStore<'b, D, J, V>,
-    protocol: &'s P,
-    clock: &'s C,
-    gate: &'s G,
-    size: PoolSize,
-) -> (Result<u64, Refusal<Cause<'b, J, SoundFiles<V>>>>, I)
-where
-    I::Connection: Drop + Send,
-    requires size { IsPoolSize size }
-    // Each connection that the source gave was served, and no more.
-    ensures served { IfOk result.0 (λ served. served ≡ I.given result.1 - I.given source) }
-    ensures refusal { IfErr result.0 IsWorkersRefusal }
-{
-    let context = WorkerContext::new(alloc, files, protocol, clock, gate);
-    let Ended {
-        notes,
-        source,
-        context,
-    } = run_pool::<I, WorkerContext<'s, 'b, D, J, V, P, C, G>, Tick, H>(
-        rt, alloc, source, context, size,
-    );
-    match context.end(rt, notes) {
-        Ok(ticks) => (Ok(ticks.len() as u64), source),
-        Err(why) => (Err(why), source),
-    }
-}
-
 // What comes of the workers: their notes, where none was refused, the source, and what they shared.
-struct Ended<I, K, N> {
-    notes: Result<Vec<N>, AllocError>,
+struct Ended<I, K> {
+    notes: Result<Vec<Note>, AllocError>,
     source: I,
     context: K,
 }
 
 // Serves the connections of the source by as many workers as are asked for. It is refused where a
 // thread or memory was, or where a connection could not be begun.
-fn run_pool<
-    I: Source + Drop,
-    K: Serve<I::Connection> + Sync,
-    N: Note + Drop + Send,
-    H: Threads + Wait + Sync,
->(rt: &H, alloc: Global, source: I, context: K, size: PoolSize) -> Ended<I, K, N>
+fn run_pool<I: Source + Drop, K: Serve<I::Connection> + Sync, H: Threads + Wait + Sync>(
+    rt: &H,
+    alloc: Global,
+    source: I,
+    context: K,
+) -> Ended<I, K>
 where
     I::Connection: Drop + Send,
-    requires { IsPoolSize size }
-    ensures { IfOk result.notes (λ notes. HasEachOnce (numbers_by N.about notes.items) (I.given result.source - I.given source)) }
+    ensures { IfOk result.notes (λ notes. HasEachOnce (numbers_by note_number notes.items) (I.given result.source - I.given source)) }
 {
     let Ok((sender, receiver, mut pass)) = bounded_with::<
         Job<I::Connection>,
         PassState,
         Balance,
         Global,
-    >(alloc, size.waiting) else {
+    >(alloc, WAITING) else {
         return Ended {
             notes: Err(AllocError),
             source,
@@ -611,14 +414,7 @@ where
         };
     };
     let (notes, source) = in_threads(
-        rt,
-        alloc,
-        source,
-        &context,
-        &sender,
-        &receiver,
-        pass,
-        size.workers,
+        rt, alloc, source, &context, &sender, &receiver, pass, WORKERS,
     );
     Ended {
         notes,
@@ -628,13 +424,7 @@ where
 }
 
 // Runs the workers, and hands the connections out to them.
-fn in_threads<
-    's,
-    I: Source + Drop,
-    K: Serve<I::Connection> + Sync,
-    N: Note + Drop + Send,
-    H: Threads + Wait + Sync,
->(
+fn in_threads<'s, I: Source + Drop, K: Serve<I::Connection> + Sync, H: Threads + Wait + Sync>(
     rt: &'s H,
     alloc: Global,
     source: I,
@@ -643,20 +433,20 @@ fn in_threads<
     queue: &'s QueueReceiver<I::Connection>,
     pass: Pass<Job<I::Connection>, PassState>,
     count: u64,
-) -> (Result<Vec<N>, AllocError>, I)
+) -> (Result<Vec<Note>, AllocError>, I)
 where
     I::Connection: Drop + Send,
     requires few { count ≤ MOST_WORKERS }
     requires pass { IsUncut (IsSeatAt (sends_on sender.now)) pass }
     requires same { receives_on queue.now ≡ sends_on sender.now }
-    ensures { IfOk result.0 (λ notes. HasEachOnce (numbers_by N.about notes.items) (I.given result.1 - I.given source)) }
+    ensures { IfOk result.0 (λ notes. HasEachOnce (numbers_by note_number notes.items) (I.given result.1 - I.given source)) }
 {
     thread::scope(
         thread::scope_env(),
         rt,
-        |scope| -> (Result<Vec<N>, AllocError>, I)
+        |scope| -> (Result<Vec<Note>, AllocError>, I)
             requires { IsUncut (IsSeatAt (sends_on sender.now)) pass × (receives_on queue.now ≡ sends_on sender.now) × (count ≤ MOST_WORKERS) }
-            ensures { IfOk result.0 (λ notes. HasEachOnce (numbers_by N.about notes.items) (I.given result.1 - I.given source)) }
+            ensures { IfOk result.0 (λ notes. HasEachOnce (numbers_by note_number notes.items) (I.given result.1 - I.given source)) }
         {
             let mut source = source;
             let mut pass = pass;
@@ -678,17 +468,10 @@ where
 }
 
 // The thread of a worker.
-type Worker<'l, S, N> = PromisedHandle<Work<S, N>, Works<'l, S>>;
+type Worker<'l, S> = PromisedHandle<Work<S>, Works<'l, S>>;
 
 // Begins the workers, each with a part of the pass. It is refused where a thread or memory is.
-fn spawn_workers<
-    's,
-    E,
-    S: Drop + Send + 's,
-    K: Serve<S> + Sync,
-    N: Note + Drop + Send + 's,
-    H: Threads + Wait + Sync,
->(
+fn spawn_workers<'s, E, S: Drop + Send + 's, K: Serve<S> + Sync, H: Threads + Wait + Sync>(
     rt: &'s H,
     alloc: Global,
     scope: &Scope<'s, E>,
@@ -697,7 +480,7 @@ fn spawn_workers<
     queue: &'s QueueReceiver<S>,
     pass: &mut Pass<Job<S>, PassState>,
     count: u64,
-) -> Result<Vec<Worker<'s, S, N>>, AllocError>
+) -> Result<Vec<Worker<'s, S>>, AllocError>
     requires few { count ≤ MOST_WORKERS }
     requires pass { IsUncut (IsSeatAt (sends_on sender.now)) pass.old }
     requires same { receives_on queue.now ≡ sends_on sender.now }
@@ -717,20 +500,20 @@ fn spawn_workers<
 
 // The notes of all workers, where so many connections were put. It is refused where one could not
 // be, where a worker was refused, or where memory is now.
-fn join_workers<'l, S: Drop, N: Note + Drop, H: Threads + Wait>(
+fn join_workers<'l, S: Drop, H: Threads + Wait>(
     rt: &H,
     alloc: Global,
     sender: &QueueSender<S>,
     queue: &'l QueueReceiver<S>,
     mut pass: Pass<Job<S>, PassState>,
-    workers: Vec<Worker<'l, S, N>>,
+    workers: Vec<Worker<'l, S>>,
     given: Option<u64>,
-) -> Result<Vec<N>, AllocError>
+) -> Result<Vec<Note>, AllocError>
     requires same { receives_on queue.now ≡ sends_on sender.now }
     requires pass { IsSeatAt (sends_on sender.now) pass × ((view pass).parts + length workers.items ≡ 65) × (0 < (view pass).parts) × ((view pass).taken ≡ []) }
     requires workers { All (λ w. w.promise.0.now ≡ queue.now) workers.items }
     requires put { IfSome given (λ n. (view pass).put ≡ below n) }
-    ensures { IfOk result (λ notes. (n : ℕ) × (given ≡ Some n) × HasEachOnce (numbers_by N.about notes.items) n) }
+    ensures { IfOk result (λ notes. (n : ℕ) × (given ≡ Some n) × HasEachOnce (numbers_by note_number notes.items) n) }
 {
     let Some(_count) = given else {
         return Err(AllocError);

@@ -1,6 +1,7 @@
 // Why a disk was not made in a file, or not served.
 
-use journal_program::{DeviceFault, LabelFault, OpenFault, SizedDisk};
+use crate::mirrored::Explained;
+use journal_program::{DeviceFault, LabelFault, OpenFault};
 use journal_world::Refusal;
 use std::io;
 
@@ -37,8 +38,8 @@ impl ServiceFault {
     }
 
     /// The same fault, or where a call of the disk failed, the reason for that.
-    pub(crate) fn or_of_device(self, disk: SizedDisk) -> ServiceFault {
-        match disk.into_failure() {
+    pub(crate) fn or_of_device<D: Explained>(self, disk: D) -> ServiceFault {
+        match disk.into_reason() {
             Some(why) => ServiceFault::DeviceFailed(why),
             None => self,
         }

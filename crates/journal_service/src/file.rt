@@ -31,7 +31,7 @@ pub fn format<R: Files<File = File> + Clock>(
 ) -> Result<(), ServiceFault>
     requires { (MIN_BLOCKS ≤ blocks) × (blocks ≤ MAX_BLOCKS) }
 {
-    let disk = match create_disk(rt, path, blocks) {
+    let disk = match create_disk(rt, alloc, path, blocks) {
         Ok(disk) => disk,
         Err(why) => return Err(ServiceFault::File(why)),
     };

@@ -8,7 +8,7 @@
 //! barrier, so that all commits are stable in the file then. `export` does the same by other
 //! programs than the nine procedures, for example by NFS and MOUNT, and at any address. It ends
 //! where a client asks for it by its `Control`, and where its device fails, while `serve` answers
-//! each call by IO from then on.
+//! each call by IO from then on. `export_to_read` is the same of a disk that is only read.
 //!
 //! A disk is mounted under the rule of version 2, and where that refuses it by J8 `BadSuper` under
 //! the rule of version 1: each with a book of its own, since a book is of one rule.
@@ -17,20 +17,26 @@
 //! was written to it.
 #![tactic(auto)]
 
-mod attending;
 mod checking;
+mod clients;
 mod clock;
 mod control;
 mod fault;
 mod file;
+mod front_end;
 mod migrating;
+mod mirrored;
 mod mounting;
 mod printing;
 mod serving;
+mod visits;
+mod workers;
 
 pub use checking::{check, check_disk};
+pub use clients::Endpoint;
 pub use control::{Control, FAILED, STOP, STOPPED};
 pub use fault::ServiceFault;
 pub use file::{format, make};
 pub use migrating::{migrate, migrate_disk};
-pub use serving::{Endpoint, Service, export, serve};
+pub use mirrored::Reads;
+pub use serving::{Service, export, export_to_read, serve};

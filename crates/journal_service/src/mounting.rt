@@ -1,8 +1,10 @@
 // Mounting a disk of either version of the format.
-ghost use Rattle.std.specs.Prelude.{◌≡◌};
+ghost use Rattle.std.specs.Prelude.{◌≡◌, IsTrue};
 ghost use Rattle.journal_world.specs.Files.{files};
+ghost use Rattle.journal_disk.specs.Disks.{IsSettled};
 
 use crate::fault::ServiceFault;
+use journal_disk::BlockDisk;
 use journal_filestore::FileStore;
 use journal_history::{Book, Naming};
 use journal_inode::{SoundFiles, Version};
@@ -13,14 +15,14 @@ use std::alloc::Global;
 
 /// What comes of a disk that is mounted under the rule of a version.
 #[derive(Drop)]
-pub(crate) enum Tried<T> {
+pub(crate) enum Tried<T, D: BlockDisk = SizedDisk> {
     /// Its files are sound in the version, and this came of them.
     Sound(T),
     /// They are not. The disk is as it was.
-    Other(Settled),
+    Other(Settled<D>),
 }
 
-impl<T: Drop> Tried<T> {
+impl<T: Drop, D: BlockDisk + Drop> Tried<T, D> {
     /// What came of the files. It is J8 where they are not sound, and the disk is given up.
     pub fn sound(self) -> Result<T, ServiceFault> {
         match self {
@@ -40,15 +42,16 @@ pub(crate) fn slot_cell(alloc: Global) -> Result<SlotCell, ServiceFault> {
 
 /// Mounts the disk under the rule of a version. Refused as a mount is, but for J8, which hands the
 /// disk back.
-pub(crate) fn mount<'b, J: Naming, V: Version>(
+pub(crate) fn mount<'b, D: BlockDisk + Drop, J: Naming, V: Version>(
     alloc: Global,
     book: &'b Book<SoundFiles<V>>,
     cell: SlotCell,
-    disk: SizedDisk,
-) -> Result<Tried<FileStore<'b, SizedDisk, J, V>>, ServiceFault>
+    disk: D,
+) -> Result<Tried<FileStore<'b, D, J, V>, D>, ServiceFault>
     requires book { book.now ≡ J.book }
     requires cell { cell ≡ J.cell }
-    requires layout { J.layout ≡ files disk.size }
+    requires layout { J.layout ≡ files (D.state disk).past.size }
+    requires settled { IsTrue (D.state disk).honest → IsSettled (D.state disk).past }
 {
     match FileStore::mount(alloc, book, cell, disk) {
         Ok(files) => Ok(Tried::Sound(files)),

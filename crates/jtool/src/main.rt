@@ -1,7 +1,8 @@
 //! The journal at the command line: `jtool script N` makes an empty disk of N blocks in memory, and
 //! answers the commands that it reads on standard input, a line for a line. `jtool format FILE N`
 //! makes a disk of version 2 without files in a file, and `jtool serve FILE PORT K` serves the
-//! files of a disk of either version to K connections. `jtool check FILE` tells whether it is
+//! files of a disk of either version to K connections. With `mirror` behind them the disk is read once
+//! into memory. `jtool check FILE` tells whether it is
 //! sound, and of which version, and `jtool migrate FILE` makes it one of version 2.
 #![tactic(auto)]
 
@@ -17,7 +18,7 @@ mod migrating;
 use fault::Fault;
 use journal_command::Ask;
 use journal_program::hold_closed_streams;
-use journal_service::Service;
+use journal_service::{Reads, Service};
 use migrating::migrate;
 use std::alloc::Global;
 use std::env;
@@ -97,11 +98,18 @@ fn obey<
             path,
             port,
             connections,
+            is_mirrored,
         } => {
+            let reads = if is_mirrored {
+                Reads::FromMemory
+            } else {
+                Reads::FromFile
+            };
             let service = Service {
                 path,
                 port,
                 connections,
+                reads,
             };
             serve(rt, alloc, service, output, faults)
         }

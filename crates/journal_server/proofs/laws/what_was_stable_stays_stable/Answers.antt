@@ -1,5 +1,6 @@
 use Rattle.journal_server.specs.Output.{IsReply}
-use Rattle.journal_server.proofs.Staying.{replies_grow, stays_stable, stays_later, all_are_replies}
+use Rattle.journal_protocol.proofs.Staying.{all_are_replies}
+use Rattle.journal_server.proofs.Staying.{replies_grow, stays_stable, stays_later}
 use Rattle.journal_server.proofs.laws.what_was_stable_stays_stable.Goals as goal
 
 pub returns-clause-grows : goal.returns-clause-grows

@@ -10,7 +10,7 @@ take_in-requires g c =
     let all = c.loop-worker.invariant in
     let worker = c.in-Some-worker.worker in
     let promised = next_promised worker (into_iter_items c.loop-worker.worker-iterator) (into_iter_items c.next.new.self) (λ w. w.promise.0.now) c.args.queue.now c.in-Some-worker.ensures.steps.0 all.promised in
-    (all.seat, all.some, moved_work (receives_on worker.promise.0.now) (sends_on c.args.sender.now) (λ end pass. IsSeatAt end pass) g.N.Note.about c.join.result (ap receives_on promised.0 ∙ c.requires.same) c.join.ensures)
+    (all.seat, all.some, moved_work (receives_on worker.promise.0.now) (sends_on c.args.sender.now) (λ end pass. IsSeatAt end pass) c.join.result (ap receives_on promised.0 ∙ c.requires.same) c.join.ensures)
 
 pub loop-worker-preserved : goal.loop-worker-preserved
 loop-worker-preserved g c =

@@ -3,7 +3,7 @@ use Rattle.std.specs.List.{All}
 use Rattle.std.specs.Vec.Iter.{into_iter_items}
 use Rattle.crossbeam_channel.specs.Claims.{view, IsSeatAt}
 use Rattle.crossbeam_channel.specs.Ends.{sends_on}
-use Rattle.journal_server.specs.Queues.{numbers_by}
+use Rattle.journal_server.specs.Queues.{numbers_by, note_number}
 use Rattle.journal_server.proofs.workers.join_workers.Given as goal
 
 -- the part of each worker that has ended is taken in, and what it took is noted
@@ -13,6 +13,6 @@ invariant-loop-worker g l = record {
   parts : (view l.pass).parts + length (into_iter_items l.worker-iterator) ≡ 65;
   some : 0 < (view l.pass).parts;
   put : (view l.pass).put ≡ (view l.fn.pass).put;
-  taken : (view l.pass).taken ≡ numbers_by g.N.Note.about l.notes.items;
+  taken : (view l.pass).taken ≡ numbers_by note_number l.notes.items;
   promised : All (λ w. w.promise.0.now ≡ l.queue) (into_iter_items l.worker-iterator);
 }

@@ -1,0 +1,380 @@
+-- Turns whose replies were held, and sent.
+use Rattle.std.proofs.Common.{◌≡◌, ◌≢◌, Bool, true, false, ℕ, ◌+◌, ◌≤◌, ◌<◌, List, [], ◌∷◌, ◌++◌, Option, Some, None, length, take, drop, refl, sym, ap, subst, ◌∙◌, append_assoc, arith, length-append}
+use Rattle.std.specs.Prelude.{is_some, not, IfSome}
+use Rattle.std.proofs.lemmas.Bool.{false≢true}
+use Rattle.std.proofs.lemmas.List.{append-nil}
+use Rattle.std.proofs.Math.Seq.{take-append_seam, drop-append_seam}
+use Rattle.std.specs.Io.KnownBytes.{Appends}
+use Rattle.std.proofs.KnownBytes.{Appends-nil, Appends-trans}
+use Rattle.journal_world.specs.Histories.{Entry, floor}
+use Rattle.journal_history.specs.Tokens.{SessionState, OnlyExtends}
+use Rattle.journal_inode.specs.declared.node.Time.{Time}
+use Rattle.journal_rpc.specs.Stream.{Stream}
+use Rattle.journal_rpc.specs.Calls.{Message, message}
+use Rattle.journal_protocol.specs.declared.held_reply.HeldReply.{HeldReply}
+use Rattle.journal_protocol.specs.declared.reply_batch.BatchEntry.{BatchEntry}
+use Rattle.journal_protocol.specs.declared.reply_batch.ReplyBatch.{ReplyBatch}
+use Rattle.journal_protocol.specs.declared.replying.Turn.{Turn}
+use Rattle.journal_protocol.specs.declared.replying.Turn.TheVariants as turns
+use Rattle.journal_protocol.specs.Protocols.{Answering, Replacing, IsLawful, IsRefusable}
+use Rattle.journal_protocol.specs.Output.{IsReplyBy, AllReplies}
+use Rattle.journal_protocol.specs.Serving.{SoFar}
+use Rattle.journal_protocol.specs.ReplyBatches.{IsNoWaitReply, Doing, doing, IsHeld, IsInOrder, total, AreFree, IsCovered, AreCovered, AreWaitedFor, held_of, Settles, SendsSettled, SendsInPart, SendsBehind, SendsBehindInPart}
+use Rattle.journal_protocol.specs.Sending.{AppendsFront, Filled, EndsTurn, Lost, SentSome, Sent, SentUpToBad, SentInPart}
+use Rattle.journal_protocol.proofs.Answering.{one_more}
+use Rattle.journal_protocol.proofs.Staying.{all_replies_grow}
+use Rattle.journal_protocol.proofs.Turns.{fewer_wait, loses, sends_more, sends_all, sends_up_to_bad, breaks_off}
+use Rattle.journal_protocol.proofs.Settling.{one_behind, replies_told, replies_later, replies_stay, settles_same, settles_somehow, front_kept, total-append, covered-append, free_covered, covered_more, free-append}
+
+-- ---- a turn, once its replies are told
+
+module _ {A R : Type 0} (replies : Answering) (replaces : Replacing A) (commits : R → ℕ) (tells : Time → Type 0) (laws : IsLawful replies) (history : List Entry) (old new : Stream) (before middle now : SessionState) (hs : List (BatchEntry A)) (bytes text : List ℕ) (count counted : ℕ)
+    (settles : Settles replaces history hs bytes text) (more : OnlyExtends middle now) (quiet : hs ≡ [] → now ≡ middle) where
+  told : (rs : List (List ℕ)) (held : List ℕ) → bytes ≡ held → AllReplies (IsHeld replies replaces commits tells) rs (doing before hs) (doing middle []) held → AllReplies (IsReplyBy replies tells history) rs before now text
+  told rs held same h =
+      replies_later replies tells laws history rs before middle now text more (λ none. quiet (empty rs h none))
+      (replies_told replies replaces commits tells history rs (doing before hs) (doing middle []) held text h refl (subst (λ (b : List ℕ). Settles replaces history hs b text) same settles))
+    where
+      empty : (qs : List (List ℕ)) → AllReplies (IsHeld replies replaces commits tells) qs (doing before hs) (doing middle []) held → qs ≡ [] → hs ≡ []
+      empty [] k e = sym (ap (λ (d : Doing A). d.behind) k.0)
+      empty (q ∷ qs) k e = absurd cc
+
+  pub turn_told : (turn : Turn) → EndsTurn (IsHeld replies replaces commits tells) turn old new (doing before hs) (doing middle []) [] bytes count counted → EndsTurn (IsReplyBy replies tells history) turn old new before now [] text count counted
+  turn_told turns.Emptied e = record { text = text; replied = told old.records e.text e.is e.replied; is = refl; rest = e.rest; counts = e.counts }
+  turn_told turns.Filled e = record { text = text; answered = e.answered; replied = told e.answered e.text e.is e.replied; is = refl; some = e.some; rest = e.rest; counts = e.counts }
+  turn_told turns.Stopped e =
+      record { text = text; answered = e.answered; bad = e.bad; behind = e.behind; records = e.records; no_call = e.no_call; replied = told e.answered e.text e.is e.replied; is = refl; counts = e.counts }
+
+-- what was sent before stays so
+pub sent_stays : (replies : Answering) (tells : Time → Type 0) (laws : IsLawful replies) (history longer : List Entry) (old new : Stream) (before now : SessionState) (held holds : Option (List ℕ)) (count counted : ℕ) → floor history ≤ floor longer
+    → SentSome (IsReplyBy replies tells history) old new before now held holds count counted → SentSome (IsReplyBy replies tells longer) old new before now held holds count counted
+sent_stays replies tells laws history longer old new before now held holds count counted grows h = record {
+  text = h.text;
+  answered = h.answered;
+  replied = replies_stay replies tells laws history longer h.answered before now h.text grows h.replied;
+  sent = h.sent;
+  rest = h.rest;
+  counts = h.counts;
+}
+
+-- ---- what is held, in order
+
+pub order_fits : {A R : Type 0} (commits : R → ℕ) (h : ReplyBatch A R) → IsInOrder commits h → h.free ≤ length h.bytes.items
+order_fits commits h o =
+    let all : total h.replies.items ≡ total o.front + total o.others = ap total o.is ∙ total-append o.front o.others in
+    omega (arith, all, o.fits, o.free)
+
+-- the same replies, in other room
+pub order_same : {A R : Type 0} (commits : R → ℕ) (a b : ReplyBatch A R) → b.replies.items ≡ a.replies.items → b.bytes.items ≡ a.bytes.items → b.free ≡ a.free → b.latest ≡ a.latest → IsInOrder commits a → IsInOrder commits b
+order_same {A = A} {R = R} commits a b replies bytes free latest o = record {
+  front = o.front;
+  others = o.others;
+  is = replies ∙ o.is;
+  fits = ap total replies ∙ o.fits ∙ sym (ap length bytes);
+  is_free = o.is_free;
+  free = free ∙ o.free;
+  waited = subst (λ (l : Option R). AreWaitedFor commits l o.others) (sym latest) o.waited;
+}
+
+-- nothing is held
+pub order_none : {A R : Type 0} (commits : R → ℕ) (h : ReplyBatch A R) → h.replies.items ≡ [] → h.bytes.items ≡ [] → h.free ≡ 0 → h.latest ≡ None → IsInOrder commits h
+order_none {A = A} {R = R} commits h replies bytes free latest = record {
+  front = [];
+  others = [];
+  is = replies;
+  fits = ap total replies ∙ sym (ap length bytes);
+  is_free = tt;
+  free = free;
+  waited = subst (λ (l : Option R). AreWaitedFor {A = A} commits l []) (sym latest) refl;
+}
+
+snoc_some : {A : Type 0} (a : List (BatchEntry A)) (e : BatchEntry A) → a ++ e ∷ [] ≢ []
+snoc_some [] e = λ is. absurd cc
+snoc_some (h ∷ a) e = λ is. absurd cc
+
+-- One more is held
+module _ {A R : Type 0} (commits : R → ℕ) (old new : ReplyBatch A R) (e : BatchEntry A) (reply : List ℕ) (o : IsInOrder commits old) (replies : new.replies.items ≡ old.replies.items ++ e ∷ []) (bytes : new.bytes.items ≡ old.bytes.items ++ reply) (long : e.length ≡ length reply) where
+  fits_more : total new.replies.items ≡ length new.bytes.items
+  fits_more =
+      let one : total (e ∷ []) ≡ length reply = omega (arith, long) in
+      omega (arith, ap total replies, total-append old.replies.items (e ∷ []), one, o.fits, ap length bytes, length-append old.bytes.items reply)
+
+  -- it is owed nothing, and neither is any before it
+  pub order_free : old.latest ≡ None → new.latest ≡ None → e.wait ≡ None → new.free ≡ length new.bytes.items → IsInOrder commits new
+  order_free none still wait free =
+      let empty : o.others ≡ [] = subst (λ (l : Option R). AreWaitedFor commits l o.others) none o.waited in
+      let all : AreFree old.replies.items = subst AreFree (sym (o.is ∙ ap (λ (b : List (BatchEntry A)). o.front ++ b) empty ∙ append-nil o.front)) o.is_free in
+      record {
+        front = old.replies.items ++ e ∷ [];
+        others = [];
+        is = replies ∙ sym (append-nil (old.replies.items ++ e ∷ []));
+        fits = fits_more;
+        is_free = free-append old.replies.items (e ∷ []) all (wait, tt);
+        free = free ∙ sym fits_more ∙ ap total replies;
+        waited = subst (λ (l : Option R). AreWaitedFor {A = A} commits l []) (sym still) refl;
+      }
+
+  -- the receipt that is waited for covers it, and those before it
+  pub order_waits : (receipt : R) → new.latest ≡ Some receipt → new.free ≡ old.free → IsCovered (commits receipt) e.wait → ((l : R) → old.latest ≡ Some l → commits l ≤ commits receipt) → IsInOrder commits new
+  order_waits receipt waits free covered later = record {
+    front = o.front;
+    others = o.others ++ e ∷ [];
+    is = replies ∙ ap (λ (b : List (BatchEntry A)). b ++ e ∷ []) o.is ∙ append_assoc o.front o.others (e ∷ []);
+    fits = fits_more;
+    is_free = o.is_free;
+    free = free ∙ o.free;
+    waited = subst (λ (l : Option R). AreWaitedFor commits l (o.others ++ e ∷ [])) (sym waits) (snoc_some o.others e, covered-append (commits receipt) o.others (e ∷ []) (before old.latest refl o.waited) (covered, tt));
+  }
+    where
+      before : (l : Option R) → old.latest ≡ l → AreWaitedFor commits l o.others → AreCovered (commits receipt) o.others
+      before None is w = subst (AreCovered (commits receipt)) (sym w) tt
+      before (Some l) is w = covered_more (commits l) (commits receipt) o.others (later l is) w.1
+
+-- ---- what is waited for
+
+pub none_latest : {R : Type 0} (l : Option R) (none : Bool) → is_some l ≡ not none → none ≡ true → l ≡ None
+none_latest None none is so = refl
+none_latest (Some r) none is so = absurd (false≢true (sym (is ∙ ap not so)))
+
+pub some_latest : {R : Type 0} (l : Option R) (none : Bool) → is_some l ≡ not none → none ≡ false → (r : R) × (l ≡ Some r)
+some_latest None none is so = absurd (false≢true (is ∙ ap not so))
+some_latest (Some r) none is so = (r, refl)
+
+pub same_latest : {R : Type 0} (commits : R → ℕ) (l : Option R) (a b : R) → l ≡ Some a → l ≡ Some b → commits b ≤ commits a
+same_latest commits l a b one two =
+    let same : b ≡ a = cc in
+    let counts : commits b ≡ commits a = ap commits same in
+    omega (arith, counts)
+
+pub latest_below : {R : Type 0} (commits : R → ℕ) (taken l : Option R) (n : ℕ) → taken ≡ l → IfSome taken (λ r. commits r ≤ n) → (r : R) → l ≡ Some r → commits r ≤ n
+latest_below commits taken l n is below r some = subst (λ (o : Option _). IfSome o (λ r. commits r ≤ n)) (is ∙ some) below
+
+-- ---- what is sent of it
+
+module _ {A R : Type 0} (replaces : Replacing A) (commits : R → ℕ) (refusable : IsRefusable replaces) (history : List Entry) (h : ReplyBatch A R) (o : IsInOrder commits h) where
+  -- each reply is covered by a mark
+  pub covered_so : (receipt : R) → h.latest ≡ Some receipt → commits receipt ≤ floor history → Settles replaces history h.replies.items h.bytes.items h.bytes.items
+  covered_so receipt waits low =
+      let others : AreCovered (commits receipt) o.others = (subst (λ (l : Option R). AreWaitedFor commits l o.others) waits o.waited).1 in
+      let all = covered-append (floor history) o.front o.others (free_covered (floor history) o.front o.is_free) (covered_more (commits receipt) (floor history) o.others low others) in
+      settles_same replaces history h.replies.items h.bytes.items (subst (AreCovered (floor history)) (sym o.is) all) o.fits
+
+  -- nothing is waited for where nothing is held
+  pub none_waits : {B : Type 0} (receipt : R) → h.latest ≡ Some receipt → h.replies.items ≡ [] → B
+  none_waits receipt waits none = absurd ((subst (λ (l : Option R). AreWaitedFor commits l o.others) waits o.waited).0 (behind_none o.front o.others (sym o.is ∙ none)))
+    where
+      behind_none : (a b : List (BatchEntry A)) → a ++ b ≡ [] → b ≡ []
+      behind_none [] b is = is
+      behind_none (x ∷ a) b is = absurd cc
+
+  -- nothing is owed for any
+  pub free_so : h.latest ≡ None → Settles replaces history h.replies.items h.bytes.items h.bytes.items × (take h.free h.bytes.items ≡ h.bytes.items)
+  free_so none =
+      let empty : o.others ≡ [] = subst (λ (l : Option R). AreWaitedFor commits l o.others) none o.waited in
+      let front : h.replies.items ≡ o.front = o.is ∙ ap (λ (b : List (BatchEntry A)). o.front ++ b) empty ∙ append-nil o.front in
+      let whole : h.free ≡ length h.bytes.items = o.free ∙ sym (ap total front) ∙ o.fits in
+      (settles_same replaces history h.replies.items h.bytes.items (subst (AreCovered (floor history)) (sym front) (free_covered (floor history) o.front o.is_free)) o.fits, ap (λ (n : ℕ). take n h.bytes.items) whole ∙ take_length h.bytes.items)
+    where
+      take_length : (bs : List ℕ) → take (length bs) bs ≡ bs
+      take_length bs = ap (take (length bs)) (sym (append-nil bs)) ∙ take-append_seam bs []
+
+  -- the bytes of the first are the first of what is told
+  module _ (text : List ℕ) (settles : Settles replaces history h.replies.items h.bytes.items text) where
+    kept : (front : List ℕ) × (more : List ℕ) × (rest : List ℕ) × (h.bytes.items ≡ front ++ more) × (text ≡ front ++ rest) × (length front ≡ total o.front)
+    kept = front_kept replaces history o.front o.others h.bytes.items text o.is_free (subst (λ (hs : List (BatchEntry A)). Settles replaces history hs h.bytes.items text) o.is settles)
+
+    long : length kept.0 ≡ h.free
+    long = kept.5 ∙ sym o.free
+
+    first : take h.free h.bytes.items ≡ kept.0
+    first = ap (λ (n : ℕ). take n h.bytes.items) (sym long) ∙ ap (take (length kept.0)) kept.3 ∙ take-append_seam kept.0 kept.1
+
+    others : drop h.free text ≡ kept.2
+    others = ap (λ (n : ℕ). drop n text) (sym long) ∙ ap (drop (length kept.0)) kept.4 ∙ drop-append_seam kept.0 kept.2
+
+    pub whole_is : text ≡ take h.free h.bytes.items ++ drop h.free text
+    whole_is = kept.4 ∙ ap (λ (t : List ℕ). t ++ kept.2) (sym first) ∙ ap (λ (t : List ℕ). take h.free h.bytes.items ++ t) (sym others)
+
+    pub free_fits : h.free ≤ length text
+    free_fits = let l = length-append kept.0 kept.2 in let e = ap length kept.4 in omega (arith, l, e, long)
+
+    pub sends_whole : (a b c : Option (List ℕ)) → Appends a b (take h.free h.bytes.items) → Appends b c (drop h.free text) → SendsSettled replaces history h a c
+    sends_whole a b c one two = record { text = text; settles = settles; sent = subst (Appends a c) (sym whole_is) (Appends-trans a b c (take h.free h.bytes.items) (drop h.free text) one two) }
+
+    pub sends_front : (a b c : Option (List ℕ)) → Appends a b (take h.free h.bytes.items) → AppendsFront b c (drop h.free text) → SendsInPart replaces history h a c
+    sends_front a b c one two = record {
+      text = text;
+      settles = settles;
+      sent = record {
+        front = take h.free h.bytes.items ++ two.front;
+        rest = two.rest;
+        is = whole_is ∙ ap (λ (t : List ℕ). take h.free h.bytes.items ++ t) two.is ∙ sym (append_assoc (take h.free h.bytes.items) two.front two.rest);
+        appends = Appends-trans a b c (take h.free h.bytes.items) two.front one two.appends;
+      };
+    }
+
+    pub sends_less : (a b : Option (List ℕ)) → AppendsFront a b (take h.free h.bytes.items) → SendsInPart replaces history h a b
+    sends_less a b part = record {
+      text = text;
+      settles = settles;
+      sent = record {
+        front = part.front;
+        rest = part.rest ++ drop h.free text;
+        is = whole_is ∙ ap (λ (t : List ℕ). t ++ drop h.free text) part.is ∙ append_assoc part.front part.rest (drop h.free text);
+        appends = part.appends;
+      };
+    }
+
+  -- the first were not all written
+  pub breaks_first : (a b : Option (List ℕ)) → AppendsFront a b (take h.free h.bytes.items) → SendsInPart replaces history h a b
+  breaks_first a b part = let s = settles_somehow replaces history refusable h.replies.items h.bytes.items o.fits in sends_less s.0 s.1 a b part
+
+  -- memory was refused for what is told
+  pub breaks_there : (a b : Option (List ℕ)) → Appends a b (take h.free h.bytes.items) → SendsInPart replaces history h a b
+  breaks_there a b whole = breaks_first a b (record { front = take h.free h.bytes.items; rest = []; is = sym (append-nil (take h.free h.bytes.items)); appends = whole })
+
+  -- all were written
+  pub sends_free : (a b : Option (List ℕ)) → h.latest ≡ None → Appends a b (take h.free h.bytes.items) → SendsSettled replaces history h a b
+  sends_free a b none whole = let f = free_so none in record { text = h.bytes.items; settles = f.0; sent = subst (Appends a b) f.1 whole }
+
+-- ---- in two pieces, the first of which goes out before the wait
+
+module _ {A R : Type 0} (replaces : Replacing A) (commits : R → ℕ) (refusable : IsRefusable replaces) (h : ReplyBatch A R) (o : IsInOrder commits h) (front : List ℕ) (is : front ≡ take h.free h.bytes.items) where
+  -- the first were not all written
+  pub breaks_before : (history : List Entry) (a b : Option (List ℕ)) → AppendsFront a b front → SendsInPart replaces history h a b
+  breaks_before history a b part = breaks_first replaces commits refusable history h o a b (record { front = part.front; rest = part.rest; is = sym is ∙ part.is; appends = part.appends })
+
+  -- nothing is waited for
+  pub sends_unwaited : (history : List Entry) (a b : Option (List ℕ)) → h.latest ≡ None → Appends a b front → SendsSettled replaces history h a b
+  sends_unwaited history a b none whole = sends_free replaces commits refusable history h o a b none (subst (Appends a b) is whole)
+
+  module _ (history : List Entry) (a b c : Option (List ℕ)) (one : Appends a b front) where
+    first_sent : Appends a b (take h.free h.bytes.items)
+    first_sent = subst (Appends a b) is one
+
+    -- the wait ended with a mark: all are told as they are held
+    module _ (receipt : R) (waits : h.latest ≡ Some receipt) (low : commits receipt ≤ floor history) (back : List ℕ) (behind : back ≡ drop h.free h.bytes.items) where
+      pub waited_whole : Appends b c back → SendsSettled replaces history h a c
+      waited_whole two = sends_whole replaces commits refusable history h o h.bytes.items (covered_so replaces commits refusable history h o receipt waits low) a b c first_sent (subst (Appends b c) behind two)
+
+      pub waited_part : AppendsFront b c back → SendsInPart replaces history h a c
+      waited_part two =
+          sends_front replaces commits refusable history h o h.bytes.items (covered_so replaces commits refusable history h o receipt waits low) a b c first_sent
+          (record { front = two.front; rest = two.rest; is = sym behind ∙ two.is; appends = two.appends })
+
+    -- the wait was refused
+    pub refused_whole : SendsBehind replaces history h b c → SendsSettled replaces history h a c
+    refused_whole two = sends_whole replaces commits refusable history h o two.text two.settles a b c first_sent two.sent
+
+    pub refused_part : SendsBehindInPart replaces history h b c → SendsInPart replaces history h a c
+    refused_part two = sends_front replaces commits refusable history h o two.text two.settles a b c first_sent two.sent
+
+-- memory was refused for what is told
+pub sends_none_behind : {A R : Type 0} (replaces : Replacing A) (commits : R → ℕ) (refusable : IsRefusable replaces) (history : List Entry) (h : ReplyBatch A R) (b : Option (List ℕ)) → IsInOrder commits h → SendsBehindInPart replaces history h b b
+sends_none_behind replaces commits refusable history h b o =
+    let s = settles_somehow replaces history refusable h.replies.items h.bytes.items o.fits in
+    record { text = s.0; settles = s.1; sent = record { front = []; rest = drop h.free s.0; is = refl; appends = Appends-nil b } }
+
+pub sends_behind : {A R : Type 0} (replaces : Replacing A) (history : List Entry) (h : ReplyBatch A R) (text back : List ℕ) (b c : Option (List ℕ)) → Settles replaces history h.replies.items h.bytes.items text → back ≡ drop h.free text → Appends b c back → SendsBehind replaces history h b c
+sends_behind replaces history h text back b c settles is two = record { text = text; settles = settles; sent = subst (Appends b c) is two }
+
+pub sends_part_behind : {A R : Type 0} (replaces : Replacing A) (history : List Entry) (h : ReplyBatch A R) (text back : List ℕ) (b c : Option (List ℕ)) → Settles replaces history h.replies.items h.bytes.items text → back ≡ drop h.free text → AppendsFront b c back
+    → SendsBehindInPart replaces history h b c
+sends_part_behind replaces history h text back b c settles is two =
+    record { text = text; settles = settles; sent = record { front = two.front; rest = two.rest; is = sym is ∙ two.is; appends = two.appends } }
+
+-- ---- calls that are done, and held
+
+module _ {A R : Type 0} (replies : Answering) (replaces : Replacing A) (commits : R → ℕ) (tells : Time → Type 0) (rs : List (List ℕ)) (start middle : SessionState) (hs : List (BatchEntry A)) (text : List ℕ) (h : AllReplies (IsHeld replies replaces commits tells) rs (doing start hs) (doing middle []) text) where
+  -- one more
+  pub holds_one : (r : List ℕ) (call : Message) (now : SessionState) (soon : HeldReply A R) (all : List (BatchEntry A)) → message r ≡ Some call → IsNoWaitReply replies replaces commits tells call middle now soon → all ≡ hs ++ held_of commits soon ∷ []
+      → AllReplies (IsHeld replies replaces commits tells) (rs ++ r ∷ []) (doing start all) (doing now []) (text ++ soon.reply.items)
+  holds_one r call now soon all is done e =
+      let known = held_of commits soon in
+      let held : IsHeld replies replaces commits tells call (doing middle (known ∷ [])) (doing now []) soon.reply.items = record { soon = soon; done = done; known = refl; is = refl } in
+      subst (λ (b : List (BatchEntry A)). AllReplies (IsHeld replies replaces commits tells) (rs ++ r ∷ []) (doing start b) (doing now []) (text ++ soon.reply.items)) (sym e)
+      (one_more (IsHeld replies replaces commits tells) rs r call (doing start (hs ++ known ∷ [])) (doing middle (known ∷ [])) (doing now []) text soon.reply.items
+      (one_behind replies replaces commits tells known rs (doing start hs) (doing middle []) text h) is held)
+
+  -- nobody waited for them
+  pub told_somehow : IsRefusable replaces → total hs ≡ length text → (history : List Entry) → (all : List ℕ) × AllReplies (IsReplyBy replies tells history) rs start middle all
+  told_somehow refusable fits history =
+      let s = settles_somehow replaces history refusable hs text fits in
+      (s.0, replies_told replies replaces commits tells history rs (doing start hs) (doing middle []) text s.0 h refl s.1)
+
+-- so many bytes more
+pub fits_one : {A R : Type 0} (commits : R → ℕ) (hs others : List (BatchEntry A)) (text : List ℕ) (soon : HeldReply A R) → total hs ≡ length text → others ≡ hs ++ held_of commits soon ∷ [] → total others ≡ length (text ++ soon.reply.items)
+fits_one commits hs others text soon fits e =
+    let one : total (held_of commits soon ∷ []) ≡ length soon.reply.items = omega arith in
+    omega (arith, fits, ap total e, total-append hs (held_of commits soon ∷ []), one, length-append text soon.reply.items)
+
+-- ---- marks along the way
+
+pub all_grow : (replies : Answering) (tells : Time → Type 0) (laws : IsLawful replies) (history : List Entry) (rs : List (List ℕ)) (old new : SessionState) (text : List ℕ) → AllReplies (IsReplyBy replies tells history) rs old new text → floor old.seen ≤ floor new.seen
+all_grow replies tells laws history rs old new text h = all_replies_grow replies tells laws history rs old new text h
+
+pub turn_grows : (replies : Answering) (tells : Time → Type 0) (laws : IsLawful replies) (history : List Entry) (turn : Turn) (old new : Stream) (before now : SessionState) (held holds : List ℕ) (count counted : ℕ)
+    → EndsTurn (IsReplyBy replies tells history) turn old new before now held holds count counted → floor before.seen ≤ floor now.seen
+turn_grows replies tells laws history turns.Emptied old new before now held holds count counted e = all_grow replies tells laws history old.records before now e.text e.replied
+turn_grows replies tells laws history turns.Filled old new before now held holds count counted e = all_grow replies tells laws history e.answered before now e.text e.replied
+turn_grows replies tells laws history turns.Stopped old new before now held holds count counted e = all_grow replies tells laws history e.answered before now e.text e.replied
+
+-- a connection so far stays so
+pub so_far_stays : (replies : Answering) (tells : Time → Type 0) (laws : IsLawful replies) (history longer : List Entry) (from left held holds : Option (List ℕ)) (waiting : Stream) (start now : SessionState) (count counted : ℕ) → floor history ≤ floor longer
+    → SoFar (IsReplyBy replies tells history) from left held holds waiting start now count counted → SoFar (IsReplyBy replies tells longer) from left held holds waiting start now count counted
+so_far_stays replies tells laws history longer from left held holds waiting start now count counted grows h = record {
+  input = h.input;
+  text = h.text;
+  read = h.read;
+  wrote = h.wrote;
+  answered = h.answered;
+  replied = replies_stay replies tells laws history longer h.answered start now h.text grows h.replied;
+  is = h.is;
+  none = h.none;
+  counts = h.counts;
+  short = h.short;
+}
+
+-- the same where more was answered since
+pub so_far_grown : (replies : Answering) (tells : Time → Type 0) (laws : IsLawful replies) (from left held holds : Option (List ℕ)) (waiting : Stream) (start middle now : SessionState) (count counted : ℕ) (rs : List (List ℕ)) (text : List ℕ)
+    → AllReplies (IsReplyBy replies tells now.seen) rs middle now text → SoFar (IsReplyBy replies tells middle.seen) from left held holds waiting start middle count counted
+    → SoFar (IsReplyBy replies tells now.seen) from left held holds waiting start middle count counted
+so_far_grown replies tells laws from left held holds waiting start middle now count counted rs text replied h =
+    so_far_stays replies tells laws middle.seen now.seen from left held holds waiting start middle count counted (all_grow replies tells laws now.seen rs middle now text replied) h
+
+-- memory was refused in a turn
+pub loses_turn : (replies : Answering) (tells : Time → Type 0) (laws : IsLawful replies) (old mid : Stream) (before between now : SessionState) (held half : Option (List ℕ)) (count sofar : ℕ)
+    → SentSome (IsReplyBy replies tells between.seen) old mid before between held half count sofar → Lost (IsReplyBy replies tells now.seen) mid between now → SentInPart (IsReplyBy replies tells now.seen) old before now held half
+loses_turn replies tells laws old mid before between now held half count sofar h e =
+    loses (IsReplyBy replies tells now.seen) old mid before between now held half count sofar
+    (sent_stays replies tells laws between.seen now.seen old mid before between held half count sofar (all_grow replies tells laws now.seen e.answered between now e.text e.replied) h) e
+
+-- A turn behind others, whose replies are held and then sent
+module _ {A R : Type 0} (replies : Answering) (replaces : Replacing A) (commits : R → ℕ) (tells : Time → Type 0) (laws : IsLawful replies) (turn : Turn) (old mid new : Stream) (before between done now : SessionState) (held half : Option (List ℕ)) (h : ReplyBatch A R) (count sofar counted : ℕ)
+    (so_far : SentSome (IsReplyBy replies tells between.seen) old mid before between held half count sofar)
+    (come : EndsTurn (IsHeld replies replaces commits tells) turn mid new (doing between h.replies.items) (doing done []) [] h.bytes.items sofar counted)
+    (more : OnlyExtends done now) (quiet : h.replies.items ≡ [] → now ≡ done) where
+  module _ (text : List ℕ) (settles : Settles replaces now.seen h.replies.items h.bytes.items text) where
+    told_so : EndsTurn (IsReplyBy replies tells now.seen) turn mid new between now [] text sofar counted
+    told_so = turn_told replies replaces commits tells laws now.seen mid new between done now h.replies.items h.bytes.items text sofar counted settles more quiet turn come
+
+    kept_so : SentSome (IsReplyBy replies tells now.seen) old mid before between held half count sofar
+    kept_so = sent_stays replies tells laws between.seen now.seen old mid before between held half count sofar (turn_grows replies tells laws now.seen turn mid new between now [] text sofar counted told_so) so_far
+
+  pub more_of_turn : (holds : Option (List ℕ)) → turn ≡ turns.Filled → SendsSettled replaces now.seen h half holds → SentSome (IsReplyBy replies tells now.seen) old new before now held holds count counted
+  more_of_turn holds is s = sends_more (IsReplyBy replies tells now.seen) turn old mid new before between now held half [] s.text s.text count sofar counted (kept_so s.text s.settles) refl refl (told_so s.text s.settles) holds is s.sent
+
+  pub all_of_turn : (holds : Option (List ℕ)) → turn ≡ turns.Emptied → SendsSettled replaces now.seen h half holds → Sent (IsReplyBy replies tells now.seen) old new before now held holds count counted
+  all_of_turn holds is s = sends_all (IsReplyBy replies tells now.seen) turn old mid new before between now held half [] s.text s.text count sofar counted (kept_so s.text s.settles) refl refl (told_so s.text s.settles) holds is s.sent
+
+  pub stopped_turn : (holds : Option (List ℕ)) → turn ≡ turns.Stopped → SendsSettled replaces now.seen h half holds → SentUpToBad (IsReplyBy replies tells now.seen) old before now held holds count counted
+  stopped_turn holds is s = sends_up_to_bad (IsReplyBy replies tells now.seen) turn old mid new before between now held half [] s.text s.text count sofar counted (kept_so s.text s.settles) refl refl (told_so s.text s.settles) holds is s.sent
+
+  pub part_of_turn : (holds : Option (List ℕ)) → SendsInPart replaces now.seen h half holds → SentInPart (IsReplyBy replies tells now.seen) old before now held holds
+  part_of_turn holds s = breaks_off (IsReplyBy replies tells now.seen) turn old mid new before between now held half [] s.text s.text count sofar counted (kept_so s.text s.settles) refl refl (told_so s.text s.settles) holds s.sent
+
+  pub fewer_of_turn : turn ≡ turns.Filled → length new.records < length mid.records
+  fewer_of_turn is =
+      let e : Filled (IsHeld replies replaces commits tells) mid new (doing between h.replies.items) (doing done []) [] h.bytes.items sofar counted =
+      subst (λ (t : Turn). EndsTurn (IsHeld replies replaces commits tells) t mid new (doing between h.replies.items) (doing done []) [] h.bytes.items sofar counted) is come in
+      fewer_wait mid new e.answered e.rest e.some

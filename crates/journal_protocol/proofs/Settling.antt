@@ -1,0 +1,259 @@
+-- What is told of replies that were held back.
+use Rattle.std.proofs.Common.{◌≡◌, ℕ, ◌+◌, ◌≤◌, List, [], ◌∷◌, ◌++◌, Option, Some, None, Result, Ok, Err, OnOk, length, take, drop, refl, sym, ap, subst, ◌∙◌, append_assoc, inl, inr, arith, take-append-drop, length-append}
+use Rattle.std.specs.Prelude.{IfSome, is_ok, if◌then◌else◌, ◌⊎◌}
+use Rattle.std.proofs.lemmas.List.{append-nil, append_cancel_left, length-take-le}
+use Rattle.std.proofs.Math.Seq.{take-append_seam}
+use Rattle.journal_world.specs.Histories.{Entry, floor}
+use Rattle.journal_world.proofs.Marks.{floor-append-le}
+use Rattle.journal_history.specs.Tokens.{SessionState, OnlyExtends}
+use Rattle.journal_inode.specs.declared.node.Time.{Time}
+use Rattle.journal_world.proofs.Prefixes.{IsPrefix-trans}
+use Rattle.journal_rpc.specs.Calls.{Message}
+use Rattle.journal_protocol.specs.declared.held_reply.HeldWait.{HeldWait}
+use Rattle.journal_protocol.specs.declared.held_reply.HeldReply.{HeldReply}
+use Rattle.journal_protocol.specs.declared.reply_batch.BatchWait.{BatchWait}
+use Rattle.journal_protocol.specs.declared.reply_batch.BatchEntry.{BatchEntry}
+use Rattle.journal_protocol.specs.Protocols.{Answering, Replacing, IsPaid, IsLawful, IsRefusable}
+use Rattle.journal_protocol.specs.Output.{IsReplyBy, AllReplies}
+use Rattle.journal_protocol.specs.ReplyBatches.{wait_of, held_of, IsNoWaitReply, Doing, doing, IsHeld, total, AreFree, IsCovered, AreCovered, SettlesOne, Settles}
+
+-- ---- lists
+
+-- two ways to cut a list at one place
+pub same_cut : {A : Type 0} (a b c d : List A) → a ++ b ≡ c ++ d → length a ≡ length c → (a ≡ c) × (b ≡ d)
+same_cut a b c d is long =
+    let front : a ≡ c = sym (take-append_seam a b) ∙ ap (take (length a)) is ∙ ap (λ (n : ℕ). take n (c ++ d)) long ∙ take-append_seam c d in
+    (front, append_cancel_left a b d (is ∙ ap (λ (x : List _). x ++ d) (sym front)))
+
+pub none_of_none : {A : Type 0} (l : List A) → 0 ≡ length l → l ≡ []
+none_of_none [] e = refl
+none_of_none (x ∷ xs) e = absurd (omega (arith, e))
+
+-- ---- sessions
+
+OnlyExtends-trans : (a b c : SessionState) → OnlyExtends a b → OnlyExtends b c → OnlyExtends a c
+OnlyExtends-trans a b c first second = record { number = second.number ∙ first.number; mine = second.mine ∙ first.mine; seen = IsPrefix-trans a.seen b.seen c.seen first.seen second.seen }
+
+-- ---- replies, one after another
+
+-- what answers in one way answers in another
+pub all_so : {S : Type 0} (one other : Message → S → S → List ℕ → Type 0) → ((call : Message) (old new : S) (text : List ℕ) → one call old new text → other call old new text)
+    → (rs : List (List ℕ)) (old new : S) (text : List ℕ) → AllReplies one rs old new text → AllReplies other rs old new text
+all_so one other so [] old new text h = h
+all_so one other so (r ∷ rs) old new text h =
+    let k = h.2 in
+    (h.0, h.1, (k.0, k.1, k.2, so h.0 old k.0 k.1 k.3, all_so one other so rs k.0 new k.2 k.4, k.5))
+
+module _ (replies : Answering) (tells : Time → Type 0) (laws : IsLawful replies) where
+  -- marks only grow
+  pub reply_stays : (history longer : List Entry) → floor history ≤ floor longer → (call : Message) (old new : SessionState) (text : List ℕ) → IsReplyBy replies tells history call old new text → IsReplyBy replies tells longer call old new text
+  reply_stays history longer grows call old new text h =
+      record { moment = h.moment; told = h.told; done = h.done; answers = laws.stays h.moment call old h.done history longer text h.answers grows; later = h.later }
+
+  pub replies_stay : (history longer : List Entry) (rs : List (List ℕ)) (old new : SessionState) (text : List ℕ) → floor history ≤ floor longer
+      → AllReplies (IsReplyBy replies tells history) rs old new text → AllReplies (IsReplyBy replies tells longer) rs old new text
+  replies_stay history longer rs old new text grows h = all_so _ _ (reply_stays history longer grows) rs old new text h
+
+  -- the session has seen more behind the last
+  pub replies_later : (history : List Entry) (rs : List (List ℕ)) (old middle new : SessionState) (text : List ℕ) → OnlyExtends middle new → (rs ≡ [] → new ≡ middle)
+      → AllReplies (IsReplyBy replies tells history) rs old middle text → AllReplies (IsReplyBy replies tells history) rs old new text
+  replies_later history [] old middle new text more none h = (none refl ∙ h.0, h.1)
+  replies_later history (r ∷ []) old middle new text more none h =
+      let k = h.2 in
+      let last = k.3 in
+      let reach : OnlyExtends last.done new = OnlyExtends-trans last.done k.0 new last.later (subst (λ (s : SessionState). OnlyExtends s new) k.4.0 more) in
+      (h.0, h.1, (new, k.1, k.2, record { moment = last.moment; told = last.told; done = last.done; answers = last.answers; later = reach }, (refl, k.4.1), k.5))
+  replies_later history (r ∷ q ∷ rs) old middle new text more none h =
+      let k = h.2 in
+      (h.0, h.1, (k.0, k.1, k.2, k.3, replies_later history (q ∷ rs) k.0 middle new k.2 more (λ e. absurd cc) k.4, k.5))
+
+-- ---- replies that are held
+
+module _ {A R : Type 0} (replies : Answering) (replaces : Replacing A) (commits : R → ℕ) (tells : Time → Type 0) where
+  abbrev pub with_behind : Doing A → BatchEntry A → Doing A
+  with_behind d e = doing d.session (d.behind ++ e ∷ [])
+
+  -- what is known of one more stands behind
+  pub one_behind : (e : BatchEntry A) (rs : List (List ℕ)) (old new : Doing A) (bytes : List ℕ) → AllReplies (IsHeld replies replaces commits tells) rs old new bytes → AllReplies (IsHeld replies replaces commits tells) rs (with_behind old e) (with_behind new e) bytes
+  one_behind e [] old new bytes h = (ap (λ (d : Doing A). with_behind d e) h.0, h.1)
+  one_behind e (r ∷ rs) old new bytes h =
+      let k = h.2 in
+      let held : IsHeld replies replaces commits tells h.0 (with_behind old e) (with_behind k.0 e) k.1 = record { soon = k.3.soon; done = k.3.done; known = ap (λ (b : List (BatchEntry A)). b ++ e ∷ []) k.3.known; is = k.3.is } in
+      (h.0, h.1, (with_behind k.0 e, k.1, k.2, held, one_behind e rs k.0 new k.2 k.4, k.5))
+
+  -- a reply that is told
+  reply_told : (history : List Entry) (call : Message) (old new : SessionState) (soon : HeldReply A R) (text : List ℕ) → IsNoWaitReply replies replaces commits tells call old new soon
+      → SettlesOne replaces history (wait_of commits soon.wait) soon.reply.items text → IsReplyBy replies tells history call old new text
+  reply_told history call old new soon text h settles =
+      record { moment = h.moment; told = h.told; done = new; answers = of soon.wait refl settles; later = record { number = refl; mine = refl; seen = ([], append-nil new.seen) } }
+    where
+      same : IsPaid commits (floor history) soon.wait → text ≡ soon.reply.items → replies history h.moment call old new text
+      same paid is = subst (replies history h.moment call old new) (sym is) (h.held.paid history paid)
+
+      waited : (w : HeldWait A R) → soon.wait ≡ Some w → ((commits w.receipt ≤ floor history) × (text ≡ soon.reply.items)) ⊎ replaces w.call text → replies history h.moment call old new text
+      waited w e (inl s) = same (subst (IsPaid commits (floor history)) (sym e) s.0) s.1
+      waited w e (inr place) =
+          subst (λ (o : Option (HeldWait A R)). IfSome o (λ (v : HeldWait A R). (marks : List Entry) (other : List ℕ) → replaces v.call other → replies marks h.moment call old new other)) e h.held.replaced history text place
+
+      of : (o : Option (HeldWait A R)) → soon.wait ≡ o → SettlesOne replaces history (wait_of commits o) soon.reply.items text → replies history h.moment call old new text
+      of None e s = same (subst (IsPaid commits (floor history)) (sym e) tt) s
+      of (Some w) e s = waited w e s
+
+  -- the replies that are told
+  pub replies_told : (history : List Entry) (rs : List (List ℕ)) (old new : Doing A) (bytes text : List ℕ) → AllReplies (IsHeld replies replaces commits tells) rs old new bytes → new.behind ≡ []
+      → Settles replaces history old.behind bytes text → AllReplies (IsReplyBy replies tells history) rs old.session new.session text
+  replies_told history [] old new bytes text h none settles =
+      let empty : old.behind ≡ [] = ap (λ (d : Doing A). d.behind) (sym h.0) ∙ none in
+      let nothing : Settles replaces history [] bytes text = subst (λ (hs : List (BatchEntry A)). Settles replaces history hs bytes text) empty settles in
+      (ap (λ (d : Doing A). d.session) h.0, nothing.1)
+  replies_told history (r ∷ rs) old new bytes text h none settles =
+      let k = h.2 in
+      let held = k.3 in
+      let s : Settles replaces history (held_of commits held.soon ∷ k.0.behind) bytes text = subst (λ (hs : List (BatchEntry A)). Settles replaces history hs bytes text) held.known settles in
+      let cut = same_cut s.0 s.1 k.1 k.2 (sym s.4 ∙ k.5) (s.5 ∙ ap length (sym held.is)) in
+      let one : SettlesOne replaces history (wait_of commits held.soon.wait) held.soon.reply.items s.2 =
+      subst (λ (t : List ℕ). SettlesOne replaces history (wait_of commits held.soon.wait) t s.2) (cut.0 ∙ held.is) s.6 in
+      let rest : Settles replaces history k.0.behind k.2 s.3 = subst (λ (t : List ℕ). Settles replaces history k.0.behind t s.3) cut.1 s.7 in
+      (h.0, h.1, (k.0.session, s.2, s.3, reply_told history h.0 old.session k.0.session held.soon s.2 held.done one, replies_told history rs k.0 new k.2 s.3 k.4 none rest, s.8))
+
+-- ---- what is told of replies that are held
+
+module _ {A : Type 0} (replaces : Replacing A) (history : List Entry) where
+  -- a way to tell one more
+  settles_more : (h : BatchEntry A) (hs : List (BatchEntry A)) (bytes : List ℕ) → total (h ∷ hs) ≡ length bytes → (length (take h.length bytes) ≡ h.length) × (total hs ≡ length (drop h.length bytes))
+  settles_more h hs bytes fits =
+      let front = length-take-le h.length bytes (omega (arith, fits)) in
+      let all : length (take h.length bytes) + length (drop h.length bytes) ≡ length bytes = sym (length-append (take h.length bytes) (drop h.length bytes)) ∙ ap length (take-append-drop h.length bytes) in
+      (front, omega (arith, front, all, fits))
+
+  -- where each is covered by a mark, they are told as they are held
+  pub settles_same : (hs : List (BatchEntry A)) (bytes : List ℕ) → AreCovered (floor history) hs → total hs ≡ length bytes → Settles replaces history hs bytes bytes
+  settles_same [] bytes covered fits = let none = none_of_none bytes fits in (none, none)
+  settles_same (h ∷ hs) bytes covered fits =
+      let more = settles_more h hs bytes fits in
+      let reply = take h.length bytes in
+      let rest = drop h.length bytes in
+      let whole = sym (take-append-drop h.length bytes) in
+      (reply, rest, reply, rest, whole, more.0, one h.wait reply covered.0, settles_same hs rest covered.1 more.1, whole)
+    where
+      one : (wait : Option (BatchWait A)) (reply : List ℕ) → IsCovered (floor history) wait → SettlesOne replaces history wait reply reply
+      one None reply c = refl
+      one (Some wait) reply c = inl (c, refl)
+
+  -- something can be told of replies for which nobody waited
+  pub settles_somehow : IsRefusable replaces → (hs : List (BatchEntry A)) (bytes : List ℕ) → total hs ≡ length bytes → (text : List ℕ) × Settles replaces history hs bytes text
+  settles_somehow refusable [] bytes fits = ([], (none_of_none bytes fits, refl))
+  settles_somehow refusable (h ∷ hs) bytes fits =
+      let more = settles_more h hs bytes fits in
+      let reply = take h.length bytes in
+      let rest = drop h.length bytes in
+      let others = settles_somehow refusable hs rest more.1 in
+      let first = one h.wait reply in
+      (first.0 ++ others.0, (reply, rest, first.0, others.0, sym (take-append-drop h.length bytes), more.0, first.1, others.1, refl))
+    where
+      one : (wait : Option (BatchWait A)) (reply : List ℕ) → (text : List ℕ) × SettlesOne replaces history wait reply text
+      one None reply = (reply, refl)
+      one (Some wait) reply =
+          let place = refusable wait.call in
+          (place.0, inr place.1)
+
+  -- Replies that are owed nothing are told as they are held
+  pub front_kept : (front others : List (BatchEntry A)) (bytes text : List ℕ) → AreFree front → Settles replaces history (front ++ others) bytes text
+      → (kept : List ℕ) × (more : List ℕ) × (rest : List ℕ) × (bytes ≡ kept ++ more) × (text ≡ kept ++ rest) × (length kept ≡ total front)
+  front_kept [] others bytes text free s = ([], bytes, text, refl, refl, refl)
+  front_kept (h ∷ front) others bytes text free s =
+      let same : s.2 ≡ s.0 = subst (λ (o : Option (BatchWait A)). SettlesOne replaces history o s.0 s.2) free.0 s.6 in
+      let k = front_kept front others s.1 s.3 free.1 s.7 in (
+        s.0 ++ k.0,
+        k.1,
+        k.2,
+        s.4 ∙ ap (λ (t : List ℕ). s.0 ++ t) k.3 ∙ sym (append_assoc s.0 k.0 k.1),
+        s.8 ∙ ap (λ (t : List ℕ). t ++ s.3) same ∙ ap (λ (t : List ℕ). s.0 ++ t) k.4 ∙ sym (append_assoc s.0 k.0 k.2),
+        length-append s.0 k.0 ∙ ap (λ (n : ℕ). n + length k.0) s.5 ∙ ap (λ (n : ℕ). h.length + n) k.5,
+      )
+
+pub total-append : {A : Type 0} (a b : List (BatchEntry A)) → total (a ++ b) ≡ total a + total b
+total-append [] b = omega arith
+total-append (h ∷ a) b = let s = total-append a b in omega (arith, s)
+
+pub covered-append : {A : Type 0} (n : ℕ) (a b : List (BatchEntry A)) → AreCovered n a → AreCovered n b → AreCovered n (a ++ b)
+covered-append n [] b p q = q
+covered-append n (h ∷ a) b p q = (p.0, covered-append n a b p.1 q)
+
+pub free_covered : {A : Type 0} (n : ℕ) (a : List (BatchEntry A)) → AreFree a → AreCovered n a
+free_covered n [] free = tt
+free_covered n (h ∷ a) free = (subst (IsCovered n) (sym free.0) tt, free_covered n a free.1)
+
+pub covered_more : {A : Type 0} (n m : ℕ) (a : List (BatchEntry A)) → n ≤ m → AreCovered n a → AreCovered m a
+covered_more n m [] low c = tt
+covered_more {A = A} n m (h ∷ a) low c = (one h.wait c.0, covered_more n m a low c.1)
+  where
+    one : (o : Option (BatchWait A)) → IsCovered n o → IsCovered m o
+    one None c = tt
+    one (Some wait) c = omega (arith, low, c)
+
+pub free-append : {A : Type 0} (a b : List (BatchEntry A)) → AreFree a → AreFree b → AreFree (a ++ b)
+free-append [] b p q = q
+free-append (h ∷ a) b p q = (p.0, free-append a b p.1 q)
+
+-- marks only grow
+pub settles_one_stays : {A : Type 0} (replaces : Replacing A) (history longer : List Entry) (wait : Option (BatchWait A)) (reply text : List ℕ) → floor history ≤ floor longer → SettlesOne replaces history wait reply text → SettlesOne replaces longer wait reply text
+settles_one_stays replaces history longer None reply text grows s = s
+settles_one_stays replaces history longer (Some wait) reply text grows (inl s) = inl (omega (arith, grows, s.0), s.1)
+settles_one_stays replaces history longer (Some wait) reply text grows (inr place) = inr place
+
+-- ---- one reply that is told
+
+-- bytes that were added where there was memory
+pub grown : {T E : Type 0} (r : Result T E) (old more text new : List ℕ) → more ≡ text → new ≡ (if is_ok r then old ++ more else old) → OnOk r (new ≡ old ++ text)
+grown (Ok x) old more text new same is = is ∙ ap (λ (t : List ℕ). old ++ t) same
+grown (Err x) old more text new same is = tt
+
+-- it is told as it is held
+pub told_same : {T E A : Type 0} (replaces : Replacing A) (r : Result T E) (history : List Entry) (wait : Option (BatchWait A)) (o : BatchWait A) (reply old new : List ℕ) → wait ≡ Some o → o.commits ≤ floor history → OnOk r (new ≡ old ++ reply)
+    → OnOk r ((text : List ℕ) × SettlesOne replaces history wait reply text × (new ≡ old ++ text))
+told_same {A = A} replaces (Ok x) history wait o reply old new e low is = (reply, subst (λ (q : Option (BatchWait A)). SettlesOne replaces history q reply reply) (sym e) (inl (low, refl)), is)
+told_same replaces (Err x) history wait o reply old new e low is = tt
+
+-- its refusal is told
+pub told_refusal : {T E A : Type 0} (replaces : Replacing A) (r : Result T E) (history : List Entry) (wait : Option (BatchWait A)) (o : BatchWait A) (reply text old new : List ℕ) → wait ≡ Some o → replaces o.call text → OnOk r (new ≡ old ++ text)
+    → OnOk r ((told : List ℕ) × SettlesOne replaces history wait reply told × (new ≡ old ++ told))
+told_refusal {A = A} replaces (Ok x) history wait o reply text old new e place is = (text, subst (λ (q : Option (BatchWait A)). SettlesOne replaces history q reply text) (sym e) (inr place), is)
+told_refusal replaces (Err x) history wait o reply text old new e place is = tt
+
+-- ---- the replies that are told, one after another
+
+-- What is told so far: whatever is told of the others goes on from there
+abbrev pub ToldSoFar : {A : Type 0} → Replacing A → List (BatchEntry A) → List ℕ → SessionState → List (BatchEntry A) → List ℕ → List ℕ → Type 0
+ToldSoFar replaces all bytes seen rest more told =
+    (history : List Entry) (text : List ℕ) → floor seen.seen ≤ floor history → Settles replaces history rest more text → Settles replaces history all bytes (told ++ text)
+
+pub told_one : {A : Type 0} (replaces : Replacing A) (all : List (BatchEntry A)) (bytes : List ℕ) (before after : SessionState) (h : BatchEntry A) (hs : List (BatchEntry A)) (reply rest told text : List ℕ) → length reply ≡ h.length → floor before.seen ≤ floor after.seen
+    → SettlesOne replaces after.seen h.wait reply text → ToldSoFar replaces all bytes before (h ∷ hs) (reply ++ rest) told → ToldSoFar replaces all bytes after hs rest (told ++ text)
+told_one replaces all bytes before after h hs reply rest told text long grows one so history more low s =
+    subst (Settles replaces history all bytes) (sym (append_assoc told text more))
+    (so history (text ++ more) (omega (arith, grows, low)) (reply, rest, text, more, refl, long, settles_one_stays replaces after.seen history h.wait reply text low one, s, refl))
+
+pub tells_one : {A : Type 0} (replaces : Replacing A) (all : List (BatchEntry A)) (bytes : List ℕ) (start before after : SessionState) (h : BatchEntry A) (left hs : List (BatchEntry A)) (waiting reply rest told now : List ℕ) → left ≡ h ∷ hs
+    → reply ≡ take h.length waiting → rest ≡ drop h.length waiting → OnlyExtends before after
+    → ((text : List ℕ) × SettlesOne replaces after.seen h.wait reply text × (now ≡ told ++ text))
+    → (total left ≡ length waiting) × OnlyExtends start before × ToldSoFar replaces all bytes before left waiting told
+    → (total hs ≡ length rest) × OnlyExtends start after × ToldSoFar replaces all bytes after hs rest now
+tells_one {A = A} replaces all bytes start before after h left hs waiting reply rest told now is front back more one so =
+    let grows : floor before.seen ≤ floor after.seen = subst (λ (e : List Entry). floor before.seen ≤ floor e) more.seen.1 (floor-append-le before.seen more.seen.0) in
+    let fits : total (h ∷ hs) ≡ length waiting = sym (ap total is) ∙ so.0 in
+    let cut = settles_more replaces [] h hs waiting fits in
+    let whole : waiting ≡ reply ++ rest = sym (take-append-drop h.length waiting) ∙ ap (λ (t : List ℕ). t ++ drop h.length waiting) (sym front) ∙ ap (λ (t : List ℕ). reply ++ t) (sym back) in
+    let first : ToldSoFar replaces all bytes before (h ∷ hs) waiting told = subst (λ (rs : List (BatchEntry A)). ToldSoFar replaces all bytes before rs waiting told) is so.2 in
+    let goes : ToldSoFar replaces all bytes before (h ∷ hs) (reply ++ rest) told = subst (λ (b : List ℕ). ToldSoFar replaces all bytes before (h ∷ hs) b told) whole first in (
+      cut.1 ∙ ap length (sym back),
+      OnlyExtends-trans start before after so.1 more,
+      subst (ToldSoFar replaces all bytes after hs rest) (sym one.2) (told_one replaces all bytes before after h hs reply rest told one.0 (ap length front ∙ cut.0) grows one.1 goes),
+    )
+
+pub told_all : {A : Type 0} (replaces : Replacing A) (all : List (BatchEntry A)) (bytes : List ℕ) (seen : SessionState) (left : List (BatchEntry A)) (waiting told : List ℕ) → left ≡ [] → total left ≡ length waiting
+    → ToldSoFar replaces all bytes seen left waiting told → Settles replaces seen.seen all bytes told
+told_all {A = A} replaces all bytes seen left waiting told none fits so =
+    let empty : waiting ≡ [] = none_of_none waiting (sym (ap total none) ∙ fits) in
+    let nothing : Settles replaces seen.seen left waiting [] = subst (λ (rs : List (BatchEntry A)). Settles replaces seen.seen rs waiting []) (sym none) (empty, refl) in
+    subst (Settles replaces seen.seen all bytes) (append-nil told) (so seen.seen [] (omega arith) nothing)

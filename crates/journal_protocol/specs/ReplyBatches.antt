@@ -1,0 +1,126 @@
+-- Replies that are held back, and what is told of them.
+use Rattle.std.specs.Prelude.{◌≡◌, ◌≢◌, ◌≤◌, ℕ, ◌+◌, List, [], ◌∷◌, ◌++◌, length, drop, Option, Some, None, ◌⊎◌}
+use Rattle.std.specs.Io.KnownBytes.{Appends}
+use Rattle.journal_world.specs.Histories.{Entry, floor}
+use Rattle.journal_history.specs.Tokens.{SessionState}
+use Rattle.journal_inode.specs.declared.node.Time.{Time}
+use Rattle.journal_rpc.specs.Calls.{Message}
+use Rattle.journal_protocol.specs.Protocols.{Answering, Replacing, IsHeldReply}
+use Rattle.journal_protocol.specs.declared.held_reply.HeldWait.{HeldWait}
+use Rattle.journal_protocol.specs.declared.held_reply.HeldReply.{HeldReply}
+use Rattle.journal_protocol.specs.declared.reply_batch.BatchWait.{BatchWait}
+use Rattle.journal_protocol.specs.declared.reply_batch.BatchEntry.{BatchEntry}
+use Rattle.journal_protocol.specs.declared.reply_batch.ReplyBatch.{ReplyBatch}
+use Rattle.journal_protocol.specs.Sending.{AppendsFront}
+
+-- ---- what is held
+
+-- what is known of a reply that is owed a wait
+abbrev pub wait_of : {A R : Type 0} → (R → ℕ) → Option (HeldWait A R) → Option (BatchWait A)
+wait_of commits None = None
+wait_of commits (Some wait) = Some (record { call = wait.call; commits = commits wait.receipt })
+
+-- what is known of a reply
+abbrev pub held_of : {A R : Type 0} → (R → ℕ) → HeldReply A R → BatchEntry A
+held_of commits soon = record { length = length soon.reply.items; wait = wait_of commits soon.wait }
+
+-- the call was done at a moment that the clock may tell, up to its commit
+pub record IsNoWaitReply {A R : Type 0} (replies : Answering) (replaces : Replacing A) (commits : R → ℕ) (tells : Time → Type 0) (call : Message) (old new : SessionState) (soon : HeldReply A R) : Type 0 where
+  pub moment : Time
+  pub told : tells moment
+  pub held : IsHeldReply replies replaces commits moment call old new soon
+
+-- what a session has seen, and what is known of the replies behind that are held
+pub record Doing (A : Type 0) : Type 0 where
+  pub session : SessionState
+  pub behind : List (BatchEntry A)
+
+abbrev pub doing : {A : Type 0} → SessionState → List (BatchEntry A) → Doing A
+doing session behind = record { session = session; behind = behind }
+
+-- The text is the reply to the call as it is held, and what is known of it is the first that is
+-- left
+pub record IsHeld {A R : Type 0} (replies : Answering) (replaces : Replacing A) (commits : R → ℕ) (tells : Time → Type 0) (call : Message) (old new : Doing A) (text : List ℕ) : Type 0 where
+  pub soon : HeldReply A R
+  pub done : IsNoWaitReply replies replaces commits tells call old.session new.session soon
+  pub known : old.behind ≡ held_of commits soon ∷ new.behind
+  pub is : text ≡ soon.reply.items
+
+-- how many bytes some replies have
+abbrev pub total : {A : Type 0} → List (BatchEntry A) → ℕ
+total [] = 0
+total (h ∷ hs) = h.length + total hs
+
+-- none of them is owed a wait
+abbrev pub AreFree : {A : Type 0} → List (BatchEntry A) → Type 0
+AreFree [] = Unit {0}
+AreFree (h ∷ hs) = (h.wait ≡ None) × AreFree hs
+
+-- so many stable commits are enough for a reply
+abbrev pub IsCovered : {A : Type 0} → ℕ → Option (BatchWait A) → Type 0
+IsCovered n None = Unit {0}
+IsCovered n (Some wait) = wait.commits ≤ n
+
+-- and for all of these
+abbrev pub AreCovered : {A : Type 0} → ℕ → List (BatchEntry A) → Type 0
+AreCovered n [] = Unit {0}
+AreCovered n (h ∷ hs) = IsCovered n h.wait × AreCovered n hs
+
+-- what is waited for is enough for all of these, and there are some just where something is
+abbrev pub AreWaitedFor : {A R : Type 0} → (R → ℕ) → Option R → List (BatchEntry A) → Type 0
+AreWaitedFor commits None hs = hs ≡ []
+AreWaitedFor commits (Some receipt) hs = (hs ≢ []) × AreCovered (commits receipt) hs
+
+-- The bytes are those of the replies. Those in front are owed nothing, and the receipt that is
+-- waited for covers the others
+pub record IsInOrder {A R : Type 0} (commits : R → ℕ) (h : ReplyBatch A R) : Type 0 where
+  pub front : List (BatchEntry A)
+  pub others : List (BatchEntry A)
+  pub is : h.replies.items ≡ front ++ others
+  pub fits : total h.replies.items ≡ length h.bytes.items
+  pub is_free : AreFree front
+  pub free : h.free ≡ total front
+  pub waited : AreWaitedFor commits h.latest others
+
+-- ---- what is told
+
+-- A reply is told as it is held where nothing is owed for it, or where a mark of the history covers
+-- it; and else by a text that takes its place
+abbrev pub SettlesOne : {A : Type 0} → Replacing A → List Entry → Option (BatchWait A) → List ℕ → List ℕ → Type 0
+SettlesOne replaces history None reply text = text ≡ reply
+SettlesOne replaces history (Some wait) reply text = ((wait.commits ≤ floor history) × (text ≡ reply)) ⊎ replaces wait.call text
+
+-- the first of the replies is told so, and the others go on from there
+abbrev pub SettlesThen : {A : Type 0} → Replacing A → List Entry → BatchEntry A → List ℕ → List ℕ → (List ℕ → List ℕ → Type 0) → Type 0
+SettlesThen replaces history h bytes text goes_on =
+    (reply : List ℕ) × (more : List ℕ) × (told : List ℕ) × (rest : List ℕ)
+    × (bytes ≡ reply ++ more) × (length reply ≡ h.length) × SettlesOne replaces history h.wait reply told × goes_on more rest × (text ≡ told ++ rest)
+
+-- The text is what is told of these replies, which are held as these bytes
+abbrev pub Settles : {A : Type 0} → Replacing A → List Entry → List (BatchEntry A) → List ℕ → List ℕ → Type 0
+Settles replaces history [] bytes text = (bytes ≡ []) × (text ≡ [])
+Settles replaces history (h ∷ hs) bytes text = SettlesThen replaces history h bytes text (λ more rest. Settles replaces history hs more rest)
+
+-- what is told of the replies that are held was sent
+pub record SendsSettled {A R : Type 0} (replaces : Replacing A) (history : List Entry) (h : ReplyBatch A R) (held holds : Option (List ℕ)) : Type 0 where
+  pub text : List ℕ
+  pub settles : Settles replaces history h.replies.items h.bytes.items text
+  pub sent : Appends held holds text
+
+-- a front of it was
+pub record SendsInPart {A R : Type 0} (replaces : Replacing A) (history : List Entry) (h : ReplyBatch A R) (held holds : Option (List ℕ)) : Type 0 where
+  pub text : List ℕ
+  pub settles : Settles replaces history h.replies.items h.bytes.items text
+  pub sent : AppendsFront held holds text
+
+-- what is told of those behind the first was sent
+pub record SendsBehind {A R : Type 0} (replaces : Replacing A) (history : List Entry) (h : ReplyBatch A R) (held holds : Option (List ℕ)) : Type 0 where
+  pub text : List ℕ
+  pub settles : Settles replaces history h.replies.items h.bytes.items text
+  pub sent : Appends held holds (drop h.free text)
+
+-- a front of it was
+pub record SendsBehindInPart {A R : Type 0} (replaces : Replacing A) (history : List Entry) (h : ReplyBatch A R) (held holds : Option (List ℕ)) : Type 0 where
+  pub text : List ℕ
+  pub settles : Settles replaces history h.replies.items h.bytes.items text
+  pub sent : AppendsFront held holds (drop h.free text)

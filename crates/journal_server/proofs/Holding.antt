@@ -1,0 +1,39 @@
+-- A reply of a protocol over files, as one that is held.
+use Rattle.std.proofs.Common.{◌≡◌, ◌≤◌, ℕ, List, Option, Some, None, refl, sym, subst}
+use Rattle.std.specs.Prelude.{IfSome}
+use Rattle.journal_world.specs.Histories.{Entry, floor}
+use Rattle.journal_history.specs.Tokens.{SessionState, CommitPlace}
+use Rattle.journal_inode.specs.declared.node.Time.{Time}
+use Rattle.journal_rpc.specs.Calls.{Message}
+use Rattle.journal_filestore.specs.Done.{IsWaitOver}
+use Rattle.journal_nfs3.specs.declared.pending.ReplyWait.{ReplyWait}
+use Rattle.journal_nfs3.specs.declared.pending.PendingReply.{PendingReply}
+use Rattle.journal_nfs3.specs.Served.{marked, awaiting}
+use Rattle.journal_nfs3.specs.Answers.{pending_wait_for}
+use Rattle.journal_protocol.specs.declared.held_reply.HeldWait.{HeldWait}
+use Rattle.journal_protocol.specs.Protocols.{IsPaid, IsHeldReply}
+use Rattle.journal_server.specs.FileProtocols.{FileAnswering, IsFileLawful, IsAwaitedCall, told_by, replaced_by, held_wait}
+
+-- how many commits are to be stable
+abbrev pub commits_of : CommitPlace → ℕ
+commits_of receipt = receipt.count
+
+module _ (answers : FileAnswering) (laws : IsFileLawful answers) (moment : Time) (call : Message) (old new : SessionState) (soon : PendingReply CommitPlace)
+    (done : answers (awaiting (pending_wait_for soon.wait)) moment call old new soon.reply.items) (awaited : IfSome soon.wait (λ wait. IsAwaitedCall wait.procedure call)) where
+  abbrev stable : List Entry → SessionState
+  stable history = record { number = 0; mine = history; seen = history }
+
+  paid_so : (history : List Entry) (wait : Option (ReplyWait CommitPlace)) → IsPaid commits_of (floor history) (held_wait call.xid wait) → IsWaitOver (pending_wait_for wait) (stable history)
+  paid_so history None p = tt
+  paid_so history (Some wait) p = p
+
+  placed : (wait : Option (ReplyWait CommitPlace)) → answers (awaiting (pending_wait_for wait)) moment call old new soon.reply.items → IfSome wait (λ w. IsAwaitedCall w.procedure call)
+      → IfSome (held_wait call.xid wait) (λ w. (history : List Entry) (text : List ℕ) → replaced_by answers w.call text → told_by answers history moment call old new text)
+  placed None d a = tt
+  placed (Some wait) d a = λ history text place. place moment call old new wait.receipt soon.reply.items history refl a d
+
+  pub holds_file : IsHeldReply (told_by answers) (replaced_by answers) commits_of moment call old new (record { reply = soon.reply; wait = held_wait call.xid soon.wait })
+  holds_file = record {
+    paid = λ history p. laws.paid moment call old new (stable history) (pending_wait_for soon.wait) soon.reply.items done (paid_so history soon.wait p);
+    replaced = placed soon.wait done awaited;
+  }
