@@ -26,8 +26,8 @@ def greets(peer):
 
 
 def a_service_with_few_files_answers_each_peer(room):
-    """None of them leaves, and each is answered at its first call: those that have rested for seconds are
-    ended for later ones. A stop is answered too."""
+    """None of them leaves, and each is answered at its first call: one above those that may be open is
+    ended for the next one. A stop is answered too."""
     wants_run(room.run(["jnl", "create", "disk", "--blocks", str(BLOCKS)]), Ended(b"", b"", 0))
     service = room.start(["jnl", "serve", "disk", "--socket", "s"], preexec_fn=limit_files)
     peers = []

@@ -127,12 +127,14 @@ def few_files():
 
 
 def a_service_with_few_file_numbers_serves_what_it_can(room):
-    """It says so, and ends a client that is silent once one more comes."""
+    """It says so. One client above those that may be open is answered, and the next one too."""
     service = begin(room, preexec_fn=few_files)
     silent = [service.connect() for _ in range(FEW_CONNECTIONS)]
     for client in silent:
         seconds_of_call(client)
-    is_within("a call of one more", seconds_of_call(service.connect()), BEHIND_SLOW_PEERS)
-    for client in silent:
+    visitor = service.connect()
+    is_within("a call of one more", seconds_of_call(visitor), IN_A_CROWD)
+    is_within("a call of the next one", seconds_of_call(service.connect()), BEHIND_SLOW_PEERS)
+    for client in [*silent, visitor]:
         client.close()
     stop(room, service, FEW % (FEW_FILES, FEW_CONNECTIONS))

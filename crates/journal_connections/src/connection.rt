@@ -20,6 +20,8 @@ pub(crate) struct Connection<S> {
     pub stream: TcpStream,
     // What its service keeps of it.
     pub session: S,
+    // How many were admitted before it.
+    pub number: u64,
     // Since when it rests, in milliseconds of the clock.
     pub since: u64,
 }

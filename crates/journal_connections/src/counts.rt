@@ -26,6 +26,11 @@ impl Count {
         self.0.fetch_add(more, Ordering::SeqCst);
     }
 
+    // Counts one more, and answers what was counted before.
+    pub(crate) fn next(&self) -> u64 {
+        self.0.fetch_add(1, Ordering::SeqCst)
+    }
+
     /// Counts one less.
     pub fn take(&self) {
         self.0.fetch_sub(1, Ordering::SeqCst);

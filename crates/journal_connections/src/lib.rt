@@ -11,6 +11,10 @@
 //! the order in which that came, for one piece of what they sent. So nobody waits for longer than
 //! all others take for a piece each.
 //!
+//! Where as many connections are open as may be, one more is a visitor. It is served as the others
+//! are, until another one comes: then it is ended once it has rested for a quarter of a second, or
+//! where it pauses after half a second. So one more is answered however many are busy.
+//!
 //! A peer that brings no request to its end and takes no byte of an answer is given up after five
 //! minutes, or after five seconds where others wait (`Peer`).
 #![tactic(auto)]

@@ -103,9 +103,9 @@ impl<'c, 'l, 'r, R: Clock + Wait> Peer<'c, 'l, 'r, R> {
             self.give_room_back();
             return;
         }
-        self.load.begin_knock();
+        self.load.begin_wait_for_room();
         let has_room = self.load.records.take(self.rt, self.load);
-        self.load.end_knock();
+        self.load.end_wait_for_room();
         self.has_room.store(has_room, Ordering::SeqCst);
         self.begin_anew();
     }

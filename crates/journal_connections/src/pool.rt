@@ -24,12 +24,15 @@ const PIECE_BYTES: usize = 131_072;
 // How many connections that have something to read are told at once.
 const EVENTS_AT_ONCE: usize = 64;
 
-// How often it is looked whether there is room for one more connection.
+// How often it is looked whether there is a place for one more connection.
 const LOOK_MILLIS: u64 = 10;
 
 // For how many milliseconds a connection has rested at least that is ended where the system has no
 // file number left. So none is ended whose peer makes one call after the other.
 const MILLIS_AT_REST: u64 = 1_000;
+
+// For how many milliseconds a visitor has rested at least that is ended for another one.
+const MILLIS_OF_VISITOR: u64 = 250;
 
 /// Why a service did not begin, or ended without having been asked to.
 #[derive(Clone, Copy, Debug, PartialEq, Eq)]
@@ -153,14 +156,12 @@ impl<'s, 'l, S: Service + Sync> Pool<'s, 'l, S> {
         self.end(rt);
     }
 
-    // Begins a connection, once there is room for it. It is closed where the service has ended.
+    // Begins a connection, once there is a place for it. It is closed where the service has ended.
     fn admit<R: Clock + Wait>(&self, rt: &R, accepted: Accepted) {
         let load = self.load;
-        if !self.make_room(rt) {
+        let Some(number) = self.await_place(rt) else {
             return;
-        }
-        load.counts.open.add(1);
-        load.counts.taken.add(1);
+        };
         let Accepted { stream, may_stop } = accepted;
         prepare(&stream);
         let Some(session) = self.service.begin(rt, may_stop) else {
@@ -170,6 +171,7 @@ impl<'s, 'l, S: Service + Sync> Pool<'s, 'l, S> {
         let connection = Connection {
             stream,
             session,
+            number,
             since: millis(rt),
         };
         if load.is_crowded() {
@@ -179,24 +181,47 @@ impl<'s, 'l, S: Service + Sync> Pool<'s, 'l, S> {
         }
     }
 
-    // Waits until there is room for one more connection. Where one has rested for some seconds it
-    // is ended. `false` says that the service has ended.
-    fn make_room<R: Clock + Wait>(&self, rt: &R) -> bool {
+    // Takes a place for one more connection, and answers its number. Where there is none it waits.
+    // `None` says that the service has ended.
+    fn await_place<R: Clock + Wait>(&self, rt: &R) -> Option<u64> {
         let load = self.load;
-        if load.has_room() {
-            return !load.has_ended();
+        if let Some(number) = load.take_place(millis(rt)) {
+            return Some(number);
         }
         load.begin_knock();
+        let place = self.make_room(rt);
+        load.end_knock();
+        place
+    }
+
+    // Takes a place once there is one. One that has rested for some seconds is ended for it, or
+    // else the visitor.
+    fn make_room<R: Clock + Wait>(&self, rt: &R) -> Option<u64> {
         for _ in rt.forever() {
-            if load.has_ended() || load.has_room() {
-                break;
+            if self.load.has_ended() {
+                return None;
             }
-            if !self.end_first(rt, MILLIS_IN_CROWD) {
+            if let Some(number) = self.load.take_place(millis(rt)) {
+                return Some(number);
+            }
+            if !self.end_first(rt, MILLIS_IN_CROWD) && !self.end_visitor(rt) {
                 thread::sleep(rt, Duration::from_millis(LOOK_MILLIS));
             }
         }
-        load.end_knock();
-        !load.has_ended()
+        unreachable!()
+    }
+
+    // Ends the visitor, if it has rested for a while, and answers whether it did.
+    fn end_visitor<R: Clock + Wait>(&self, rt: &R) -> bool {
+        let Some(latest) = millis(rt).checked_sub(MILLIS_OF_VISITOR) else {
+            return false;
+        };
+        let Some(connection) = self.resting.take_visitor(rt, self.load, latest) else {
+            return false;
+        };
+        self.load.counts.crowded_out.add(1);
+        self.finish_at_rest(rt, connection);
+        true
     }
 
     // Ends the connection that has rested for the longest time, if it has rested for so many
@@ -243,6 +268,7 @@ impl<'s, 'l, S: Service + Sync> Pool<'s, 'l, S> {
         let Connection {
             stream,
             mut session,
+            number,
             since: _,
         } = connection;
         let peer = Peer::new(rt, self.load, &stream, worker);
@@ -254,16 +280,26 @@ impl<'s, 'l, S: Service + Sync> Pool<'s, 'l, S> {
         let connection = Connection {
             stream,
             session,
+            number,
             since,
         };
         match turned {
-            Turned::Paused => self.let_rest(rt, connection),
+            Turned::Paused => self.pause(rt, connection),
             Turned::Ended => self.finish(rt, connection),
             Turned::Stopped => {
                 self.finish(rt, connection);
                 self.end(rt);
             }
         }
+    }
+
+    // Lets a connection rest that has paused, unless it is a visitor that is to leave.
+    fn pause<W: Wait>(&self, rt: &W, connection: Connection<S::Session>) {
+        if self.load.is_to_leave(connection.number, connection.since) {
+            self.load.counts.crowded_out.add(1);
+            return self.finish(rt, connection);
+        }
+        self.let_rest(rt, connection);
     }
 
     // Lets a connection rest. Where that is refused it is ended.
@@ -278,6 +314,7 @@ impl<'s, 'l, S: Service + Sync> Pool<'s, 'l, S> {
         let Connection {
             stream,
             session,
+            number: _,
             since: _,
         } = connection;
         self.service.end(rt, session);
@@ -290,6 +327,7 @@ impl<'s, 'l, S: Service + Sync> Pool<'s, 'l, S> {
         let Connection {
             stream,
             session,
+            number: _,
             since: _,
         } = connection;
         self.service.end(rt, session);

@@ -13,6 +13,8 @@ use std::sync::{Mutex, Wait};
 // Connections under numbers that rise, so the first one has rested for the longest time.
 struct Numbered<S> {
     next: usize,
+    // The number under which a visitor was last put.
+    visitor: Option<usize>,
     connections: BTreeMap<usize, Connection<S>>,
 }
 
@@ -20,6 +22,7 @@ impl<S: Drop> Drop for Numbered<S> {
     fn drop(self) {
         let Numbered {
             next: _,
+            visitor: _,
             connections: _,
         } = self;
     }
@@ -47,6 +50,7 @@ impl<S: Drop> Resting<S> {
         Resting {
             numbered: Mutex::new(Numbered {
                 next: 0,
+                visitor: None,
                 connections: BTreeMap::new(alloc),
             }),
             registry,
@@ -71,6 +75,9 @@ impl<S: Drop> Resting<S> {
             return Err(connection);
         }
         numbered.next = number.wrapping_add(1);
+        if load.is_visitor(connection.number) {
+            numbered.visitor = Some(number);
+        }
         match numbered.connections.insert(number, connection) {
             Ok(_) => Ok(()),
             Err(refused) => {
@@ -84,6 +91,19 @@ impl<S: Drop> Resting<S> {
     // Takes the connection of this number, if it rests.
     pub fn take<W: Wait>(&self, rt: &W, number: usize) -> Option<Connection<S>> {
         let mut guard = self.numbered.lock(rt);
+        let connection = guard.connections.remove(&number)?;
+        self.forget(&connection.stream);
+        Some(connection)
+    }
+
+    // Takes the visitor, if it rests since this moment or an earlier one.
+    pub fn take_visitor<W: Wait>(&self, rt: &W, load: &Load, latest: u64) -> Option<Connection<S>> {
+        let mut guard = self.numbered.lock(rt);
+        let number = guard.visitor?;
+        let visitor = guard.connections.get(&number)?;
+        if visitor.since > latest || !load.is_visitor(visitor.number) {
+            return None;
+        }
         let connection = guard.connections.remove(&number)?;
         self.forget(&connection.stream);
         Some(connection)
