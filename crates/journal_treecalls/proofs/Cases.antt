@@ -48,7 +48,7 @@ target-node V h r n =
 
 -- ── what is told of a node ──
 
-length-bytes_of : (V : View) (n : ℕ) (x : Held) → IsSoundInode V n x → (k : ℕ) → length (bytes_of V x.blocks k) ≡ 4096 * k
+pub length-bytes_of : (V : View) (n : ℕ) (x : Held) → IsSoundInode V n x → (k : ℕ) → length (bytes_of V x.blocks k) ≡ 4096 * k
 length-bytes_of V n x s zero = refl
 length-bytes_of V n x s (suc k) =
     let rest = length-bytes_of V n x s k in

@@ -37,3 +37,7 @@ does-reads may_be ws call c now reply none sound op = record {
 -- three writes, the last first
 pub writes-three : (before first second third : List Write) (a b c : Write) → first ≡ a ∷ before → second ≡ b ∷ first → third ≡ c ∷ second → before ≡ [] → third ≡ c ∷ b ∷ a ∷ []
 writes-three before first second third a b c x y z none = z ∙ ap (λ ws. c ∷ ws) (y ∙ ap (λ ws. b ∷ ws) (x ∙ ap (λ ws. a ∷ ws) none))
+
+-- and four
+pub writes-four : (before first second third fourth : List Write) (a b c d : Write) → first ≡ a ∷ before → second ≡ b ∷ first → third ≡ c ∷ second → fourth ≡ d ∷ third → before ≡ [] → fourth ≡ d ∷ c ∷ b ∷ a ∷ []
+writes-four before first second third fourth a b c d w x y z none = z ∙ ap (λ ws. d ∷ ws) (writes-three before first second third a b c w x y none)

@@ -1,8 +1,11 @@
 -- Each step of MKDIR and CREATE: its knowledge, and its writes.
-use Rattle.std.proofs.Common.{◌≡◌, ◌≢◌, ℕ, ◌+◌, ◌*◌, ◌<◌, Bool, true, false, cond, List, [], ◌∷◌, get_or, Option, Some, None, Ok, Err, refl, sym, ap, subst, ◌∙◌}
-use Rattle.std.specs.Prelude.{Result, nat_lt}
-use Rattle.std.proofs.lemmas.Bool.{ltb-true}
-use Rattle.journal_tree.specs.declared.limits.TheConstants.{LAST_GENERATION}
+use Rattle.std.proofs.Common.{◌≡◌, ◌≢◌, ℕ, ◌+◌, ◌-◌, ◌*◌, ◌/◌, ◌<◌, ◌≤◌, Bool, true, false, cond, List, [], ◌∷◌, length, get_or, Option, Some, None, Ok, Err, refl, sym, ap, subst, ◌⊎◌, inl, inr, ◌∙◌, arith}
+use Rattle.std.specs.Prelude.{Result, nat_lt, ◌==◌}
+use Rattle.std.proofs.lemmas.Bool.{ltb-true, cases_lt, lt-ltb, eq-eqb, and_from, false≢true}
+use Rattle.std.proofs.lemmas.List.{get_or_past}
+use Rattle.journal_tree.specs.declared.limits.TheConstants.{LAST_GENERATION, MOST_BLOCKS}
+use Rattle.journal_tree.specs.declared.reply.Kind.{Kind}
+use Rattle.journal_tree.specs.declared.reply.Kind.TheVariants.{Directory, File}
 use Rattle.journal_tree.specs.declared.time.Time.{Time}
 use Rattle.journal_tree.specs.declared.reply.Handle.{Handle}
 use Rattle.journal_tree.specs.declared.reply.Made.{Made}
@@ -19,31 +22,38 @@ use Rattle.journal_tree.specs.Op.Reply.{made as made_reply}
 use Rattle.journal_treestore.specs.declared.entry.Entry.{Entry}
 use Rattle.journal_treestore.specs.declared.inode.Head.{Head}
 use Rattle.journal_treestore.specs.declared.inode.Inode.{Inode}
-use Rattle.journal_treestore.specs.declared.inode.Inode.TheVariants.{Free}
+use Rattle.journal_treestore.specs.declared.inode.Inode.TheVariants.{Free, Used}
+use Rattle.journal_treestore.specs.declared.inode.TheConstants.{DIRECT_BLOCKS}
+use Rattle.journal_treestore.specs.declared.owner.Owner.{Owner}
 use Rattle.journal_treestore.specs.Entries.{with_entry, tag_of}
 use Rattle.journal_treestore.specs.Inodes.{name_from}
-use Rattle.journal_treestore.specs.Views.{View, with_inode, with_block, held_of, seen, node_of, tree_of}
+use Rattle.journal_treestore.specs.Owners.{owner_from}
+use Rattle.journal_treestore.specs.Views.{Held, View, zero_block, with_inode, with_owner, with_block, held_of, seen, node_of, tree_of}
 use Rattle.journal_treestore.specs.Views.Seen.{used}
 use Rattle.journal_treestore.specs.Sound.{IsSoundView}
 use Rattle.journal_treestore.specs.Steps.{with_moment}
 use Rattle.journal_treestore.proofs.Viewing.{inode-node}
+use Rattle.journal_tree.proofs.Hanging.{low}
 use Rattle.journal_treecalls.specs.declared.node.Record.{Record}
 use Rattle.journal_treecalls.specs.declared.search.Hit.{Hit}
 use Rattle.journal_treecalls.specs.declared.named.Named.{Named}
 use Rattle.journal_treecalls.specs.declared.room.FreeNumber.{FreeNumber}
 use Rattle.journal_treecalls.specs.declared.room.FreePlace.{FreePlace}
+use Rattle.journal_treecalls.specs.declared.room.FreeBlock.{FreeBlock}
+use Rattle.journal_treecalls.specs.declared.room.NewPlace.{NewPlace}
+use Rattle.journal_treecalls.specs.declared.room.NewPlace.TheVariants.{Here, Further}
+use Rattle.journal_treecalls.specs.declared.room.FreeRoom.{FreeRoom}
 use Rattle.journal_treecalls.specs.declared.creation.NewNode.{NewNode}
 use Rattle.journal_treecalls.specs.declared.creation.Plan.{Plan}
 use Rattle.journal_treecalls.specs.Disks.{Write, inode_seen, written, Learns, Does}
-use Rattle.journal_treecalls.specs.Disks.Write.{inode_write, block_write}
+use Rattle.journal_treecalls.specs.Disks.Write.{inode_write, owner_write, block_write}
 use Rattle.journal_treecalls.specs.Targets.{held, IsInode}
 use Rattle.journal_treecalls.specs.Names.{moved, IsNamed, IsNameFor}
-use Rattle.journal_treecalls.specs.Rooms.{IsFreeNumber, if_young, IsYoung, IsEmptyIn, IsPlaceIn, IsPlaceOf, HasFreeNumber, new_head, with_new, mkdir_plan, create_plan, Plants, IsPlacing, PlacesNode, IsMakingNode, MakesNode, MakesPlanned, IsMaking, Makes}
-use Rattle.journal_treecalls.specs.Rooms.IsPlacing.{no_place, placed}
+use Rattle.journal_treecalls.specs.Rooms.{IsFreeNumber, if_young, IsYoung, IsEmptyIn, IsPlaceIn, IsPlaceOf, HasFreeNumber, HasFreeBlock, IsFreeBlock, if_nobodys, has_at, IsHad, IsPlaceFor, IsFitPlace, HasRoomFor, IsRoomFor, IsFitRoom, room_of, owner_of, with_further, new_head, with_new, with_new_block, making_call, mkdir_plan, create_plan, plan_for, Plants, IsMakingNode, MakesNode, MakesPlanned, IsMaking, Makes}
 use Rattle.journal_treecalls.specs.Rooms.IsMakingNode.{full, makes}
 use Rattle.journal_treecalls.specs.Rooms.IsMakingPlanned.{kept, tried}
 use Rattle.journal_treecalls.specs.Rooms.IsMaking.{there, missing}
-use Rattle.journal_treecalls.proofs.Learning.{learns-as, does-reads}
+use Rattle.journal_treecalls.proofs.Learning.{learns-as, learns-then, does-reads}
 use Rattle.journal_treecalls.proofs.Learned.{AreSound}
 use Rattle.journal_treecalls.proofs.Making.{mkdir-unnamed, create-unnamed, mkdir-there, create-there, mkdir-refused, create-refused, mkdir-no_room, create-no_room, mkdir-done, create-done, mkdir-sound, create-sound}
 
@@ -80,14 +90,84 @@ place-some old new b j v w o at place l same some empty is place_is = learns-as 
     let e = subst (IsEmptyIn w) is empty in
     record { block = refl; there = some; low = e.0; place = place_is; empty = ap (λ v. (Rattle.journal_treestore.specs.Entries.entry_from v at).number) (block ∙ sym same) ∙ e.1 })
 
-pub place-of : (first old new : View → Type 0) (bs : List ℕ) (j : ℕ) (o : Option FreePlace) (p : FreePlace) → ((V : View) → old V → first V) → Learns old new (λ V. IsPlaceIn V (get_or bs j 0) j o) → o ≡ Some p → Learns first new (λ V. IsPlaceOf V bs (Some p))
-place-of first old new bs j o p same l is = record { before = λ V m. same V (l.before V m); now = λ V m. record { j = j; is = subst (IsPlaceIn V (get_or bs j 0) j) is (l.now V m) } }
+pub place-here : (old new : View → Type 0) (h : Head) (o : Option FreePlace) (p : FreePlace) → Learns old new (λ V. IsPlaceOf V h.blocks o) → o ≡ Some p → Learns old new (λ V. IsPlaceFor V h (Some (Here p)))
+place-here old new h o p l is = learns-as old new _ _ l (λ V m at. subst (IsPlaceOf V h.blocks) is at)
+
+-- ── a block that nobody has ──
+
+pub had-high : (old : View → Type 0) → AreSound old → (b : ℕ) (o : Owner) (count number : ℕ) → ((V : View) → old V → V.numbers ≡ count) → number ≡ o.number → count ≤ number → Learns old old (λ V. IsHad V b o false)
+had-high old sound b o count number counts is high = record {
+  before = λ V m. m;
+  now = λ V m some h at. let l = low (tree_of V) o.number (node_of V h) (sound V m).tree (inode-node V o.number h at) in let c = counts V m in absurd (omega (arith, l, c, is, high));
+}
+
+pub had-free : (old new : View → Type 0) (b generation : ℕ) (o : Owner) (x : Inode) → Learns old new (λ V. IsInode V o.number x) → x ≡ Free generation → Learns old new (λ V. IsHad V b o false)
+had-free old new b generation o x l is = learns-as old new _ _ l (λ V m at some h here. absurd (cc (sym (at.1 ∙ ap (λ x. seen x at.0) is) ∙ here)))
+
+pub had-used : (old new : View → Type 0) (b : ℕ) (o : Owner) (x : Inode) (head : Head) (had : Bool) → Learns old new (λ V. IsInode V o.number x) → x ≡ Used head → had ≡ has_at head.blocks o.place b → length head.blocks ≡ DIRECT_BLOCKS → Learns old new (λ V. IsHad V b o had)
+had-used old new b o x head had l is had_is all = learns-as old new _ _ l (λ V m at. by V at had refl)
+  where
+    not-had : (V : View) → IsInode V o.number x → had ≡ false → b ≢ 0 → (h : Held) → V.inode o.number ≡ used h → h.blocks o.place ≢ b
+    not-had V at t some h here has = cases (cases_lt o.place DIRECT_BLOCKS)
+      where
+        same : held_of head at.0 ≡ h
+        same = let e : used (held_of head at.0) ≡ used h = sym (at.1 ∙ ap (λ x. seen x at.0) is) ∙ here in cc
+
+        in_head : get_or head.blocks o.place 0 ≡ b
+        in_head = ap (λ (h : Held). h.blocks o.place) same ∙ has
+
+        cases : (o.place < DIRECT_BLOCKS) ⊎ (DIRECT_BLOCKS ≤ o.place) → ⊥
+        cases (inl inside) = absurd (false≢true (sym t ∙ had_is ∙ and_from (nat_lt o.place DIRECT_BLOCKS) (get_or head.blocks o.place 0 == b) (lt-ltb o.place DIRECT_BLOCKS inside) (eq-eqb (get_or head.blocks o.place 0) b in_head)))
+        cases (inr past) = absurd (some (sym in_head ∙ get_or_past head.blocks o.place 0 (let a = all in omega (arith, a, past))))
+
+    by : (V : View) → IsInode V o.number x → (t : Bool) → had ≡ t → IsHad V b o t
+    by V at true t = tt
+    by V at false t = not-had V at t
+
+pub block-free : (old new : View → Type 0) (b begin count index : ℕ) (owner : Owner) (had : Bool) (o : Option ℕ) → Learns old new (λ V. (V.owner b ≡ owner) × IsHad V b owner had) → AreSound new
+    → ((V : View) → old V → V.first_data ≡ begin) → ((V : View) → old V → V.data_blocks ≡ count) → index ≡ b → begin ≤ index → index - begin < count → o ≡ if_nobodys b had → Learns old new (λ V. IsFreeBlock V o)
+block-free old new b begin count index owner had o l sound begins counts is from to o_is = learns-as old new _ _ l (λ V m k. subst (IsFreeBlock V) (sym o_is) (by V m had k))
+  where
+    free : (V : View) → new V → (V.owner b ≡ owner) × IsHad V b owner false → HasFreeBlock V b
+    free V m k = record {
+      from = (let x = begins V (l.before V m) in omega (arith, x, is, from));
+      to = (let x = begins V (l.before V m) in let y = counts V (l.before V m) in omega (arith, x, y, is, from, to));
+      unowned = record { not_at = λ h at. subst (λ (o : Owner). h.blocks o.place ≢ b) (sym k.0) (k.1 some h (ap (λ (o : Owner). V.inode o.number) (sym k.0) ∙ at)) };
+    }
+      where
+        some : b ≢ 0
+        some e = let x = begins V (l.before V m) in let n = (sound V m).no_data in absurd (omega (arith, e, x, n, is, from))
+
+    by : (V : View) → new V → (had : Bool) → (V.owner b ≡ owner) × IsHad V b owner had → IsFreeBlock V (if_nobodys b had)
+    by V m true k = tt
+    by V m false k = free V m k
+
+pub place-further : (old new : View → Type 0) (h : Head) (j b : ℕ) (o : Option ℕ) → Learns old new (λ V. IsFreeBlock V o) → o ≡ Some b → j ≡ h.size / 4096 → j < MOST_BLOCKS → length h.blocks ≡ DIRECT_BLOCKS
+    → Learns old new (λ V. IsPlaceFor V h (Some (Further (record { block = b; j = j }))))
+place-further old new h j b o l is next few all = learns-as old new _ _ l (λ V m k. record { few = few; next = next; all = all; is = subst (IsFreeBlock V) is k })
+
+-- ── room ──
+
+pub room-some : (first old new : View → Type 0) (h : Head) (o : Option FreeNumber) (f : FreeNumber) (p : Option NewPlace) (room : Option FreeRoom) → Learns first old (λ V. IsFreeNumber V o) → o ≡ Some f → Learns old new (λ V. IsPlaceFor V h p)
+    → room ≡ room_of f p → Learns first new (λ V. IsRoomFor V h room)
+room-some first old new h o f p room l is k room_is = learns-then first old new _ _ l k _ (λ V m number place. subst (IsRoomFor V h) (sym room_is) (by V (subst (IsFreeNumber V) is number) p place))
+  where
+    by : (V : View) → HasFreeNumber V f → (p : Option NewPlace) → IsPlaceFor V h p → IsRoomFor V h (room_of f p)
+    by V number None place = tt
+    by V number (Some p) place = record { number = number; place = place }
+
+pub room-fits : (o : Option FreeNumber) (f : FreeNumber) (p : Option NewPlace) (room : Option FreeRoom) → IsYoung o → o ≡ Some f → IsFitPlace p → room ≡ room_of f p → IsFitRoom room
+room-fits o f p room young is fits room_is = subst IsFitRoom (sym room_is) (by p fits)
+  where
+    by : (p : Option NewPlace) → IsFitPlace p → IsFitRoom (room_of f p)
+    by None fits = tt
+    by (Some p) fits = (subst IsYoung is young, fits)
 
 -- ── the writes ──
 
 pub with-new : (ws : List Write) (V : View) (d : ℕ) (r : Record) (f : FreeNumber) (p : FreePlace) (name : List ℕ) (node : NewNode) (now : Time) (v w db nb : List ℕ) (e : Entry) (head new : Head)
     → ws ≡ inode_write f.number nb ∷ inode_write d db ∷ block_write p.block w ∷ [] → V.block p.block ≡ v → w ≡ with_entry v p.at e → e ≡ record { number = f.number; tag = tag_of name }
-    → head ≡ moved r.head now → inode_seen db ≡ used (held_of head (name_from r.bytes)) → new ≡ new_head d f p node → inode_seen nb ≡ used (held_of new name) → written ws V ≡ with_new V d r f p name node now
+    → head ≡ moved r.head now → inode_seen db ≡ used (held_of head (name_from r.bytes)) → new ≡ new_head d f p.place node → inode_seen nb ≡ used (held_of new name) → written ws V ≡ with_new V d r f p name node now
 with-new ws V d r f p name node now v w db nb e head new is at put entry head_is shown new_is new_shown =
     ap (λ ws. written ws V) is
     ∙ (λ i. with_inode (with_inode (with_block V p.block (entries i)) d (moved_in i)) f.number (new_in i))
@@ -98,34 +178,48 @@ with-new ws V d r f p name node now v w db nb e head new is at put entry head_is
     moved_in : inode_seen db ≡ used (with_moment (held r) now)
     moved_in = shown ∙ ap (λ (x : Head). used (held_of x (name_from r.bytes))) head_is
 
-    new_in : inode_seen nb ≡ used (held_of (new_head d f p node) name)
+    new_in : inode_seen nb ≡ used (held_of (new_head d f p.place node) name)
     new_in = new_shown ∙ ap (λ (x : Head). used (held_of x name)) new_is
+
+pub with-new-block : (ws : List Write) (V : View) (d : ℕ) (r : Record) (f : FreeNumber) (b : FreeBlock) (name : List ℕ) (node : NewNode) (now : Time) (v w db nb ob : List ℕ) (e : Entry) (grown head new : Head)
+    → ws ≡ inode_write f.number nb ∷ inode_write d db ∷ owner_write b.block ob ∷ block_write b.block w ∷ [] → v ≡ zero_block → w ≡ with_entry v 0 e → e ≡ record { number = f.number; tag = tag_of name } → owner_from ob ≡ owner_of d b.j
+    → grown ≡ with_further r.head b.j b.block → head ≡ moved grown now → inode_seen db ≡ used (held_of head (name_from r.bytes)) → new ≡ new_head d f (512 * b.j) node → inode_seen nb ≡ used (held_of new name)
+    → written ws V ≡ with_new_block V d r f b name node now
+with-new-block ws V d r f b name node now v w db nb ob e grown head new is zeros put entry owner grown_is head_is shown new_is new_shown =
+    ap (λ ws. written ws V) is
+    ∙ (λ i. with_inode (with_inode (with_owner (with_block V b.block (entries i)) b.block (owner i)) d (moved_in i)) f.number (new_in i))
+  where
+    entries : w ≡ with_entry zero_block 0 (record { number = f.number; tag = tag_of name })
+    entries = put ∙ ap (λ v. with_entry v 0 e) zeros ∙ ap (with_entry zero_block 0) entry
+
+    moved_in : inode_seen db ≡ used (held_of (moved (with_further r.head b.j b.block) now) (name_from r.bytes))
+    moved_in = shown ∙ ap (λ (x : Head). used (held_of x (name_from r.bytes))) (head_is ∙ ap (λ (x : Head). moved x now) grown_is)
+
+    new_in : inode_seen nb ≡ used (held_of (new_head d f (512 * b.j) node) name)
+    new_in = new_shown ∙ ap (λ (x : Head). used (held_of x name)) new_is
+
+-- the time of a directory that grows is its own
+pub time-of-grown : (h grown : Head) (j b : ℕ) → grown ≡ with_further h j b → IsTime h.attributes.ctime → IsTime grown.attributes.ctime
+time-of-grown h grown j b is time = subst (λ (x : Head). IsTime x.attributes.ctime) (sym is) time
 
 -- ── from room to a node ──
 
-pub places-none : (first new : View → Type 0) (ws : List Write) (d : ℕ) (r : Record) (name : List ℕ) (node : NewNode) (f : FreeNumber) (now : Time) → ((V : View) → new V → first V) → ws ≡ [] → PlacesNode first new ws d r name node f now (Err NoSpace)
-places-none first new ws d r name node f now same none = record { same = same; is = λ time V m. no_place (ap (λ ws. written ws V) none) }
+pub plants-at : (old new : View → Type 0) (ws : List Write) (d : ℕ) (r : Record) (name : List ℕ) (node : NewNode) (f : FreeNumber) (place p : NewPlace) (now : Time) (made : Made) → place ≡ p → Plants old new ws d r name node f p now made
+    → Plants old new ws d r name node f place now made
+plants-at old new ws d r name node f place p now made is k = subst (λ p. Plants old new ws d r name node f p now made) (sym is) k
 
-pub places-some : (first old new : View → Type 0) (ws : List Write) (d : ℕ) (r : Record) (name : List ℕ) (node : NewNode) (f : FreeNumber) (p : FreePlace) (now : Time) (o : Option FreePlace) (made : Made)
-    → Learns first old (λ V. IsPlaceOf V r.head.blocks o) → o ≡ Some p → Plants old new ws d r name node f p now made → PlacesNode first new ws d r name node f now (Ok made)
-places-some first old new ws d r name node f p now o made l is plants = record {
+pub node-none : (first new : View → Type 0) (ws : List Write) (d : ℕ) (r : Record) (name : List ℕ) (node : NewNode) (now : Time) → ((V : View) → new V → first V) → ws ≡ [] → MakesNode first new ws d r name node now (Err NoSpace)
+node-none first new ws d r name node now same none = record { same = same; is = λ time V m. full (ap (λ ws. written ws V) none) }
+
+pub node-some : (first old new : View → Type 0) (ws : List Write) (d : ℕ) (r : Record) (name : List ℕ) (node : NewNode) (room : FreeRoom) (now : Time) (o : Option FreeRoom) (made : Made)
+    → Learns first old (λ V. IsRoomFor V r.head o) → o ≡ Some room → Plants old new ws d r name node room.number room.place now made → MakesNode first new ws d r name node now (Ok made)
+node-some first old new ws d r name node room now o made l is plants = record {
   same = λ V m. l.before V (plants.same V m);
-  is = λ time V m. placed p made (subst (IsPlaceOf V r.head.blocks) is (l.now V (plants.same V m))) (plants.written_is time V m) (plants.told time);
-}
-
-pub numbered-none : (first new : View → Type 0) (ws : List Write) (d : ℕ) (r : Record) (name : List ℕ) (node : NewNode) (now : Time) → ((V : View) → new V → first V) → ws ≡ [] → MakesNode first new ws d r name node now (Err NoSpace)
-numbered-none first new ws d r name node now same none = record { same = same; is = λ time V m. full (ap (λ ws. written ws V) none) }
-
-pub numbered-some : (first old new : View → Type 0) (ws : List Write) (d : ℕ) (r : Record) (name : List ℕ) (node : NewNode) (f : FreeNumber) (now : Time) (o : Option FreeNumber) (reply : Result Made Status)
-    → Learns first old (λ V. IsFreeNumber V o) → o ≡ Some f → PlacesNode old new ws d r name node f now reply → MakesNode first new ws d r name node now reply
-numbered-some first old new ws d r name node f now o reply l is places = record {
-  same = λ V m. l.before V (places.same V m);
-  is = λ time V m. by V (written ws V) reply (subst (IsFreeNumber V) is (l.now V (places.same V m))) (places.is time V m);
+  is = λ time V m. by time V m (subst (IsRoomFor V r.head) is (l.now V (plants.same V m)));
 }
   where
-    by : (V W : View) (reply : Result Made Status) → HasFreeNumber V f → IsPlacing V W d r name node f now reply → IsMakingNode V W d r name node now reply
-    by V W _ number (no_place stays) = full stays
-    by V W _ number (placed p made place view is) = makes made (record { number = f; place = p; is_free = number; is_place = place; view = view; is = is })
+    by : IsTime r.head.attributes.ctime → (V : View) → new V → HasRoomFor V r.head room → IsMakingNode V (written ws V) d r name node now (Ok made)
+    by time V m k = makes made (record { number = room.number; place = room.place; is_free = k.number; is_place = k.place; view = plants.written_is time V m; is = plants.told time })
 
 pub planned-kept : (may : View → Type 0) (ws : List Write) (d : ℕ) (r : Record) (name : List ℕ) (plan : Plan) (now : Time) (status : Status) → ws ≡ [] → plan.refusal ≡ Some status → MakesPlanned may may ws d r name plan now (Err status)
 planned-kept may ws d r name plan now status none is = record { same = λ V m. m; is = λ time V m. kept status is (ap (λ ws. written ws V) none) }
@@ -189,3 +283,16 @@ module _ (first old new : View → Type 0) (sound : AreSound new) (ws : List Wri
 
       pub create-ok : Does new ws (create h name (Guarded s)) c now (made_reply reply)
       create-ok = record { op = λ V m. create-op V m (written ws V) reply (making.is (ctime V m) V m); sound = λ V m. create-stays V m (written ws V) reply (making.is (ctime V m) V m) }
+
+-- ── either call ──
+
+module _ (first old new : View → Type 0) (sound : AreSound new) (ws : List Write) (h : Handle) (name : List ℕ) (c : Caller) (s : Settings) (now : Time) (found : Result Named Status)
+    (l : Learns first old (λ V. IsNameFor V c h name Exists Exists found)) where
+  pub make-err : (kind : Kind) (status : Status) → ws ≡ [] → found ≡ Err status → ((V : View) → new V → old V) → Does new ws (making_call kind h name s) c now (made_reply (Err status))
+  make-err Directory status none is same = mkdir-err first old new sound ws h name c s now found l status none is same
+  make-err File status none is same = create-err first old new sound ws h name c s now found l status none is same
+
+  pub make-ok : (kind : Kind) (n : Named) → found ≡ Ok n → IsAsked s → IsCaller c → IsTime now → (plan : Plan) (reply : Result Made Status) → Makes old new ws h.number n name plan now reply
+      → plan ≡ plan_for kind c s n.directory.head.attributes now → Does new ws (making_call kind h name s) c now (made_reply reply)
+  make-ok Directory n is asked caller time plan reply making planned = mkdir-ok first old new sound ws h name c s now found l n is asked caller time plan reply making planned
+  make-ok File n is asked caller time plan reply making planned = create-ok first old new sound ws h name c s now found l n is asked caller time plan reply making planned

@@ -9,38 +9,28 @@ use Rattle.journal_tree.specs.declared.reply.Kind.TheVariants.{Directory, File}
 use Rattle.journal_tree.specs.declared.caller.Caller.{Caller}
 use Rattle.journal_tree.specs.declared.status.Status.{Status}
 use Rattle.journal_tree.specs.declared.status.Status.TheVariants.{NoAccess, NoEntry, IsDirectory}
-use Rattle.journal_tree.specs.Times.{IsTime, time_of_names}
-use Rattle.journal_tree.specs.Trees.{Node, Tree, is_directory}
+use Rattle.journal_tree.specs.Times.{IsTime}
+use Rattle.journal_tree.specs.Trees.{Node, is_directory}
 use Rattle.journal_tree.specs.Rights.{may_rename, may_take}
-use Rattle.journal_tree.specs.Changes.{with_times, touched, cut}
-use Rattle.journal_tree.specs.Calls.{Outcome, refused, told, target, allowed}
+use Rattle.journal_tree.specs.Calls.{Outcome, refused, target, allowed}
 use Rattle.journal_tree.specs.Names.{removed, may_remove, remove_case}
 use Rattle.journal_tree.specs.Op.{Op}
 use Rattle.journal_tree.specs.Op.Call.{remove}
 use Rattle.journal_tree.specs.Op.Reply.{removed as removed_reply}
 use Rattle.journal_tree.specs.Op.Op.{answers_remove}
 use Rattle.journal_tree.specs.Fit.{IsCaller}
-use Rattle.journal_treestore.specs.declared.entry.Entry.{Entry}
 use Rattle.journal_treestore.specs.declared.inode.Head.{Head}
-use Rattle.journal_treestore.specs.Entries.{with_entry, no_entry}
-use Rattle.journal_treestore.specs.Views.{Held, View, with_inode, with_block, held_of, body_of, node_of, tree_of, entry_by}
-use Rattle.journal_treestore.specs.Views.Seen.{free, used}
+use Rattle.journal_treestore.specs.Entries.{no_entry}
+use Rattle.journal_treestore.specs.Views.{Held, View, held_of, body_of, node_of, tree_of, entry_by}
 use Rattle.journal_treestore.specs.Sound.{IsSoundView}
-use Rattle.journal_treestore.specs.Steps.{with_moment, Seat, IsSeat, cut_view, Shows}
-use Rattle.journal_treestore.proofs.Removing.{cutting-shows}
-use Rattle.journal_treestore.proofs.Keeping.{calls-stay-sound}
 use Rattle.journal_treecalls.specs.declared.search.Hit.{Hit}
 use Rattle.journal_treecalls.specs.declared.named.Named.{Named}
-use Rattle.journal_treecalls.specs.Targets.{held, told_of, IsHit, Hits}
-use Rattle.journal_treecalls.specs.Names.{IsNamed, IsUnnamed, is_directory_kind, removal_status, moved, changed_of, without_hit}
-use Rattle.journal_treecalls.proofs.Cases.{node-told}
-use Rattle.journal_treecalls.proofs.Searching.{entry-there}
+use Rattle.journal_treecalls.specs.Targets.{held, IsHit, Hits}
+use Rattle.journal_treecalls.specs.Names.{IsNamed, IsUnnamed, is_directory_kind, removal_status, changed_of, without_hit}
 use Rattle.journal_treecalls.proofs.ByName.{at-unnamed, at-missed, at-hit}
+use Rattle.journal_treecalls.proofs.Cutting.{cut-outcome, cut-sound}
 
 module _ (V : View) (h : Handle) (c : Caller) (name : List ℕ) (now : Time) where
-  abbrev T : Tree
-  T = tree_of V
-
   abbrev case : Outcome Changed
   case = remove_case c name now (tree_of V) (target (tree_of V) h)
 
@@ -103,53 +93,14 @@ module _ (V : View) (h : Handle) (c : Caller) (name : List ℕ) (now : Time) whe
         hits : IsHit V d.blocks name hit
         hits = subst (λ o. Hits V n.directory.head.blocks name o) here is.hits
 
-        abbrev seat : Seat
-        seat = record { d = h.number; h = held n.directory; j = hits.j; q = hits.is.inside.at; n = hit.number; g = held_of hit.head name }
-
         no_entries : (k : Kind) → k ≡ File → (place : ℕ) → entry_by V k (held_of hit.head name) place ≡ no_entry
         no_entries Directory is place = absurd (cc (is))
         no_entries File is place = refl
 
-        is_seat : IsSeat V seat
-        is_seat = record {
-          is = is.searched.node.is;
-          kind = is.searched.kind;
-          there = hits.is.there;
-          low = hits.is.inside.low;
-          names = ap (λ (e : Entry). e.number) (entry-there V h.number (held n.directory) hits.j hits.is.inside.at is.searched.node.is is.searched.kind hits.is.there hits.is.inside.low) ∙ hits.is.inside.is.entry;
-          some = hits.is.inside.is.some;
-          node = hits.is.inside.is.inode;
-          bare = no_entries hit.head.kind a_file;
-        }
+        module _ (W : View) (goes : W ≡ without_hit V h.number n.directory hit now) where
+          pub remove-done : Op (remove h name) c now (tree_of V) (removed_reply (Ok (changed_of h.number n.directory.head now))) (tree_of W)
+          remove-done = answers_remove h name c now (tree_of V) (tree_of W) (Ok (changed_of h.number n.directory.head now))
+              (cut-outcome V h name now n.directory hit sound is.searched.node is.searched.kind hits (no_entries hit.head.kind a_file) W goes ∙ sym is_removed)
 
-        -- the disk after it is what the step says
-        view : without_hit V h.number n.directory hit now ≡ cut_view V seat now
-        view =
-            ap (λ b. with_inode (with_inode (with_block V b (with_entry (V.block b) hit.at no_entry)) h.number (used (with_moment (held n.directory) now))) hit.number (free hit.head.generation)) hits.is.inside.is.block
-            ∙ ap (λ q. with_inode (with_inode (with_block V (seat.h.blocks seat.j) (with_entry (V.block (seat.h.blocks seat.j)) q no_entry)) h.number (used (with_moment (held n.directory) now))) hit.number (free hit.head.generation)) hits.is.inside.is.place
-
-        shows : Shows (cut_view V seat now) (cut (tree_of V) h.number hit.number now)
-        shows = cutting-shows V seat now sound is_seat
-
-        told-before : told h.number (node_of V (held n.directory)) ≡ told_of h.number d
-        told-before = node-told V h n.directory sound is.searched.node
-
-        told-after : told h.number (touched now (node_of V (held n.directory))) ≡ told_of h.number (moved d now)
-        told-after = λ i. record {
-          number = h.number;
-          kind = (told-before i).kind;
-          size = (told-before i).size;
-          attributes = with_times d.attributes (time_of_names d.attributes now);
-        }
-
-        pub remove-done : (W : View) → W ≡ without_hit V h.number n.directory hit now → Op (remove h name) c now (tree_of V) (removed_reply (Ok (changed_of h.number d now))) (tree_of W)
-        remove-done W w = subst (λ W. Op (remove h name) c now (tree_of V) (removed_reply (Ok (changed_of h.number d now))) (tree_of W)) (sym (w ∙ view))
-            (answers_remove h name c now (tree_of V) (tree_of (cut_view V seat now)) (Ok (changed_of h.number d now))
-            ((λ i. (Ok (record { before = (sym told-before) i; after = (sym told-after) i }), shows.tree i)) ∙ sym is_removed))
-
-        pub remove-sound : (W : View) → W ≡ without_hit V h.number n.directory hit now → IsCaller c → IsTime now → IsSoundView W
-        remove-sound W w caller time = subst IsSoundView (sym (w ∙ view))
-            (calls-stay-sound V (cut_view V seat now) (tree_of (cut_view V seat now)) (remove h name) c now (removed_reply (Ok (changed_of h.number d now))) tt caller time sound
-            (record { numbers = refl; first_data = refl; data_blocks = refl })
-            (remove-done (cut_view V seat now) (sym view))
-            (record { tree = refl; inodes = shows.inodes; hung = shows.hung }))
+          pub remove-sound : IsCaller c → IsTime now → IsSoundView W
+          remove-sound caller time = cut-sound V h name now n.directory hit sound is.searched.node is.searched.kind hits (no_entries hit.head.kind a_file) W goes (remove h name) c tt caller time remove-done

@@ -3,3 +3,7 @@ pub mod Targets
 pub mod Replies
 pub mod Names
 pub mod Rooms
+pub mod Directories
+pub mod Facts
+pub mod Refusals
+pub mod Sizes

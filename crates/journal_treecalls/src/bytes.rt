@@ -65,7 +65,7 @@ pub(crate) fn moved(directory: &Head, now: Time) -> Head
 }
 
 // The time, if it is one. A sound disk has no other.
-fn bounded(time: Time) -> Time
+pub(crate) fn bounded(time: Time) -> Time
     ensures fits { IsTime result }
     ensures same { IsTime time → result ≡ time }
 {

@@ -1,6 +1,6 @@
 // MKDIR, and CREATE of a name that must be free.
-ghost use Rattle.std.specs.Prelude.{◌≡◌, ◌<◌, ◌≤◌, [], length, IfOk};
-ghost use Rattle.journal_tree.specs.declared.limits.TheConstants.{LAST_GENERATION, MOST_NAME};
+ghost use Rattle.std.specs.Prelude.{◌≡◌, ◌<◌, ◌≤◌, ◌*◌, [], length, IfOk};
+ghost use Rattle.journal_tree.specs.declared.limits.TheConstants.{LAST_GENERATION, MOST_NAME, MOST_BLOCKS};
 ghost use Rattle.journal_tree.specs.declared.settings.CreateMode.TheVariants.{Guarded};
 ghost use Rattle.journal_tree.specs.Attributes.{is_no_time, is_too_big};
 ghost use Rattle.journal_tree.specs.Fit.{IsOptionalWord, IsAskedTime, IsAsked};
@@ -8,17 +8,19 @@ ghost use Rattle.journal_tree.specs.Times.{IsTime};
 ghost use Rattle.journal_tree.specs.Op.Call.{create as create_call, mkdir as mkdir_call};
 ghost use Rattle.journal_tree.specs.Op.Reply.{made};
 ghost use Rattle.journal_treecalls.specs.Disks.{Does};
-ghost use Rattle.journal_treecalls.specs.Rooms.{making_status, new_head, mkdir_plan, create_plan, Plants, PlacesNode, MakesNode, MakesPlanned, Makes};
+ghost use Rattle.journal_treecalls.specs.declared.room.NewPlace.TheVariants.{Here, Further};
+ghost use Rattle.journal_treecalls.specs.Rooms.{making_status, new_head, told_made, making_call, mkdir_plan, create_plan, plan_for, IsInsidePlace, Plants, MakesNode, MakesPlanned, Makes};
 
 use crate::TreeDisk;
 use crate::bytes::{moved, new_bytes, put_entry, used_bytes};
+use crate::growth::{owner_at, with_further};
 use crate::named::{Named, find_name};
 use crate::node::{Record, told};
 use crate::removal::are_words;
-use crate::room::{FreeNumber, FreePlace, find_number, find_place};
+use crate::room::{FreeBlock, FreeNumber, FreePlace, FreeRoom, NewPlace, Spare, find_room};
 use journal_tree::{
-    Attributes, Caller, Changed, DIRECTORY_MODE, FILE_MODE, Handle, Kind, MOST_BYTES, Made, NANOS,
-    NewTime, Settings, Status, Time,
+    Attributes, BLOCK_PLACES, Caller, Changed, DIRECTORY_MODE, FILE_MODE, Handle, Kind, MOST_BYTES,
+    Made, NANOS, NewTime, Settings, Status, Time,
 };
 use journal_treestore::{DIRECT_BLOCKS, Entry, Head, PLACES, tag_of};
 
@@ -30,6 +32,13 @@ pub(crate) struct NewNode {
     pub(crate) size: u64,
 }
 
+// Which kind of node is asked for, and with which attributes.
+#[derive(Clone, Copy)]
+struct Wanted {
+    kind: Kind,
+    settings: Settings,
+}
+
 // A node that is to be made, or the reason not to.
 #[derive(Clone, Copy)]
 pub(crate) struct Plan {
@@ -37,7 +46,8 @@ pub(crate) struct Plan {
     pub(crate) node: NewNode,
 }
 
-/// MKDIR (RFC 1813, 3.3.9): an empty directory, under the first of these numbers that is free.
+/// MKDIR (RFC 1813, 3.3.9): an empty directory, under the first of these numbers that is free. Where
+/// the directory above has no free place, it gets the first of these blocks that is free.
 ///
 /// # Errors
 /// - The call is given up.
@@ -52,40 +62,35 @@ pub(crate) struct Plan {
 /// - `Exists`: the directory has a node of the name.
 /// - `NoAccess`: the caller may not write the directory.
 /// - `Invalid`: the mtime that is asked for is none.
-/// - `NoSpace`: none of the numbers is free, or no block of the directory has a free place.
+/// - `NoSpace`: none of the numbers is free, or the directory has no free place and none of the
+///   blocks is free, or it has as many blocks as a directory may have.
 pub fn mkdir<T: TreeDisk>(
     disk: &mut T,
     caller: &Caller,
     directory: Handle,
     name: &[u8],
     settings: Settings,
-    numbers: &[u32],
+    spare: &Spare,
     now: Time,
 ) -> Result<Result<Made, Status>, T::Fault>
     requires first { T.writes disk.old ≡ [] }
     requires time { IsTime now }
     ensures { IfOk result (λ reply. Does (T.may_be disk.new) (T.writes disk.new) (mkdir_call directory name.now settings) caller.now now (made reply)) }
 {
-    are_words(*caller);
-    are_asked(settings);
-    match find_name(
+    let kind = Kind::Directory;
+    make(
         disk,
         caller,
         directory,
         name,
-        Status::Exists,
-        Status::Exists,
-    )? {
-        Ok(found) => {
-            let plan = mkdir_plan(caller, &settings, &found.directory.head.attributes, now);
-            make_found(disk, directory.number, &found, name, &plan, numbers, now)
-        }
-        Err(status) => Ok(Err(status)),
-    }
+        Wanted { kind, settings },
+        spare,
+        now,
+    )
 }
 
 /// CREATE in the mode GUARDED (RFC 1813, 3.3.8): a file of a name that the directory does not have,
-/// under the first of these numbers that is free.
+/// under the first of these numbers that is free. The directory gets a block as in `mkdir`.
 ///
 /// # Errors
 /// - The call is given up.
@@ -98,33 +103,54 @@ pub fn create_guarded<T: TreeDisk>(
     directory: Handle,
     name: &[u8],
     settings: Settings,
-    numbers: &[u32],
+    spare: &Spare,
     now: Time,
 ) -> Result<Result<Made, Status>, T::Fault>
     requires first { T.writes disk.old ≡ [] }
     requires time { IsTime now }
     ensures { IfOk result (λ reply. Does (T.may_be disk.new) (T.writes disk.new) (create_call directory name.now (Guarded settings)) caller.now now (made reply)) }
 {
-    are_words(*caller);
-    are_asked(settings);
-    match find_name(
+    let kind = Kind::File;
+    make(
         disk,
         caller,
         directory,
         name,
-        Status::Exists,
-        Status::Exists,
-    )? {
+        Wanted { kind, settings },
+        spare,
+        now,
+    )
+}
+
+// MKDIR, or CREATE in the mode GUARDED, by the kind.
+fn make<T: TreeDisk>(
+    disk: &mut T,
+    caller: &Caller,
+    directory: Handle,
+    name: &[u8],
+    wanted: Wanted,
+    spare: &Spare,
+    now: Time,
+) -> Result<Result<Made, Status>, T::Fault>
+    requires first { T.writes disk.old ≡ [] }
+    requires time { IsTime now }
+    ensures { IfOk result (λ reply. Does (T.may_be disk.new) (T.writes disk.new) (making_call wanted.kind directory name.now wanted.settings) caller.now now (made reply)) }
+{
+    are_words(*caller);
+    are_asked(wanted.settings);
+    let taken = Status::Exists;
+    match find_name(disk, caller, directory, name, taken, taken)? {
         Ok(found) => {
-            let plan = create_plan(caller, &settings, &found.directory.head.attributes, now);
-            make_found(disk, directory.number, &found, name, &plan, numbers, now)
+            let within = &found.directory.head.attributes;
+            let plan = plan_for(caller, wanted.kind, &wanted.settings, within, now);
+            make_found(disk, directory.number, &found, name, &plan, spare, now)
         }
         Err(status) => Ok(Err(status)),
     }
 }
 
 // Does nothing. Its contract says that the numbers of settings have 32 bits.
-fn are_asked(settings: Settings)
+pub(crate) fn are_asked(settings: Settings)
     ensures { IsAsked settings }
 {
     is_word(settings.owner);
@@ -151,7 +177,23 @@ fn is_asked_time(mtime: NewTime)
     }
 }
 
-// The directory that MKDIR makes within one of these attributes.
+// The node that is made within a directory of these attributes.
+fn plan_for(
+    caller: &Caller,
+    kind: Kind,
+    settings: &Settings,
+    within: &Attributes,
+    now: Time,
+) -> Plan
+    ensures { result ≡ plan_for kind caller.now settings.now within.now now }
+{
+    match kind {
+        Kind::Directory => mkdir_plan(caller, settings, within, now),
+        Kind::File => create_plan(caller, settings, within, now),
+    }
+}
+
+// The directory that MKDIR makes there.
 fn mkdir_plan(caller: &Caller, settings: &Settings, within: &Attributes, now: Time) -> Plan
     ensures { result ≡ mkdir_plan caller.now settings.now within.now now }
 {
@@ -201,7 +243,7 @@ fn making_status(
 }
 
 // True if a client asks for a time that no clock shows.
-fn is_no_time(mtime: NewTime) -> bool
+pub(crate) fn is_no_time(mtime: NewTime) -> bool
     ensures { result ≡ is_no_time mtime }
 {
     match mtime {
@@ -212,7 +254,7 @@ fn is_no_time(mtime: NewTime) -> bool
 }
 
 // True if no file has this size.
-fn is_too_big(size: Option<u64>) -> bool
+pub(crate) fn is_too_big(size: Option<u64>) -> bool
     ensures { result ≡ is_too_big size }
 {
     match size {
@@ -228,7 +270,7 @@ fn make_found<T: TreeDisk>(
     found: &Named,
     name: &[u8],
     plan: &Plan,
-    numbers: &[u32],
+    spare: &Spare,
     now: Time,
 ) -> Result<Result<Made, Status>, T::Fault>
     requires first { T.writes disk.old ≡ [] }
@@ -237,7 +279,7 @@ fn make_found<T: TreeDisk>(
     ensures { IfOk result (Makes (T.may_be disk.old) (T.may_be disk.new) (T.writes disk.new) number found.now name.now plan.now now) }
 {
     match found.hit {
-        None => make_planned(disk, number, &found.directory, name, plan, numbers, now),
+        None => make_planned(disk, number, &found.directory, name, plan, spare, now),
         Some(_hit) => Ok(Err(Status::Exists)),
     }
 }
@@ -249,7 +291,7 @@ fn make_planned<T: TreeDisk>(
     directory: &Record,
     name: &[u8],
     plan: &Plan,
-    numbers: &[u32],
+    spare: &Spare,
     now: Time,
 ) -> Result<Result<Made, Status>, T::Fault>
     requires first { T.writes disk.old ≡ [] }
@@ -258,19 +300,19 @@ fn make_planned<T: TreeDisk>(
     ensures { IfOk result (MakesPlanned (T.may_be disk.old) (T.may_be disk.new) (T.writes disk.new) number directory.now name.now plan.now now) }
 {
     match plan.refusal {
-        None => make_numbered(disk, number, directory, name, &plan.node, numbers, now),
+        None => make_node(disk, number, directory, name, &plan.node, spare, now),
         Some(status) => Ok(Err(status)),
     }
 }
 
-// A node is made if one of the numbers is free.
-fn make_numbered<T: TreeDisk>(
+// A node is made if there is room for it.
+fn make_node<T: TreeDisk>(
     disk: &mut T,
     number: u32,
     directory: &Record,
     name: &[u8],
     node: &NewNode,
-    numbers: &[u32],
+    spare: &Spare,
     now: Time,
 ) -> Result<Result<Made, Status>, T::Fault>
     requires first { T.writes disk.old ≡ [] }
@@ -278,39 +320,43 @@ fn make_numbered<T: TreeDisk>(
     requires named { length name.now ≤ MOST_NAME }
     ensures { IfOk result (MakesNode (T.may_be disk.old) (T.may_be disk.new) (T.writes disk.new) number directory.now name.now node.now now) }
 {
-    match find_number(disk, numbers)? {
+    match find_room(disk, &directory.head, spare)? {
         None => Ok(Err(Status::NoSpace)),
-        Some(free) => make_placed(disk, number, directory, name, node, free, now),
-    }
-}
-
-// A node is made under a number that is free, if the directory has a place.
-fn make_placed<T: TreeDisk>(
-    disk: &mut T,
-    number: u32,
-    directory: &Record,
-    name: &[u8],
-    node: &NewNode,
-    free: FreeNumber,
-    now: Time,
-) -> Result<Result<Made, Status>, T::Fault>
-    requires first { T.writes disk.old ≡ [] }
-    requires time { IsTime now }
-    requires named { length name.now ≤ MOST_NAME }
-    requires young { free.generation < LAST_GENERATION }
-    ensures { IfOk result (PlacesNode (T.may_be disk.old) (T.may_be disk.new) (T.writes disk.new) number directory.now name.now node.now free now) }
-{
-    match find_place(disk, &directory.head.blocks)? {
-        None => Ok(Err(Status::NoSpace)),
-        Some(place) => {
-            let made = plant(disk, number, directory, name, node, (free, place), now)?;
+        Some(room) => {
+            let made = put_node(disk, number, directory, name, node, room, now)?;
             Ok(Ok(made))
         }
     }
 }
 
-// A node is put into a directory: it has an entry, the directory has new times, and its inode is in
-// use.
+// A node is put into a directory, under a number that is free.
+fn put_node<T: TreeDisk>(
+    disk: &mut T,
+    number: u32,
+    directory: &Record,
+    name: &[u8],
+    node: &NewNode,
+    room: FreeRoom,
+    now: Time,
+) -> Result<Made, T::Fault>
+    requires first { T.writes disk.old ≡ [] }
+    requires time { IsTime now }
+    requires named { length name.now ≤ MOST_NAME }
+    requires young { room.number.generation < LAST_GENERATION }
+    requires inside { IsInsidePlace room.place }
+    ensures { IfOk result (Plants (T.may_be disk.old) (T.may_be disk.new) (T.writes disk.new) number directory.now name.now node.now room.number room.place now) }
+{
+    let free = room.number;
+    match room.place {
+        NewPlace::Here(place) => plant(disk, number, directory, name, node, (free, place), now),
+        NewPlace::Further(block) => {
+            plant_further(disk, number, directory, name, node, (free, block), now)
+        }
+    }
+}
+
+// A node is put at a place that the directory has: it has an entry, the directory has new times,
+// and its inode is in use.
 fn plant<T: TreeDisk>(
     disk: &mut T,
     number: u32,
@@ -325,7 +371,7 @@ fn plant<T: TreeDisk>(
     requires named { length name.now ≤ MOST_NAME }
     requires young { room.0.generation < LAST_GENERATION }
     requires inside { room.1.at < PLACES }
-    ensures { IfOk result (Plants (T.may_be disk.old) (T.may_be disk.new) (T.writes disk.new) number directory.now name.now node.now room.0 room.1 now) }
+    ensures { IfOk result (Plants (T.may_be disk.old) (T.may_be disk.new) (T.writes disk.new) number directory.now name.now node.now room.0 (Here room.1) now) }
 {
     let free = room.0;
     let place = room.1;
@@ -336,22 +382,61 @@ fn plant<T: TreeDisk>(
     let block = disk.block(place.block)?;
     let entries = put_entry(block, place.at, entry);
     let head = moved(&directory.head, now);
-    let new = new_head(number, free, place, node);
+    let new = new_head(number, free, place.place, node);
     disk.put_block(place.block, entries)?;
     disk.put_inode(number, used_bytes(head, directory))?;
     disk.put_inode(free.number, new_bytes(new, name))?;
-    Ok(Made {
-        generation: new.generation,
-        node: told(free.number, &new),
-        directory: Changed {
-            before: told(number, &directory.head),
-            after: told(number, &head),
-        },
-    })
+    Ok(told_made(number, &directory.head, &head, free.number, &new))
+}
+
+// A node is put at the first place of a block that the directory gets: the block has its entry
+// alone, the block's record names the directory, which has the block and new times, and the node's
+// inode is in use.
+fn plant_further<T: TreeDisk>(
+    disk: &mut T,
+    number: u32,
+    directory: &Record,
+    name: &[u8],
+    node: &NewNode,
+    room: (FreeNumber, FreeBlock),
+    now: Time,
+) -> Result<Made, T::Fault>
+    requires first { T.writes disk.old ≡ [] }
+    requires time { IsTime now }
+    requires named { length name.now ≤ MOST_NAME }
+    requires young { room.0.generation < LAST_GENERATION }
+    requires few { room.1.j < MOST_BLOCKS }
+    ensures { IfOk result (Plants (T.may_be disk.old) (T.may_be disk.new) (T.writes disk.new) number directory.now name.now node.now room.0 (Further room.1) now) }
+{
+    let free = room.0;
+    let further = room.1;
+    let entry = Entry {
+        number: free.number,
+        tag: tag_of(name),
+    };
+    let block = disk.zero_block()?;
+    let entries = put_entry(block, 0, entry);
+    let owner = owner_at(number, further.j);
+    let grown = with_further(&directory.head, further.j, further.block);
+    let head = moved(&grown, now);
+    let new = new_head(number, free, first_place(further.j), node);
+    disk.put_block(further.block, entries)?;
+    disk.put_owner(further.block, owner)?;
+    disk.put_inode(number, used_bytes(head, directory))?;
+    disk.put_inode(free.number, new_bytes(new, name))?;
+    Ok(told_made(number, &directory.head, &head, free.number, &new))
+}
+
+// The number of the first place of a directory's block.
+fn first_place(j: u64) -> u32
+    requires { j < MOST_BLOCKS }
+    ensures { result ≡ 512 * j }
+{
+    (BLOCK_PLACES * j) as u32
 }
 
 // The inode of a new node.
-fn new_head(directory: u32, free: FreeNumber, place: FreePlace, node: &NewNode) -> Head
+fn new_head(directory: u32, free: FreeNumber, place: u32, node: &NewNode) -> Head
     requires { free.generation < LAST_GENERATION }
     ensures { result ≡ new_head directory free place node.now }
 {
@@ -360,8 +445,22 @@ fn new_head(directory: u32, free: FreeNumber, place: FreePlace, node: &NewNode) 
         generation: free.generation + 1,
         attributes: node.attributes,
         directory,
-        place: place.place,
+        place,
         size: node.size,
         blocks: [0; DIRECT_BLOCKS],
+    }
+}
+
+// The reply: a node that was made, and its directory before and after.
+fn told_made(directory: u32, before: &Head, after: &Head, number: u32, new: &Head) -> Made
+    ensures { result ≡ told_made directory before.now after.now number new.now }
+{
+    Made {
+        generation: new.generation,
+        node: told(number, new),
+        directory: Changed {
+            before: told(directory, before),
+            after: told(directory, after),
+        },
     }
 }

@@ -1,7 +1,8 @@
 // The reads and writes of a call on a disk with a tree.
-ghost use Rattle.std.specs.Prelude.{ℕ, ◌≡◌, ◌<◌, List, [], ◌∷◌, IfOk, length};
+ghost use Rattle.std.specs.Prelude.{ℕ, ◌≡◌, ◌<◌, ◌≤◌, List, [], ◌∷◌, IfOk, length};
+ghost use Rattle.journal_treestore.specs.declared.place.TheConstants.{MOST_DISK_BLOCKS};
 ghost use Rattle.journal_treestore.specs.Owners.{owner_from};
-ghost use Rattle.journal_treestore.specs.Views.{View};
+ghost use Rattle.journal_treestore.specs.Views.{View, zero_block};
 ghost use Rattle.journal_treestore.specs.Sound.{IsSoundView};
 ghost use Rattle.journal_treecalls.specs.Disks.{Write, inode_seen, Learns};
 ghost use Rattle.journal_treecalls.specs.Disks.Write.{inode_write, owner_write, block_write};
@@ -29,6 +30,23 @@ pub trait TreeDisk {
     /// How many inodes there are.
     fn numbers(&self) -> u64
         ensures { (V : View) → may_be self.now V → V.numbers ≡ result };
+
+    /// The first block of data.
+    fn first_data(&self) -> u64
+        ensures { (V : View) → may_be self.now V → V.first_data ≡ result };
+
+    /// How many blocks of data there are.
+    fn data_blocks(&self) -> u64
+        ensures is { (V : View) → may_be self.now V → V.data_blocks ≡ result }
+        ensures few { result ≤ MOST_DISK_BLOCKS };
+
+    /// A block of zeros, in memory that is taken for it.
+    ///
+    /// # Errors
+    /// - The memory is refused.
+    fn zero_block(&self) -> Result<Value, Self::Fault>
+        ensures zeros { IfOk result (λ value. value ≡ zero_block) }
+        ensures whole { IfOk result (λ value. length value ≡ 4096) };
 
     /// The bytes of an inode.
     ///

@@ -12,18 +12,31 @@
 
 mod attributes;
 mod bytes;
+mod contents;
 mod creation;
+mod directories;
 mod disk;
+mod entries;
+mod facts;
+mod growth;
 mod lookups;
 mod name;
 mod named;
 mod node;
+mod refusals;
 mod removal;
 mod room;
 mod search;
+mod setting;
 
 pub use attributes::{AccessReply, access, getattr};
+pub use contents::commit;
 pub use creation::{create_guarded, mkdir};
+pub use directories::rmdir;
 pub use disk::TreeDisk;
+pub use facts::{FactsReply, NameFactsReply, fsinfo, fsstat, pathconf};
 pub use lookups::lookup;
+pub use refusals::{create_exclusive, mknod, readlink, symlink};
 pub use removal::remove;
+pub use room::Spare;
+pub use setting::setattr;

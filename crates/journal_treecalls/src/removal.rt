@@ -117,7 +117,7 @@ fn removal_status(caller: &Caller, directory: &Head, node: &Head) -> Option<Stat
 
 // A node is taken out of its directory: its entry goes, the directory has new times, and its inode
 // is free.
-fn take_out<T: TreeDisk>(
+pub(crate) fn take_out<T: TreeDisk>(
     disk: &mut T,
     number: u32,
     directory: &Record,

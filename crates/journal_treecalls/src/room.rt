@@ -1,12 +1,20 @@
 // Room for a new node: a number that is free, and a place in its directory.
 ghost use Rattle.std.specs.Prelude.{◌≡◌, ◌<◌, [], IfOk, length};
 ghost use Rattle.journal_treecalls.specs.Disks.{Learns};
-ghost use Rattle.journal_treecalls.specs.Rooms.{if_young, IsFreeNumber, IsYoung, IsEmptyIn, IsPlaceIn, IsPlaceOf, IsPlaceInside};
+ghost use Rattle.journal_treecalls.specs.Rooms.{if_young, IsFreeNumber, IsYoung, IsEmptyIn, IsPlaceIn, IsPlaceOf, IsPlaceInside, IsFreeBlock, if_nobodys, IsHad, has_at, room_of, IsPlaceFor, IsFitPlace, IsRoomFor, IsFitRoom};
 
 use crate::TreeDisk;
 use crate::node::inode_of;
-use journal_tree::LAST_GENERATION;
-use journal_treestore::{DIRECT_BLOCKS, Entry, Inode, PLACES};
+use journal_tree::{BLOCK_BYTES, LAST_GENERATION, MOST_BLOCKS};
+use journal_treestore::{DIRECT_BLOCKS, Entry, Head, Inode, Owner, PLACES};
+
+/// Numbers and blocks that may be free. A call takes the first that is, and looks at each: they are
+/// no more than hints.
+#[derive(Clone, Copy)]
+pub struct Spare<'a> {
+    pub numbers: &'a [u32],
+    pub blocks: &'a [u32],
+}
 
 // A number that is free, and the generation of its last node.
 #[derive(Clone, Copy)]
@@ -23,11 +31,64 @@ pub(crate) struct FreePlace {
     pub(crate) place: u32,
 }
 
-// The first of these numbers that is free.
-pub(crate) fn find_number<T: TreeDisk>(
+// A block that nobody has, and which of a directory's blocks it becomes.
+#[derive(Clone, Copy)]
+pub(crate) struct FreeBlock {
+    pub(crate) block: u32,
+    pub(crate) j: u64,
+}
+
+// Where a new node's entry is put: at a place that the directory has, or at the first one of a
+// further block.
+#[derive(Clone, Copy)]
+pub(crate) enum NewPlace {
+    Here(FreePlace),
+    Further(FreeBlock),
+}
+
+// A number and a place.
+#[derive(Clone, Copy)]
+pub(crate) struct FreeRoom {
+    pub(crate) number: FreeNumber,
+    pub(crate) place: NewPlace,
+}
+
+// Room for a new node of a directory.
+pub(crate) fn find_room<T: TreeDisk>(
     disk: &mut T,
-    numbers: &[u32],
-) -> Result<Option<FreeNumber>, T::Fault>
+    directory: &Head,
+    spare: &Spare,
+) -> Result<Option<FreeRoom>, T::Fault>
+    requires first { T.writes disk.old ≡ [] }
+    ensures learns { IfOk result (λ found. Learns (T.may_be disk.old) (T.may_be disk.new) (λ V. IsRoomFor V directory.now found)) }
+    ensures fits { IfOk result IsFitRoom }
+    ensures first { T.writes disk.new ≡ [] }
+{
+    let numbers = spare.numbers;
+    let blocks = spare.blocks;
+    match find_number(disk, numbers)? {
+        None => Ok(None),
+        Some(number) => {
+            let place = find_place(disk, directory, blocks)?;
+            Ok(room_of(number, place))
+        }
+    }
+}
+
+// The number and the place, if there is one.
+fn room_of(number: FreeNumber, place: Option<NewPlace>) -> Option<FreeRoom>
+    ensures { result ≡ room_of number place }
+{
+    match place {
+        None => None,
+        Some(place) => Some(FreeRoom { number, place }),
+    }
+}
+
+// ── a number ──
+
+// The first of these numbers that is free.
+fn find_number<T: TreeDisk>(disk: &mut T, numbers: &[u32]) -> Result<Option<FreeNumber>, T::Fault>
     requires first { T.writes disk.old ≡ [] }
     ensures learns { IfOk result (λ found. Learns (T.may_be disk.old) (T.may_be disk.new) (λ V. IsFreeNumber V found)) }
     ensures young { IfOk result IsYoung }
@@ -74,8 +135,27 @@ fn if_young(number: u32, generation: u32) -> Option<FreeNumber>
     }
 }
 
+// ── a place ──
+
+// A place for an entry of a directory. It gets a further block only where it has no place.
+fn find_place<T: TreeDisk>(
+    disk: &mut T,
+    directory: &Head,
+    blocks: &[u32],
+) -> Result<Option<NewPlace>, T::Fault>
+    requires first { T.writes disk.old ≡ [] }
+    ensures learns { IfOk result (λ found. Learns (T.may_be disk.old) (T.may_be disk.new) (λ V. IsPlaceFor V directory.now found)) }
+    ensures fits { IfOk result IsFitPlace }
+    ensures first { T.writes disk.new ≡ [] }
+{
+    match empty_place(disk, &directory.blocks)? {
+        Some(place) => Ok(Some(NewPlace::Here(place))),
+        None => further_place(disk, directory, blocks),
+    }
+}
+
 // The first place of a directory of these blocks that has no entry.
-pub(crate) fn find_place<T: TreeDisk>(
+fn empty_place<T: TreeDisk>(
     disk: &mut T,
     blocks: &[u32; DIRECT_BLOCKS],
 ) -> Result<Option<FreePlace>, T::Fault>
@@ -126,4 +206,103 @@ fn empty_in(block: &[u8]) -> Option<usize>
         }
     }
     None
+}
+
+// ── a block ──
+
+// The next block of a directory, if it may have one more.
+fn further_place<T: TreeDisk>(
+    disk: &mut T,
+    directory: &Head,
+    blocks: &[u32],
+) -> Result<Option<NewPlace>, T::Fault>
+    requires first { T.writes disk.old ≡ [] }
+    ensures learns { IfOk result (λ found. Learns (T.may_be disk.old) (T.may_be disk.new) (λ V. IsPlaceFor V directory.now found)) }
+    ensures fits { IfOk result IsFitPlace }
+    ensures first { T.writes disk.new ≡ [] }
+{
+    are_all(&directory.blocks);
+    let j = directory.size / BLOCK_BYTES;
+    if MOST_BLOCKS <= j {
+        return Ok(None);
+    }
+    match find_block(disk, blocks)? {
+        Some(block) => Ok(Some(NewPlace::Further(FreeBlock { block, j }))),
+        None => Ok(None),
+    }
+}
+
+// Does nothing. Its contract says how many numbers of blocks an inode has.
+fn are_all(blocks: &[u32; DIRECT_BLOCKS])
+    ensures { length blocks.now ≡ DIRECT_BLOCKS }
+{}
+
+// The first of these blocks that nobody has.
+fn find_block<T: TreeDisk>(disk: &mut T, blocks: &[u32]) -> Result<Option<u32>, T::Fault>
+    requires first { T.writes disk.old ≡ [] }
+    ensures learns { IfOk result (λ found. Learns (T.may_be disk.old) (T.may_be disk.new) (λ V. IsFreeBlock V found)) }
+    ensures first { T.writes disk.new ≡ [] }
+{
+    for block in blocks {
+        match free_block(disk, *block)? {
+            Some(free) => return Ok(Some(free)),
+            None => {}
+        }
+    }
+    Ok(None)
+}
+
+// The block, if it is one of data and nobody has it.
+fn free_block<T: TreeDisk>(disk: &mut T, block: u32) -> Result<Option<u32>, T::Fault>
+    requires first { T.writes disk.old ≡ [] }
+    ensures learns { IfOk result (λ found. Learns (T.may_be disk.old) (T.may_be disk.new) (λ V. IsFreeBlock V found)) }
+    ensures first { T.writes disk.new ≡ [] }
+{
+    let begin = disk.first_data();
+    let count = disk.data_blocks();
+    let index = u64::from(block);
+    if index < begin {
+        return Ok(None);
+    }
+    let after = index - begin;
+    if count <= after {
+        return Ok(None);
+    }
+    let bytes = disk.owner(block)?;
+    let owner = Owner::read(&bytes);
+    let had = is_had(disk, block, owner)?;
+    Ok(if_nobodys(block, had))
+}
+
+// The block, if nobody has it.
+fn if_nobodys(block: u32, had: bool) -> Option<u32>
+    ensures { result ≡ if_nobodys block had }
+{
+    if had { None } else { Some(block) }
+}
+
+// True if the inode that a block's record names has the block at the record's place.
+fn is_had<T: TreeDisk>(disk: &mut T, block: u32, owner: Owner) -> Result<bool, T::Fault>
+    requires first { T.writes disk.old ≡ [] }
+    ensures learns { IfOk result (λ had. Learns (T.may_be disk.old) (T.may_be disk.new) (λ V. IsHad V block owner had)) }
+    ensures first { T.writes disk.new ≡ [] }
+{
+    let count = disk.numbers();
+    let number = u64::from(owner.number);
+    if count <= number {
+        return Ok(false);
+    }
+    match inode_of(disk, owner.number)? {
+        Inode::Used(head) => Ok(has_at(&head.blocks, owner.place, block)),
+        Inode::Free(_) => Ok(false),
+    }
+}
+
+// True if these blocks have a block at a place.
+fn has_at(blocks: &[u32; DIRECT_BLOCKS], place: u32, block: u32) -> bool
+    ensures is { result ≡ has_at blocks.now place block }
+    ensures all { length blocks.now ≡ DIRECT_BLOCKS }
+{
+    let at = place as usize;
+    at < DIRECT_BLOCKS && blocks[at] == block
 }

@@ -45,6 +45,7 @@ pub hang : (H : ℕ → Option Home) (E : ℕ → ℕ → Entry) (n : ℕ) (home
 hang H E n home zero none some empty old = record {
   back = λ d place is. back d place is (cases_place home.directory home.place d place);
   hung = λ i h is other. hung i h is other (cases_eq i n);
+  blank = λ d place is. blank d place is (cases_place home.directory home.place d place);
 }
   where
     H2 : ℕ → Option Home
@@ -89,12 +90,28 @@ hang H E n home zero none some empty old = record {
             let e : i ≡ 0 = sym (ap (λ (e : Entry). e.number) at) ∙ ap (λ d. (E d h.place).number) a ∙ ap (λ p. (E home.directory p).number) b ∙ empty in
             absurd (cc (sym zero ∙ ap H (sym e) ∙ was))
 
+    blank : (d place : ℕ) → (with_place E home.directory home.place (entry_for n home) d place).number ≡ 0
+        → ((d ≡ home.directory) × (place ≡ home.place)) ⊎ ((d ≡ home.directory) → (place ≡ home.place) → ⊥)
+        → with_place E home.directory home.place (entry_for n home) d place ≡ no_entry
+    blank d place is (inl same) = absurd (some (sym (ap (λ (e : Entry). e.number) here) ∙ is))
+      where
+        here : with_place E home.directory home.place (entry_for n home) d place ≡ entry_for n home
+        here =
+            ap (λ a. with_place E home.directory home.place (entry_for n home) a place) same.0
+            ∙ ap (with_place E home.directory home.place (entry_for n home) home.directory) same.1
+            ∙ entry-same E home.directory home.place (entry_for n home)
+    blank d place is (inr apart) = stays ∙ old.blank d place (sym (ap (λ (e : Entry). e.number) stays) ∙ is)
+      where
+        stays : with_place E home.directory home.place (entry_for n home) d place ≡ E d place
+        stays = entry-other E home.directory home.place (entry_for n home) d place apart
+
 -- a node goes with its entry
 pub cut : (H : ℕ → Option Home) (E : ℕ → ℕ → Entry) (n : ℕ) (home : Home) → H n ≡ Some home → n ≢ ROOT
     → IsHung H E → IsHung (with_home H n None) (with_place E home.directory home.place no_entry)
 cut H E n home some below old = record {
   back = λ d place is. back d place is (cases_place home.directory home.place d place);
   hung = λ i h is other. hung i h is other (cases_eq i n);
+  blank = λ d place is. blank d place is (cases_place home.directory home.place d place);
 }
   where
     here : E home.directory home.place ≡ entry_for n home
@@ -135,3 +152,15 @@ cut H E n home some below old = record {
         full : h.directory ≡ home.directory → h.place ≡ home.place → ⊥
         full a b =
             apart (sym (ap (λ (e : Entry). e.number) at) ∙ ap (λ d. (E d h.place).number) a ∙ ap (λ p. (E home.directory p).number) b ∙ ap (λ (e : Entry). e.number) here)
+
+    blank : (d place : ℕ) → (with_place E home.directory home.place no_entry d place).number ≡ 0
+        → ((d ≡ home.directory) × (place ≡ home.place)) ⊎ ((d ≡ home.directory) → (place ≡ home.place) → ⊥)
+        → with_place E home.directory home.place no_entry d place ≡ no_entry
+    blank d place is (inl same) =
+        ap (λ a. with_place E home.directory home.place no_entry a place) same.0
+        ∙ ap (with_place E home.directory home.place no_entry home.directory) same.1
+        ∙ entry-same E home.directory home.place no_entry
+    blank d place is (inr apart) = stays ∙ old.blank d place (sym (ap (λ (e : Entry). e.number) stays) ∙ is)
+      where
+        stays : with_place E home.directory home.place no_entry d place ≡ E d place
+        stays = entry-other E home.directory home.place no_entry d place apart

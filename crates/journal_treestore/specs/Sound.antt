@@ -7,7 +7,7 @@ use Rattle.journal_tree.specs.Rule.{HasTree}
 use Rattle.journal_tree.specs.Fit.{HasFit}
 use Rattle.journal_treestore.specs.declared.entry.Entry.{Entry}
 use Rattle.journal_treestore.specs.declared.place.TheConstants.{MOST_DISK_BLOCKS, MOST_NUMBERS}
-use Rattle.journal_treestore.specs.Entries.{tag_of}
+use Rattle.journal_treestore.specs.Entries.{no_entry, tag_of}
 use Rattle.journal_treestore.specs.Views.{Held, View, tree_of, entry_at, homes}
 use Rattle.journal_treestore.specs.Views.Seen.{used}
 
@@ -23,10 +23,11 @@ pub record IsEntryOf (H : ℕ → Option Home) (d place : ℕ) (e : Entry) : Typ
   pub place_is : home.place ≡ place
   pub tag : e.tag ≡ tag_of home.name
 
--- Entries and homes point at each other
+-- Entries and homes point at each other, and where there is no entry its bytes are zero
 pub record IsHung (H : ℕ → Option Home) (E : ℕ → ℕ → Entry) : Type 0 where
   pub back : (d place : ℕ) → (E d place).number ≢ 0 → IsEntryOf H d place (E d place)
   pub hung : (n : ℕ) (home : Home) → H n ≡ Some home → n ≢ ROOT → E home.directory home.place ≡ entry_for n home
+  pub blank : (d place : ℕ) → (E d place).number ≡ 0 → E d place ≡ no_entry
 
 -- The rule of an inode alone: each of its blocks is a block of data, whose record says
 -- that this inode has it there; none lies after its size; and a directory has whole blocks

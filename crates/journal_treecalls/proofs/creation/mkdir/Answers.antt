@@ -1,15 +1,4 @@
-use Rattle.std.proofs.Common.{subst}
-use Rattle.journal_treecalls.specs.Names.{HasKind}
-use Rattle.journal_treecalls.proofs.Learned.{IfOk-like}
-use Rattle.journal_treecalls.proofs.Made.{mkdir-err, mkdir-ok}
-use Rattle.journal_treecalls.proofs.Naming.{name-short}
 use Rattle.journal_treecalls.proofs.creation.mkdir.Goals as goal
 
-pub returns-in-Ok : goal.returns-in-Ok
-returns-in-Ok g c = IfOk-like c.make_found.result _ _ (λ reply k. mkdir-ok _ _ _ (g.T.TreeDisk.are_sound c.make_found.new.disk) _ c.args.directory c.args.name.now c.args.caller.now c.args.settings c.args.now _ c.in_ok-found.ensures.learns c.in-Ok.found c.in-Ok.is c.are_asked.ensures c.are_words.ensures c.requires.time c.mkdir_plan-plan.result reply k c.mkdir_plan-plan.ensures) c.make_found.ensures
-
-pub returns-in-Err : goal.returns-in-Err
-returns-in-Err g c = mkdir-err _ _ _ (g.T.TreeDisk.are_sound c.find_name.new.disk) _ c.args.directory c.args.name.now c.args.caller.now c.args.settings c.args.now _ c.in_ok-found.ensures.learns c.in-Err.status c.in_ok-found.ensures.first c.in-Err.is (λ V m. m)
-
-pub make_found-requires-clause-named : goal.make_found-requires-clause-named
-make_found-requires-clause-named g c = name-short c.args.name.now (subst (HasKind c.args.name.now) c.in-Ok.is c.in_ok-found.ensures.named)
+pub returns : goal.returns
+returns g c = c.make.ensures

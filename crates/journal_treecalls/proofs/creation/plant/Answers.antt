@@ -1,6 +1,5 @@
-use Rattle.std.proofs.Common.{ap, ◌∙◌}
-use Rattle.journal_treestore.specs.declared.inode.Head.{Head}
-use Rattle.journal_treecalls.specs.Targets.{told_of}
+use Rattle.std.proofs.Common.{◌∙◌}
+use Rattle.journal_treecalls.specs.Rooms.{told_made}
 use Rattle.journal_treecalls.proofs.Learning.{writes-three}
 use Rattle.journal_treecalls.proofs.Made.{with-new}
 use Rattle.journal_treecalls.proofs.creation.plant.Goals as goal
@@ -12,9 +11,5 @@ returns g c =
       written_is = λ time V m. with-new _ V c.args.number c.args.directory.now c.args.room.0 c.args.room.1 c.args.name.now c.args.node.now c.args.now c.in_ok-block.block c.put_entry-entries.result _ _ _ c.moved-head.result c.new_head-new.result
           (writes-three _ _ _ _ _ _ _ c.in_ok-put_block.ensures.written c.in_ok-put_inode.ensures.written c.in_ok-put_inode-2.ensures.written c.in_ok-block.ensures.first)
           (c.in_ok-block.ensures.learns.now V (c.in_ok-put_block.ensures.same V (c.in_ok-put_inode.ensures.same V (c.in_ok-put_inode-2.ensures.same V m)))) c.put_entry-entries.ensures.written (λ i. record { number = c.args.room.0.number; tag = c.tag_of.ensures i }) (c.moved-head.ensures time) c.used_bytes.ensures c.new_head-new.ensures c.new_bytes.ensures;
-      told = λ time i. record {
-        generation = ap (λ (h : Head). h.generation) c.new_head-new.ensures i;
-        node = (c.told.ensures ∙ ap (told_of c.args.room.0.number) c.new_head-new.ensures) i;
-        directory = record { before = c.told-2.ensures i; after = (c.told-3.ensures ∙ ap (told_of c.args.number) (c.moved-head.ensures time)) i };
-      };
+      told = λ time. c.told_made.ensures ∙ (λ i. told_made c.args.number c.args.directory.now.head (c.moved-head.ensures time i) c.args.room.0.number (c.new_head-new.ensures i));
     }

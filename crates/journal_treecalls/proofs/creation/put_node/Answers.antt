@@ -1,0 +1,17 @@
+use Rattle.std.proofs.Common.{subst}
+use Rattle.journal_treecalls.specs.Rooms.{IsInsidePlace}
+use Rattle.journal_treecalls.proofs.Learned.{IfOk-like}
+use Rattle.journal_treecalls.proofs.Made.{plants-at}
+use Rattle.journal_treecalls.proofs.creation.put_node.Goals as goal
+
+pub plant-requires-clause-inside : goal.plant-requires-clause-inside
+plant-requires-clause-inside g c = subst IsInsidePlace c.in-Here.is c.requires.inside
+
+pub plant_further-requires-clause-few : goal.plant_further-requires-clause-few
+plant_further-requires-clause-few g c = subst IsInsidePlace c.in-Further.is c.requires.inside
+
+pub returns-in-Here : goal.returns-in-Here
+returns-in-Here g c = IfOk-like c.plant.result _ _ (λ made k. plants-at _ _ _ c.args.number c.args.directory.now c.args.name.now c.args.node.now c.args.room.number c.args.room.place _ c.args.now made c.in-Here.is k) c.plant.ensures
+
+pub returns-in-Further : goal.returns-in-Further
+returns-in-Further g c = IfOk-like c.plant_further.result _ _ (λ made k. plants-at _ _ _ c.args.number c.args.directory.now c.args.name.now c.args.node.now c.args.room.number c.args.room.place _ c.args.now made c.in-Further.is k) c.plant_further.ensures

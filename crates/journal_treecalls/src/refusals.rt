@@ -1,0 +1,126 @@
+// Calls that the tree does not have: they are refused after their checks.
+ghost use Rattle.std.specs.Prelude.{◌≡◌, [], IfOk, Err};
+ghost use Rattle.journal_tree.specs.declared.time.Time.{Time};
+ghost use Rattle.journal_tree.specs.declared.caller.Caller.{Caller};
+ghost use Rattle.journal_tree.specs.declared.settings.CreateMode.TheVariants.{Exclusive};
+ghost use Rattle.journal_tree.specs.Op.Call.{readlink as readlink_call, create as create_call, symlink as symlink_call, mknod as mknod_call};
+ghost use Rattle.journal_tree.specs.Op.Reply.{made, not_done};
+ghost use Rattle.journal_treecalls.specs.Disks.{Learns, Does};
+ghost use Rattle.journal_treecalls.specs.Refusals.{status_of_making, IsRefused};
+
+use crate::TreeDisk;
+use crate::named::{Named, find_name};
+use crate::node::node;
+use journal_tree::{Caller, Handle, Status};
+
+/// READLINK (RFC 1813, 3.3.5): no node is a symbolic link.
+///
+/// # Errors
+/// - The call is given up.
+///
+/// The answers. The first that holds:
+/// - `Stale`: the handle's node was removed.
+/// - `NotSupported`.
+pub fn readlink<T: TreeDisk>(disk: &mut T, handle: Handle) -> Result<Status, T::Fault>
+    requires first { T.writes disk.old ≡ [] }
+    ensures { IfOk result (λ status. (caller : Caller) (now : Time) → Does (T.may_be disk.new) (T.writes disk.new) (readlink_call handle) caller now (not_done (Err status))) }
+{
+    match node(disk, handle)? {
+        None => Ok(Status::Stale),
+        Some(_target) => Ok(Status::NotSupported),
+    }
+}
+
+/// CREATE in the mode EXCLUSIVE (RFC 1813, 3.3.8).
+///
+/// # Errors
+/// - The call is given up.
+///
+/// The answers. The first that holds:
+/// - `Stale`: the handle's node was removed.
+/// - `NotDirectory`: the handle is a file's.
+/// - `NoAccess`: the caller may not search the directory.
+/// - `Exists`: the name is `.` or `..`.
+/// - `Invalid`: the name is empty, or has a byte 0 or `/`.
+/// - `NameTooLong`: the name has more than 255 bytes.
+/// - `Exists`: the directory has a node of the name.
+/// - `NoAccess`: the caller may not write the directory.
+/// - `NotSupported`.
+pub fn create_exclusive<T: TreeDisk>(
+    disk: &mut T,
+    caller: &Caller,
+    directory: Handle,
+    name: &[u8],
+) -> Result<Status, T::Fault>
+    requires first { T.writes disk.old ≡ [] }
+    ensures { IfOk result (λ status. (now : Time) → Does (T.may_be disk.new) (T.writes disk.new) (create_call directory name.now Exclusive) caller.now now (made (Err status))) }
+{
+    refuse_making(disk, caller, directory, name)
+}
+
+/// SYMLINK (RFC 1813, 3.3.10). Its answers are those of `create_exclusive`.
+///
+/// # Errors
+/// - The call is given up.
+pub fn symlink<T: TreeDisk>(
+    disk: &mut T,
+    caller: &Caller,
+    directory: Handle,
+    name: &[u8],
+) -> Result<Status, T::Fault>
+    requires first { T.writes disk.old ≡ [] }
+    ensures { IfOk result (λ status. (now : Time) → Does (T.may_be disk.new) (T.writes disk.new) (symlink_call directory name.now) caller.now now (not_done (Err status))) }
+{
+    refuse_making(disk, caller, directory, name)
+}
+
+/// MKNOD (RFC 1813, 3.3.11). Its answers are those of `create_exclusive`.
+///
+/// # Errors
+/// - The call is given up.
+pub fn mknod<T: TreeDisk>(
+    disk: &mut T,
+    caller: &Caller,
+    directory: Handle,
+    name: &[u8],
+) -> Result<Status, T::Fault>
+    requires first { T.writes disk.old ≡ [] }
+    ensures { IfOk result (λ status. (now : Time) → Does (T.may_be disk.new) (T.writes disk.new) (mknod_call directory name.now) caller.now now (not_done (Err status))) }
+{
+    refuse_making(disk, caller, directory, name)
+}
+
+// The reason not to make a node of a name, where none of its kind is made.
+fn refuse_making<T: TreeDisk>(
+    disk: &mut T,
+    caller: &Caller,
+    directory: Handle,
+    name: &[u8],
+) -> Result<Status, T::Fault>
+    requires first { T.writes disk.old ≡ [] }
+    ensures learns { IfOk result (λ status. Learns (T.may_be disk.old) (T.may_be disk.new) (λ V. IsRefused V caller.now directory name.now status)) }
+    ensures first { T.writes disk.new ≡ [] }
+{
+    let taken = Status::Exists;
+    match find_name(disk, caller, directory, name, taken, taken)? {
+        Ok(found) => Ok(status_of_making(caller, &found)),
+        Err(status) => Ok(status),
+    }
+}
+
+// The same of a name that was looked for.
+fn status_of_making(caller: &Caller, found: &Named) -> Status
+    ensures { result ≡ status_of_making caller.now found.now }
+{
+    let may = caller.may_rename(&found.directory.head.attributes);
+    match found.hit {
+        Some(_hit) => Status::Exists,
+        None => {
+            if may {
+                Status::NotSupported
+            } else {
+                Status::NoAccess
+            }
+        }
+    }
+}

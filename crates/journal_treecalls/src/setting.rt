@@ -1,0 +1,299 @@
+// SETATTR.
+ghost use Rattle.std.specs.Prelude.{◌≡◌, ◌<◌, ◌≤◌, [], IfOk, length};
+ghost use Rattle.journal_tree.specs.Attributes.{is_other_time};
+ghost use Rattle.journal_tree.specs.Times.{IsTime};
+ghost use Rattle.journal_tree.specs.Op.Call.{setattr as setattr_call};
+ghost use Rattle.journal_tree.specs.Op.Reply.{set};
+ghost use Rattle.journal_treecalls.specs.Disks.{Does};
+ghost use Rattle.journal_treecalls.specs.Names.{is_directory_kind};
+ghost use Rattle.journal_treecalls.specs.Sizes.{setting_status, cut_one, IsCutAt, IsSetHead, tail_of, cleared, changed_told, PutsPlain, PutsCleared, SetsHead, SetsAllowed, SetsNode};
+
+use crate::TreeDisk;
+use crate::bytes::{bounded, used_bytes};
+use crate::creation::{are_asked, is_no_time, is_too_big};
+use crate::node::{Record, node, told};
+use crate::removal::are_words;
+use journal_tree::{
+    Attributes, BLOCK_BYTES, Caller, Changed, Handle, Kind, Settings, Status, Time,
+};
+use journal_treestore::{DIRECT_BLOCKS, Head};
+use journal_world::Value;
+
+// The last block of a file, and where the bytes begin in it that the file does not have.
+#[derive(Clone, Copy)]
+pub(crate) struct Tail {
+    pub(crate) block: u32,
+    pub(crate) from: usize,
+}
+
+/// SETATTR (RFC 1813, 3.3.2): attributes of a node are set, and the size of a file. At most two
+/// objects are written, whatever the size: blocks after it are nobody's then.
+///
+/// # Errors
+/// - The call is given up.
+///
+/// The other answers. The first that holds:
+/// - `Stale`: the handle's node was removed.
+/// - `Invalid`: a size is asked for, and the node is a directory.
+/// - `Invalid`: the mtime that is asked for is none.
+/// - `NotOwner`: the caller may not set what he asks for.
+/// - `NoAccess`: a size, or the time of the call as mtime, is asked for, and the caller may not
+///   write the node.
+/// - `NotSync`: the guard is another time than the node's ctime.
+/// - `TooBig`: no file has as many bytes.
+pub fn setattr<T: TreeDisk>(
+    disk: &mut T,
+    caller: &Caller,
+    handle: Handle,
+    settings: Settings,
+    guard: Option<Time>,
+    now: Time,
+) -> Result<Result<Changed, Status>, T::Fault>
+    requires first { T.writes disk.old ≡ [] }
+    requires time { IsTime now }
+    ensures { IfOk result (λ reply. Does (T.may_be disk.new) (T.writes disk.new) (setattr_call handle settings guard) caller.now now (set reply)) }
+{
+    are_words(*caller);
+    are_asked(settings);
+    match node(disk, handle)? {
+        None => Ok(Err(Status::Stale)),
+        Some(target) => set_node(disk, caller, handle.number, &target, &settings, guard, now),
+    }
+}
+
+// SETATTR of the node of an inode.
+fn set_node<T: TreeDisk>(
+    disk: &mut T,
+    caller: &Caller,
+    number: u32,
+    target: &Record,
+    settings: &Settings,
+    guard: Option<Time>,
+    now: Time,
+) -> Result<Result<Changed, Status>, T::Fault>
+    requires first { T.writes disk.old ≡ [] }
+    requires time { IsTime now }
+    ensures { IfOk result (SetsNode (T.may_be disk.old) (T.may_be disk.new) (T.writes disk.new) caller.now settings.now guard now number target.now) }
+{
+    match setting_status(caller, settings, guard, &target.head) {
+        Some(status) => Ok(Err(status)),
+        None => {
+            let changed = set_allowed(disk, caller, number, target, settings, now)?;
+            Ok(Ok(changed))
+        }
+    }
+}
+
+// The reason not to set this of a node, if there is one.
+fn setting_status(
+    caller: &Caller,
+    settings: &Settings,
+    guard: Option<Time>,
+    head: &Head,
+) -> Option<Status>
+    ensures { result ≡ setting_status caller.now settings.now guard head.now }
+{
+    if settings.size.is_some() && is_directory_kind(head.kind) {
+        return Some(Status::Invalid);
+    }
+    if is_no_time(settings.mtime) {
+        return Some(Status::Invalid);
+    }
+    if !caller.may_set(settings, &head.attributes) {
+        return Some(Status::NotOwner);
+    }
+    if !caller.may_set_bytes(settings, &head.attributes) {
+        return Some(Status::NoAccess);
+    }
+    if is_other_time(guard, head.attributes.ctime) {
+        return Some(Status::NotSync);
+    }
+    if is_too_big(settings.size) {
+        return Some(Status::TooBig);
+    }
+    None
+}
+
+fn is_directory_kind(kind: Kind) -> bool
+    ensures { result ≡ is_directory_kind kind }
+{
+    match kind {
+        Kind::Directory => true,
+        Kind::File => false,
+    }
+}
+
+// True if the guard is another time.
+fn is_other_time(guard: Option<Time>, ctime: Time) -> bool
+    ensures { result ≡ is_other_time guard ctime }
+{
+    match guard {
+        None => false,
+        Some(guard) => !(guard.secs == ctime.secs && guard.nanos == ctime.nanos),
+    }
+}
+
+// A node is set, where nothing is against it.
+fn set_allowed<T: TreeDisk>(
+    disk: &mut T,
+    caller: &Caller,
+    number: u32,
+    target: &Record,
+    settings: &Settings,
+    now: Time,
+) -> Result<Changed, T::Fault>
+    requires first { T.writes disk.old ≡ [] }
+    requires time { IsTime now }
+    ensures { IfOk result (SetsAllowed (T.may_be disk.old) (T.may_be disk.new) (T.writes disk.new) caller.now settings.now now number target.now) }
+{
+    if settings.asks_nothing() {
+        let same = told(number, &target.head);
+        return Ok(Changed {
+            before: same,
+            after: same,
+        });
+    }
+    let head = set_head(caller, settings, &target.head, now);
+    put_head(disk, number, target, &head)
+}
+
+// The fields of a node once this is set.
+fn set_head(caller: &Caller, settings: &Settings, head: &Head, now: Time) -> Head
+    requires { IsTime now }
+    ensures { IsSetHead caller.now settings.now now head.now result }
+{
+    let old = *head;
+    let last = Attributes {
+        ctime: bounded(old.attributes.ctime),
+        ..old.attributes
+    };
+    let size = settings.size.unwrap_or(old.size);
+    Head {
+        attributes: last.set(caller, settings, old.kind, now),
+        size,
+        blocks: cut_at(&old.blocks, size),
+        ..old
+    }
+}
+
+// The blocks of a file of this size, of these blocks.
+fn cut_at(blocks: &[u32; DIRECT_BLOCKS], size: u64) -> [u32; DIRECT_BLOCKS]
+    ensures { IsCutAt blocks.now size result }
+{
+    let mut kept = [0; DIRECT_BLOCKS];
+    for j in 0..DIRECT_BLOCKS {
+        kept[j] = cut_one(blocks[j], size, j);
+    }
+    kept
+}
+
+// Block j of such a file.
+fn cut_one(block: u32, size: u64, j: usize) -> u32
+    requires { j < DIRECT_BLOCKS }
+    ensures { result ≡ cut_one block size j }
+{
+    if size <= BLOCK_BYTES * j as u64 {
+        0
+    } else {
+        block
+    }
+}
+
+// The inode is written, and before it the last block, if there may be other bytes than zeros where
+// the file grows.
+fn put_head<T: TreeDisk>(
+    disk: &mut T,
+    number: u32,
+    target: &Record,
+    head: &Head,
+) -> Result<Changed, T::Fault>
+    requires first { T.writes disk.old ≡ [] }
+    ensures { IfOk result (SetsHead (T.may_be disk.old) (T.may_be disk.new) (T.writes disk.new) number target.now head.now) }
+{
+    match tail_of(&target.head, head.size) {
+        None => put_plain(disk, number, target, head),
+        Some(tail) => put_cleared(disk, number, target, head, tail),
+    }
+}
+
+// The block to clear before a file has this size. A block after the file's end is none.
+fn tail_of(head: &Head, size: u64) -> Option<Tail>
+    ensures { result ≡ tail_of head.now size }
+{
+    let j = (head.size / BLOCK_BYTES) as usize;
+    if size <= head.size {
+        return None;
+    }
+    if DIRECT_BLOCKS <= j {
+        return None;
+    }
+    let block = head.blocks[j];
+    if block == 0 {
+        return None;
+    }
+    let from = (head.size % BLOCK_BYTES) as usize;
+    Some(Tail { block, from })
+}
+
+// The inode alone is written.
+fn put_plain<T: TreeDisk>(
+    disk: &mut T,
+    number: u32,
+    target: &Record,
+    head: &Head,
+) -> Result<Changed, T::Fault>
+    requires first { T.writes disk.old ≡ [] }
+    ensures { IfOk result (PutsPlain (T.may_be disk.old) (T.may_be disk.new) (T.writes disk.new) number target.now head.now) }
+{
+    disk.put_inode(number, used_bytes(*head, target))?;
+    Ok(changed(number, &target.head, head))
+}
+
+// The last block is cleared, and the inode is written.
+fn put_cleared<T: TreeDisk>(
+    disk: &mut T,
+    number: u32,
+    target: &Record,
+    head: &Head,
+    tail: Tail,
+) -> Result<Changed, T::Fault>
+    requires first { T.writes disk.old ≡ [] }
+    requires inside { tail.from ≤ 4096 }
+    ensures { IfOk result (PutsCleared (T.may_be disk.old) (T.may_be disk.new) (T.writes disk.new) number target.now head.now tail) }
+{
+    let block = disk.block(tail.block)?;
+    let cleared = clear_from(block, tail.from);
+    disk.put_block(tail.block, cleared)?;
+    disk.put_inode(number, used_bytes(*head, target))?;
+    Ok(changed(number, &target.head, head))
+}
+
+// A node before and after.
+fn changed(number: u32, before: &Head, after: &Head) -> Changed
+    ensures { result ≡ changed_told number before.now after.now }
+{
+    Changed {
+        before: told(number, before),
+        after: told(number, after),
+    }
+}
+
+// The block, with zeros from a place on.
+fn clear_from(block: Value, from: usize) -> Value
+    requires whole { length block ≡ 4096 }
+    requires inside { from ≤ 4096 }
+    ensures is { result ≡ cleared block from }
+    ensures whole { length result ≡ 4096 }
+{
+    let mut bytes = block.into_bytes();
+    cut_off(&mut bytes, from);
+    Value::new(bytes)
+}
+
+// Makes bytes zero, from a place on.
+fn cut_off(bytes: &mut Vec<u8>, from: usize)
+    requires { from ≤ length bytes.old.items }
+    ensures { bytes.new.items ≡ cleared bytes.old.items from }
+{
+    bytes[from..].fill(0);
+}
