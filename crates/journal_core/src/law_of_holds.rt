@@ -18,9 +18,11 @@ use journal_world::MapRule;
 /// The law of the holds of threads. The events are transactions of any actors, and the holds of two
 /// locks that threads make for them: a hold of memory alone, of the disk alone with at most one
 /// device call that changes the disk, or of both. A hold makes one event, or two, one right after
-/// the other: it reads, scans, or commits what was fetched, and then notes which copies were used.
-/// Crashes at any moment of any call, and openings, come between them in any order. The disk is
-/// honest and is opened by one layout.
+/// the other: it reads, scans, or commits what was fetched, and then notes which copies were used,
+/// or it refuses a wait that a stop or a fault ends, and then shows the history. A hold of the disk
+/// may have holds of memory within it, and events of other threads between these. Crashes at any
+/// moment of any call, and openings, come between them in any order. The disk is honest and is
+/// opened by one layout.
 ///
 /// The answers are those of one history, as `every_interleaving` says of the steps of one thread.
 /// If a wait succeeds, the history has as many marked commits as were waited for. An image of the

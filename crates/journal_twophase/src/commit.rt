@@ -21,7 +21,7 @@ impl<'j, 'b, D: BlockDisk, R: MapRule, J: Naming> Txn<'j, 'b, D, R, J> {
     ///
     /// # Errors
     /// The first that applies is answered, and of the last two the one that occurs. The history
-    /// then lacks the transaction.
+    /// then lacks the transaction: tests count that, and no clause says it.
     /// - `J13 Closed`: the journal was stopped.
     /// - `J6 DeviceFailed`: the device failed before.
     /// - `J9 Stale`: the history is longer than the core's.
@@ -65,7 +65,8 @@ impl<'j, 'b, D: BlockDisk, R: MapRule, J: Naming> Txn<'j, 'b, D, R, J> {
     /// Commits the transaction as `commit` does, and waits for no room.
     ///
     /// # Errors
-    /// Those of `commit`. The history then lacks the transaction.
+    /// Those of `commit`. The history then lacks the transaction: tests count that, and no clause
+    /// says it.
     /// - `J12 Full`, after J11: the log's tail has no room for the blocks that are not in it.
     pub fn try_commit<W: Wait>(
         self,

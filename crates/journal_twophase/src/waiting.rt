@@ -25,7 +25,7 @@ const LONGEST_SLEEP: u64 = 3600;
 /// Why a commit that has to be stable has no note of it.
 #[derive(Debug, Drop)]
 pub enum WaitFault<P, C> {
-    /// The transaction was refused, and the history lacks it.
+    /// The transaction was refused, and the history lacks it, as tests count.
     Refused(Refusal<C>),
     /// It was committed: the history has it at this place. But the wait was refused, so it is not
     /// known to be stable: after a crash it may be there or not.
@@ -222,7 +222,8 @@ impl<'j, 'b, D: BlockDisk, R: MapRule, J: Naming> Txn<'j, 'b, D, R, J> {
     /// The session has seen the mark, and is exact.
     ///
     /// # Errors
-    /// - `Refused`: `commit` refuses it, for the same reasons. The history then lacks it.
+    /// - `Refused`: `commit` refuses it, for the same reasons. The history then lacks it, as tests
+    ///   count.
     /// - `Unsure`: it is in the history, by the receipt, but the wait is refused. The session is
     ///   exact. The reason is one of the next four.
     /// - `J9 Stale`: the history is longer than the core's.
