@@ -175,9 +175,9 @@ int jnl_write(jnl_txn *, jnl_addr, const void *bytes, size_t size);
  * JNL_CONFLICT: the transaction has read another value. Refused as jnl_write is. */
 int jnl_expect(jnl_txn *, jnl_addr, const void *bytes, size_t size);
 
-/* The object of which a call over this connection has answered JNL_BAD_ADDRESS or JNL_BAD_SIZE last,
- * as one of the many of jnl_read_many. Block 0, where a port has refused it, which does not say which
- * it is. */
+/* The object of which a call over this connection has answered JNL_BAD_ADDRESS or JNL_BAD_SIZE
+ * last, as one of the many of jnl_read_many. Block 0, where a port has refused it, which does not
+ * say which it is. */
 jnl_addr jnl_refused(const jnl *);
 
 /* Commits: where each object that was read still has its value, all writes are done at one place

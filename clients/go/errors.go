@@ -60,8 +60,8 @@ func (r Refusal) Error() string {
 }
 
 // ObjectRefusal is a Refusal of one object, by BadAddress or BadSize, that the client has found.
-// errors.Is finds the Refusal in it. A port that refuses an object itself does not say which, so that
-// is the Refusal alone.
+// errors.Is finds the Refusal in it. A port that refuses an object itself does not say which, so
+// that is the Refusal alone.
 type ObjectRefusal struct {
 	Refusal Refusal
 	Address Address

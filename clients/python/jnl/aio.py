@@ -291,7 +291,7 @@ class Journal:
             if isinstance(error, (OSError, Lost)) and not isinstance(error, ProtocolError):
                 raise _records.no_port(error) from error
             raise
-        # Where a call was cancelled before it could tell of an earlier one, that is still to be told.
+        # Where a call was cancelled before it could tell of an earlier one, that is to be told.
         self._is_another = self._promises.meet(disk) or self._is_another
         return connection
 

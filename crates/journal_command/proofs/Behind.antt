@@ -68,7 +68,7 @@ poke_says None command ws more block at text value asks found is small spells in
 poke_says (Some c) command ws more block at text value asks (none, same) is small spells inside =
     (block, at, text, value, small, InBlock-from_test at (length value.now) inside, spells, is ∙ ap (λ l. decimal block ∷ decimal at ∷ text ∷ l) none, same ∙ asks)
 
--- ---- behind `down`, `crash` and `lose`
+-- ---- after `down`, `crash` and `lose`
 
 pub no_choice-down : (ws : List (List ℕ)) → ((choice : Choice) → IsChoice ws choice → ⊥) → (c : Command) → FollowsVerb verbs.Down ws c → ⊥
 no_choice-down ws none c (choice, is, asks) = none choice is

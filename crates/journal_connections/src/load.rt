@@ -8,7 +8,7 @@ use std::sync::atomic::{AtomicBool, AtomicU64, Ordering};
 // The number of no connection.
 const NO_NUMBER: u64 = u64::MAX;
 
-// After so many milliseconds a visitor is ended for one that waits, even if it goes on asking.
+// How many milliseconds a visitor has where another connection waits, even if it goes on asking.
 const VISIT_MILLIS: u64 = 500;
 
 /// How many workers serve connections, and how many connections are open at most.

@@ -65,7 +65,7 @@ current_written blocks p b bytes within current c lt = ⊎_elim
 pub event_is : (call : Call) (b : ℕ) (bytes : Bytes) → call.block.value ≡ Some b → call.bytes.value ≡ bytes → event_of call ≡ write b bytes
 event_is call b bytes block is = ap (λ (o : Option ℕ). event_by o call.bytes.value) block ∙ ap (λ (x : Bytes). event_by (Some b) x) is
 
--- the past after a write that was noted behind the calls before it
+-- the past after a write that was noted after the calls before it
 pub noted_may : (old new : DiskState) (first : List Bytes) (calls mid after : List Call) (call : Call) (b : ℕ) (bytes : Bytes)
     → new.honest ≡ old.honest → call.block.value ≡ Some b → call.bytes.value ≡ bytes → mid ≡ calls → after ≡ mid ++ call ∷ []
     → (IsTrue old.honest → MayHaveHappened (write b bytes) old.past new.past)

@@ -41,7 +41,7 @@ pub struct ExportedToRead {
     pub exported: Exported,
 }
 
-// That the files are only read.
+// The reason for which a call is denied: the files are only read.
 #[derive(Clone, Copy, Debug)]
 struct Denied;
 

@@ -66,7 +66,7 @@ is_pausing answers from left before held waiting start now k n b h =
       counts = subst (λ (rs : List (List ℕ)). GrowsBy k (length rs) n) (sym records) h.counts;
     }
 
--- ---- one input behind another
+-- ---- one input after another
 
 as_behind : (s : Stream) → IsBetween s → s ≡ behind s.records fresh
 as_behind s b =
@@ -103,7 +103,7 @@ module _ (i j : List ℕ) (between : IsBetween (after fresh i)) where
   ends_both BadRecord left calls (inr e) =
       inr (records_of i ++ e.0, e.1, e.2, records_both ∙ ap (λ (rs : List (List ℕ)). records_of i ++ rs) e.3 ∙ sym (append_assoc (records_of i) e.0 (e.1 ∷ e.2)), e.4)
 
--- behind records that are all calls the others are counted
+-- after records that are all calls the others are counted
 counts_behind : {S : Type 0} (answers : Message → S → S → List ℕ → Type 0) (rs qs : List (List ℕ)) (old new : S) (text : List ℕ) → AllReplies answers rs old new text → answered_of (rs ++ qs) ≡ length rs + answered_of qs
 counts_behind answers [] qs old new text h = omega arith
 counts_behind answers (r ∷ rs) qs old new text h =

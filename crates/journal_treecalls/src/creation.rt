@@ -46,7 +46,7 @@ pub(crate) struct Plan {
     pub(crate) node: NewNode,
 }
 
-/// MKDIR (RFC 1813, 3.3.9): an empty directory, under the first of these numbers that is free. Where
+/// MKDIR (RFC 1813, 3.3.9): an empty directory, under the first of these numbers that is free. If
 /// the directory above has no free place, it gets the first of these blocks that is free.
 ///
 /// # Errors

@@ -1,9 +1,9 @@
 //! The journal at the command line: `jtool script N` makes an empty disk of N blocks in memory, and
 //! answers the commands that it reads on standard input, a line for a line. `jtool format FILE N`
 //! makes a disk of version 2 without files in a file, and `jtool serve FILE PORT K` serves the
-//! files of a disk of either version to K connections. With `mirror` behind them the disk is read once
-//! into memory. `jtool check FILE` tells whether it is
-//! sound, and of which version, and `jtool migrate FILE` makes it one of version 2.
+//! files of a disk of either version to K connections. With the word `mirror` after K the disk is
+//! read once into memory. `jtool check FILE` tells whether it is sound, and of which version, and
+//! `jtool migrate FILE` makes it one of version 2.
 #![tactic(auto)]
 
 ghost use Rattle.std.specs.Prelude.{◌≡◌, ◌≢◌, ◌≤◌, ◌==◌, ℕ, map, string_bytes, IfErr, IsErrAnd};
