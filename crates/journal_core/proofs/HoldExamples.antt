@@ -12,7 +12,7 @@ use Rattle.journal_world.specs.declared.address.Kind.TheVariants.{Block}
 use Rattle.journal_world.specs.Addresses.{Value, Shape, kind_among, is_valid, is_value_of, starts_object, zeros_of}
 use Rattle.journal_world.specs.Files.{region}
 use Rattle.journal_world.specs.Maps.{Map, Pair, Transaction, SameMap, value_at, is_object}
-use Rattle.journal_world.specs.Histories.{Entry, opened, is_trusted, count, at, latest}
+use Rattle.journal_world.specs.Histories.{Entry, opened, is_trusted, count, floor, at, latest}
 use Rattle.journal_world.specs.Histories.Entry.{opening, commit, stable}
 use Rattle.journal_world.proofs.SameMaps.{SameMap-refl}
 use Rattle.journal_world.proofs.Prefixes.{IsPrefix-refl}
@@ -372,6 +372,7 @@ module _ (v : Value) (is_value : is_value_of Block v ≡ true) where
     begun = λ same. absurd cc;
     on_disk = refl;
     trusted = refl;
+    floored = lit≤ tt;
     marked_to_logged = lit≤ tt;
     logged_to_coming = lit≤ tt;
     coming_to_count = lit≤ tt;
@@ -394,6 +395,7 @@ module _ (v : Value) (is_value : is_value_of Block v ≡ true) where
     begun = λ same. absurd cc;
     on_disk = refl;
     trusted = refl;
+    floored = lit≤ tt;
     marked_to_logged = lit≤ tt;
     logged_to_coming = lit≤ tt;
     coming_to_count = lit≤ tt;
@@ -416,13 +418,14 @@ module _ (v : Value) (is_value : is_value_of Block v ≡ true) where
       w = flying past header next logging
 
   resting_durable : (past : Past) (front : List Entry) (mark logged : ℕ) → past.size ≡ 514 → ((image : List Bytes) → IsImage past image → IsFull v image)
-      → front ≢ [] → (opened front).layout ≡ layout → is_trusted front ≡ true → mark ≤ logged → logged ≤ count front → at front logged ≡ filled
+      → front ≢ [] → (opened front).layout ≡ layout → is_trusted front ≡ true → floor front ≤ mark → mark ≤ logged → logged ≤ count front → at front logged ≡ filled
       → IsDurable layout (rests past front mark logged)
-  resting_durable past front mark logged size images begun on_disk trusted marks counted is_filled = record {
+  resting_durable past front mark logged size images begun on_disk trusted floored marks counted is_filled = record {
     size = size;
     begun = begun;
     on_disk = on_disk;
     trusted = trusted;
+    floored = floored;
     marked_to_logged = marks;
     logged_to_coming = omega arith;
     coming_to_count = counted;
@@ -511,10 +514,10 @@ module _ (v : Value) (is_value : is_value_of Block v ≡ true) where
   is_durable_4 = flying_durable past_3 addressed 1 log_sync refl (λ steps. omega (arith, steps)) refl images_3
 
   is_durable_5 : IsDurable layout durable_5
-  is_durable_5 = resting_durable past_4 history 0 1 refl images_4 (λ same. absurd cc) refl refl (lit≤ tt) (lit≤ tt) refl
+  is_durable_5 = resting_durable past_4 history 0 1 refl images_4 (λ same. absurd cc) refl refl (lit≤ tt) (lit≤ tt) (lit≤ tt) refl
 
   is_durable_6 : IsDurable layout durable_6
-  is_durable_6 = resting_durable past_4 marked_history 1 1 refl images_4 (λ same. absurd cc) refl refl (lit≤ tt) (lit≤ tt) refl
+  is_durable_6 = resting_durable past_4 marked_history 1 1 refl images_4 (λ same. absurd cc) refl refl (lit≤ tt) (lit≤ tt) (lit≤ tt) refl
 
   -- the group's steps
   logs_on : (old new : DurableState) → LogsOn old.objects new.objects → old.objects.ring.faulted ≡ false → new.objects.ring.faulted ≡ false
@@ -877,6 +880,7 @@ module _ (v : Value) (is_value : is_value_of Block v ≡ true) where
     begun = λ same. absurd cc;
     on_disk = refl;
     trusted = refl;
+    floored = lit≤ tt;
     marked_to_logged = lit≤ tt;
     logged_to_coming = lit≤ tt;
     coming_to_count = lit≤ tt;

@@ -34,7 +34,7 @@ use Rattle.journal_parts.specs.CoreParts.{IsPair, core_of, outset}
 use Rattle.journal_core.specs.Steps.{GoesOnLogging, EndsCycle, CutsGroup, HasLogged, HasUnmarked, MarksDue, LogAnswers, IsLogRefusal, LeavesLog, TriesToLog, IsDeviceRefusal, InstallAnswers, IsInstallRefusal}
 use Rattle.journal_parts.proofs.Enduring.{StaysCut, crashes_noted}
 use Rattle.journal_parts.proofs.CallsOfLogs.{stays_install, stays_read}
-use Rattle.journal_parts.proofs.Pairing.{begins_not, leaves_history, made_in, place_of, tied_stays}
+use Rattle.journal_parts.proofs.Pairing.{begins_not, untied_not, leaves_history, made_in, place_of, tied_stays}
 use Rattle.journal_parts.proofs.Faults.{failed, volatile_failed}
 
 -- ---- of every pair
@@ -275,24 +275,6 @@ module _ (layout : Shape) (v : VolatileState) (d : DurableState) (pair : IsPair 
     mark_refused (Closed cause) it due same = absurd it
     mark_refused Fenced it due same = absurd it
 
-    -- a tied pair has no mark above what is logged
-    above_not : (why : Refusal CauseState) → IsUntied v d d.logged why → ⊥
-    above_not (Stale cause) it = ⊎_elim (λ front. begins_not v.ledger.history d.front (Stale cause) front pair.tied.begins)
-        (λ above. omega (arith, above.1, pair.tied.marked, pair.durable.marked_to_logged)) it
-    above_not NoMemory it = ⊎_elim (λ x. x) (λ x. x) it
-    above_not BadAddress it = ⊎_elim (λ x. x) (λ x. x) it
-    above_not BadSize it = ⊎_elim (λ x. x) (λ x. x) it
-    above_not TooLarge it = ⊎_elim (λ x. x) (λ x. x) it
-    above_not Busy it = ⊎_elim (λ x. x) (λ x. x) it
-    above_not (DeviceFailed cause) it = ⊎_elim (λ x. x) (λ x. x) it
-    above_not BadLog it = ⊎_elim (λ x. x) (λ x. x) it
-    above_not BadSuper it = ⊎_elim (λ x. x) (λ x. x) it
-    above_not (Stranger cause) it = ⊎_elim (λ x. x) (λ x. x) it
-    above_not (Worn cause) it = ⊎_elim (λ x. x) (λ x. x) it
-    above_not (Full cause) it = ⊎_elim (λ x. x) (λ x. x) it
-    above_not (Closed cause) it = ⊎_elim (λ x. x) (λ x. x) it
-    above_not Fenced it = ⊎_elim (λ x. x) (λ x. x) it
-
     -- room for the tail is refused for want of memory alone
     room_refused : (why : Refusal CauseState) → IsRoomRefusal d (length (tail_of v.tail.log)) why → (why ≡ NoMemory) × FitsGroup d.objects (length (tail_of v.tail.log))
     room_refused NoMemory it = (refl, it.1)
@@ -313,7 +295,7 @@ module _ (layout : Shape) (v : VolatileState) (d : DurableState) (pair : IsPair 
     cut_refused : (why : Refusal CauseState) → (IsMarkDue v d → ⊥) → IsCutRefusal v d why → e ≡ record d { objects = with_room d.objects e.objects.log.room }
         → IsLogRefusal (core_of v d) (core_of v e) why
     cut_refused why other it same = ⊎_elim
-        (λ front. absurd (begins_not v.ledger.history d.front why front pair.tied.begins))
+        (λ (untied : IsUntied v d d.marked why). absurd (untied_not v d d.marked why (omega arith) pair.tied untied))
         (λ rest. ⊎_elim
         (λ (room : IsRoomRefusal d (length (tail_of v.tail.log)) why). let is = room_refused why room in by is.0 is.1)
         (λ (memory : IsCutDue v d × (why ≡ NoMemory)). by memory.1 memory.0.fits)
@@ -327,7 +309,7 @@ module _ (layout : Shape) (v : VolatileState) (d : DurableState) (pair : IsPair 
     pub due_refused : (why : Refusal CauseState) → IsDueRefusal v d why e → IsLogRefusal (core_of v d) (core_of v e) why
     due_refused why it = ⊎_elim
         (λ (mark : IsMarkingRefusal v d why × (e ≡ d)). ⊎_elim
-        (λ untied. absurd (above_not why untied))
+        (λ (untied : IsUntied v d d.logged why). absurd (untied_not v d d.logged why pair.durable.marked_to_logged pair.tied untied))
         (λ (due : IsMarkDue v d × IsMarkRefusal v.ledger.history why).
         mark_refused why due.1 (inl (omega (arith, due.0.more, due.0.cut))) (ap (core_of v) mark.1))
         mark.0)

@@ -4,7 +4,7 @@ use mathlib.Core.List.{IsPrefix}
 use Rattle.journal_world.specs.declared.address.Addr.{Addr}
 use Rattle.journal_world.specs.Addresses.{is_valid, Shape}
 use Rattle.journal_world.specs.Maps.{Map, SameMap, value_at}
-use Rattle.journal_world.specs.Histories.{Entry, opened, is_trusted, commits, count, at, latest}
+use Rattle.journal_world.specs.Histories.{Entry, opened, is_trusted, commits, count, floor, at, latest}
 use Rattle.journal_world.specs.Histories.Entry.{opening}
 use Rattle.journal_world.proofs.SameMaps.{SameMap-refl, SameMap-trans}
 use Rattle.journal_world.proofs.LongerHistories.{after-layout, at-count}
@@ -27,7 +27,6 @@ use Rattle.journal_tail.specs.ObjectTails.{known_object}
 use Rattle.journal_objlog.specs.ObjectLogs.{map_now, map_cut, map_logged, IsCutLogged, MayOpenAs, Crashes as MapCrashes, KeepsMaps, EndsMap, OnlyReads, is_faulted as is_log_faulted, disk_of as log_disk}
 use Rattle.journal_tail.proofs.MapsOfBlocks.{law_of, HasObjects-map_of}
 use Rattle.journal_memory.specs.Updates.{IsSince, IsLastSince, HaveAllSince}
-use Rattle.journal_parts.specs.Cores.{OpensAfter}
 use Rattle.journal_parts.specs.Durables.{DurableState, disk_of, Leaves, Crashes, IsDurable, begun_durable}
 use Rattle.journal_memory.specs.Fetches.{IsBlockAfter}
 use Rattle.journal_memory.proofs.Fronts.{at-longer, count-longer, some-longer, opened-longer, trusted-longer}
@@ -91,20 +90,6 @@ leaves_disk layout inside now disk kept is same =
     subst (λ (s : DiskState). IsTrue s.honest → EveryImage s.past (Leaves now)) (sym same)
     (λ honest image one. subst (λ (d : DurableState). Leaves d image) is (leaves_of layout inside kept honest image (kept.images honest image one)))
 
--- each opens as the map after some first commits of the front
-pub opens_disk : (layout : Shape) (inside now : DurableState) (disk : DiskState) → IsDurable layout inside → inside ≡ now → disk ≡ disk_of inside
-    → IsTrue disk.honest → EveryImage disk.past (OpensAfter now.front)
-opens_disk layout inside now disk kept is same = λ honest image one.
-    let left : Leaves now image = leaves_disk layout inside now disk kept is same honest image one in
-    let comes : now.coming ≤ count now.front = subst (λ (d : DurableState). d.coming ≤ count d.front) is kept.coming_to_count in
-    record {
-      commits = left.commits;
-      made = omega (arith, left.coming, comes);
-      map = left.map;
-      opens = left.opens;
-      same = left.same;
-    }
-
 -- it was only read
 pub crashes_read : (layout : Shape) (inside now : DurableState) (objects : WalState) → IsDurable layout inside → inside ≡ now
     → OnlyReads inside.objects objects → Crashes now (record inside { objects = objects })
@@ -149,6 +134,7 @@ module _ (layout : Shape) (d : DurableState) (kept : IsDurable layout d) where
     begun = kept.begun;
     on_disk = kept.on_disk;
     trusted = kept.trusted ∙ sym crash.keeps.honest;
+    floored = kept.floored;
     marked_to_logged = kept.marked_to_logged;
     logged_to_coming = kept.logged_to_coming;
     coming_to_count = kept.coming_to_count;
@@ -172,6 +158,7 @@ module _ (layout : Shape) (d : DurableState) (kept : IsDurable layout d) where
     begun = kept.begun;
     on_disk = kept.on_disk;
     trusted = kept.trusted ∙ sym crash.keeps.honest;
+    floored = kept.floored;
     marked_to_logged = omega (arith, kept.marked_to_logged, kept.logged_to_coming);
     logged_to_coming = omega arith;
     coming_to_count = kept.coming_to_count;
@@ -191,12 +178,13 @@ module _ (layout : Shape) (d : DurableState) (kept : IsDurable layout d) where
       ends = ap (λ (log : LogState). log.logged) end.end ∙ sym (ap (λ (log : LogState). log.cut) end.end)
 
   -- only the marks and the front change
-  pub kept_mark : (front : List Entry) → IsPrefix d.front front → IsDurable layout (record d { front = front; marked = d.logged })
-  kept_mark front longer = record {
+  pub kept_mark : (front : List Entry) → IsPrefix d.front front → floor front ≤ d.logged → IsDurable layout (record d { front = front; marked = d.logged })
+  kept_mark front longer floored = record {
     size = kept.size;
     begun = some-longer d.front front kept.begun longer;
     on_disk = ap (λ (m : Map). m.layout) (opened-longer d.front front kept.begun longer) ∙ kept.on_disk;
     trusted = trusted-longer d.front front kept.begun longer ∙ kept.trusted;
+    floored = floored;
     marked_to_logged = omega arith;
     logged_to_coming = kept.logged_to_coming;
     coming_to_count = omega (arith, kept.coming_to_count, count-longer d.front front kept.begun longer);
@@ -269,13 +257,14 @@ module _ (layout : Shape) (d : DurableState) (kept : IsDurable layout d) (front 
   -- a group is taken
   pub kept_take : (objects : WalState) (group : List Update) (commits : ℕ) → MapCrashes d.objects objects → TakesGroup d.objects group objects
       → TakesMap d.objects group objects → HasGroupRoom d.objects (length group) → objects.log.logged < objects.log.cut
-      → commits ≡ count front → (IsTrue (is_trusted front) → HaveAllSince layout front d.logged group)
+      → commits ≡ count front → floor front ≤ d.marked → (IsTrue (is_trusted front) → HaveAllSince layout front d.logged group)
       → IsDurable layout (record d { objects = objects; front = front; coming = commits })
-  kept_take objects group commits crash takes maps room flies counted all = record {
+  kept_take objects group commits crash takes maps room flies counted floored all = record {
     size = crash.keeps.size ∙ kept.size;
     begun = some-longer d.front front kept.begun longer;
     on_disk = open_layout;
     trusted = trusted-longer d.front front kept.begun longer ∙ kept.trusted ∙ sym crash.keeps.honest;
+    floored = floored;
     marked_to_logged = kept.marked_to_logged;
     logged_to_coming = omega (arith, made_later, counted);
     coming_to_count = omega (arith, counted);
@@ -294,15 +283,16 @@ module _ (layout : Shape) (d : DurableState) (kept : IsDurable layout d) (front 
     images = λ honest. crash.images honest layout (sym (crash.keeps.size ∙ kept.size));
   }
 
-  -- commits that wrote nothing are logged
-  pub kept_reach : (commits : ℕ) → IsCutLogged d.objects → commits ≡ count front → (IsTrue (is_trusted front) → HaveAllSince layout front d.logged [])
-      → IsDurable layout (record d { front = front; logged = commits; coming = commits })
-  kept_reach commits none counted all = record {
+  -- commits that wrote nothing are logged, and all are marked
+  pub kept_reach : (commits : ℕ) → IsCutLogged d.objects → commits ≡ count front → floor front ≤ commits → (IsTrue (is_trusted front) → HaveAllSince layout front d.logged [])
+      → IsDurable layout (record d { front = front; marked = commits; logged = commits; coming = commits })
+  kept_reach commits none counted floored all = record {
     size = kept.size;
     begun = some-longer d.front front kept.begun longer;
     on_disk = open_layout;
     trusted = trusted-longer d.front front kept.begun longer ∙ kept.trusted;
-    marked_to_logged = omega (arith, kept.marked_to_logged, made_later, counted);
+    floored = floored;
+    marked_to_logged = omega arith;
     logged_to_coming = omega arith;
     coming_to_count = omega (arith, counted);
     tail = kept.tail;
@@ -334,6 +324,7 @@ kept_begun layout objects front size rest begun images =
       begun = λ is. cc (is);
       on_disk = map_of-layout layout (blocks_now objects);
       trusted = refl;
+      floored = let none : 0 ≤ 0 = omega arith in none;
       marked_to_logged = omega arith;
       logged_to_coming = omega arith;
       coming_to_count = omega arith;

@@ -25,7 +25,7 @@ use Rattle.journal_parts.proofs.Enduring.{StaysCut}
 use Rattle.journal_wal.specs.declared.step.GroupStep.{GroupStep}
 use Rattle.journal_wal.specs.declared.step.GroupStep.TheVariants.{Idle, Put, Logged}
 use Rattle.journal_memory.specs.Volatiles.{VolatileState, IsVolatile, IsFrontRefusal}
-use Rattle.journal_parts.specs.Pairs.{Tied, IsCutDue, IsRestDue, CutsBoth, MarksBoth, MarksAll}
+use Rattle.journal_parts.specs.Pairs.{Tied, IsCutDue, IsRestDue, CutsBoth, MarksBoth, MarksAll, IsMarkedAbove, IsUntied}
 use Rattle.journal_memory.specs.Updates.{HaveAllSince}
 use Rattle.journal_memory.proofs.Latest.{since_later, since_mark}
 use Rattle.journal_world.proofs.MapsOfHistories.{is_trusted-append}
@@ -48,6 +48,30 @@ begins_not history seen (Worn cause) why begins = why
 begins_not history seen (Full cause) why begins = why
 begins_not history seen (Closed cause) why begins = why
 begins_not history seen Fenced why begins = why
+
+-- a history with a mark above n has one
+is_above : (v : VolatileState) (n : ℕ) (why : Refusal CauseState) → IsMarkedAbove v n why → n < floor v.ledger.history
+is_above v n (Stale cause) above = above.1
+is_above v n NoMemory above = absurd above
+is_above v n BadAddress above = absurd above
+is_above v n BadSize above = absurd above
+is_above v n TooLarge above = absurd above
+is_above v n Busy above = absurd above
+is_above v n (DeviceFailed cause) above = absurd above
+is_above v n BadLog above = absurd above
+is_above v n BadSuper above = absurd above
+is_above v n (Stranger cause) above = absurd above
+is_above v n (Worn cause) above = absurd above
+is_above v n (Full cause) above = absurd above
+is_above v n (Closed cause) above = absurd above
+is_above v n Fenced above = absurd above
+
+-- a tied pair is not refused for its front, nor for a mark above what is marked beside the log
+pub untied_not : (v : VolatileState) (d : DurableState) (n : ℕ) (why : Refusal CauseState) → d.marked ≤ n → Tied v d → IsUntied v d n why → ⊥
+untied_not v d n why low tied untied = ⊎_elim
+    (λ (front : IsFrontRefusal v.ledger.history d.front why). begins_not v.ledger.history d.front why front tied.begins)
+    (λ (above : IsMarkedAbove v n why). omega (arith, is_above v n why above, tied.marked, low))
+    untied
 
 -- an image of a disk that has all marks of the history opens as the map after a front of it
 pub leaves_history : (layout : Shape) (d : DurableState) (history : List Entry) (image : List Bytes) → IsDurable layout d → IsPrefix d.front history
@@ -188,24 +212,23 @@ tied_trim v d upto new drops home tied = record {
         (subst (All (λ c. c.end ≤ end_of d.objects → c.commits ≤ d.logged)) drops.points tied.logged)
 
 -- the marks of all commits, as the calls of the two parts make them
-pub marks_all : (v w : VolatileState) (d mid e : DurableState) (n : ℕ) (front again : List Entry) → IsRestDue v d → n ≡ count v.ledger.history
-    → w ≡ record v { ledger = record v.ledger { history = v.ledger.history ++ stable n ∷ []; cut = n } } → front ≡ w.ledger.history → again ≡ w.ledger.history
-    → mid ≡ record d { front = front; logged = count front; coming = count front } → e ≡ record mid { front = again; marked = mid.logged }
+pub marks_all : (v w : VolatileState) (d e : DurableState) (n : ℕ) (front : List Entry) → IsRestDue v d → n ≡ count v.ledger.history
+    → w ≡ record v { ledger = record v.ledger { history = v.ledger.history ++ stable n ∷ []; cut = n } } → front ≡ w.ledger.history
+    → e ≡ record d { front = front; marked = count front; logged = count front; coming = count front }
     → MarksAll v d w e
-marks_all v w d mid e n front again due is volatile first second reached marked = record {
+marks_all v w d e n front due is volatile whole marked = record {
   due = due;
   volatile = volatile ∙ ap (λ (k : ℕ). record v { ledger = record v.ledger { history = v.ledger.history ++ stable k ∷ []; cut = k } }) is;
   durable = marked
-      ∙ ap (λ (m : DurableState). record m { front = again; marked = m.logged }) reached
-      ∙ ap (λ (k : ℕ). record d { front = again; marked = k; logged = k; coming = k }) counted
-      ∙ ap (λ (h : List Entry). record d { front = h; marked = count v.ledger.history; logged = count v.ledger.history; coming = count v.ledger.history }) (second ∙ longer);
+      ∙ ap (λ (k : ℕ). record d { front = front; marked = k; logged = k; coming = k }) counted
+      ∙ ap (λ (h : List Entry). record d { front = h; marked = count v.ledger.history; logged = count v.ledger.history; coming = count v.ledger.history }) (whole ∙ longer);
 }
   where
     longer : w.ledger.history ≡ v.ledger.history ++ stable (count v.ledger.history) ∷ []
     longer = ap (λ (x : VolatileState). x.ledger.history) volatile ∙ ap (λ (k : ℕ). v.ledger.history ++ stable k ∷ []) is
 
     counted : count front ≡ count v.ledger.history
-    counted = ap count (first ∙ longer) ∙ count-mark v.ledger.history (count v.ledger.history)
+    counted = ap count (whole ∙ longer) ∙ count-mark v.ledger.history (count v.ledger.history)
 
 -- a hold of both that marks all commits
 pub tied_rest : (layout : Shape) (v w : VolatileState) (d e : DurableState) → IsVolatile layout v → IsDurable layout d → floor v.ledger.history ≤ count v.ledger.history

@@ -13,11 +13,3 @@ pub record Leaves (history : List Entry) (image : List Bytes) : Type 0 where
   pub map : Map
   pub opens : OpensAs map image
   pub same : SameMap map (at history commits)
-
--- The image opens as the map after so many first commits of the history
-pub record OpensAfter (history : List Entry) (image : List Bytes) : Type 0 where
-  pub commits : ℕ
-  pub made : commits ≤ count history
-  pub map : Map
-  pub opens : OpensAs map image
-  pub same : SameMap map (at history commits)

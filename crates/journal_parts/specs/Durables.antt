@@ -5,7 +5,7 @@ use Rattle.journal_world.specs.declared.refusal.Refusal.{Refusal}
 use Rattle.journal_world.specs.declared.refusal.Refusal.TheVariants.{NoMemory, DeviceFailed, Worn}
 use Rattle.journal_world.specs.Addresses.{Shape}
 use Rattle.journal_world.specs.Maps.{Map, SameMap}
-use Rattle.journal_world.specs.Histories.{Entry, opened, is_trusted, count, at}
+use Rattle.journal_world.specs.Histories.{Entry, opened, is_trusted, count, floor, at}
 use Rattle.journal_block.specs.declared.update.Update.{Update}
 use Rattle.journal_block.specs.Block.{Bytes}
 use Rattle.journal_disk.specs.Disks.{DiskState, Keeps, HasFailed}
@@ -64,15 +64,16 @@ pub record IsLoggedAt (layout : Shape) (objects : WalState) (front : List Entry)
   pub logged : SameMap (map_logged layout objects) (at front n)
   pub coming : SameMap (map_cut layout objects) (at front m)
 
--- Its own invariant, on a disk of a layout: marked <= logged <= coming; the logged map is that
--- after `logged` commits, and with the group in flight that after `coming`. In `maps` the log is
--- the one in memory, which between the write of block 0 and its barrier is ahead of a crash;
--- `images` says what a crash leaves
+-- Its own invariant, on a disk of a layout: no mark of the front is above `marked`, and
+-- marked <= logged <= coming; the logged map is that after `logged` commits, and with the group in
+-- flight that after `coming`. In `maps` the log is the one in memory, which between the write of
+-- block 0 and its barrier is ahead of a crash; `images` says what a crash leaves
 pub record IsDurable (layout : Shape) (d : DurableState) : Type 0 where
   pub size : size_of d.objects ≡ layout.blocks
   pub begun : d.front ≢ []
   pub on_disk : (opened d.front).layout ≡ layout
   pub trusted : is_trusted d.front ≡ (disk_of d).honest
+  pub floored : floor d.front ≤ d.marked
   pub marked_to_logged : d.marked ≤ d.logged
   pub logged_to_coming : d.logged ≤ d.coming
   pub coming_to_count : d.coming ≤ count d.front

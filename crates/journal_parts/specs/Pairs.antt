@@ -103,7 +103,7 @@ IsUntied v d n refusal = IsFrontRefusal v.ledger.history d.front refusal ⊎ IsM
 -- why the tail is not cut
 abbrev pub IsCutRefusal : VolatileState → DurableState → Refusal CauseState → Type 0
 IsCutRefusal v d refusal =
-    IsFrontRefusal v.ledger.history d.front refusal
+    IsUntied v d d.marked refusal
     ⊎ IsRoomRefusal d (length (tail_of v.tail.log)) refusal
     ⊎ (IsCutDue v d × (refusal ≡ NoMemory))
 

@@ -6,7 +6,7 @@ ghost use Rattle.journal_circ.specs.Mending.{IsMendable};
 ghost use Rattle.journal_wal.specs.Wal.{size_of, IsAtRest};
 ghost use Rattle.journal_objlog.specs.Maps.{OpensAs};
 ghost use Rattle.journal_objlog.specs.ObjectLogs.{map_now, IsCutLogged, start_of, end_of, disk_of as log_disk};
-ghost use Rattle.journal_parts.specs.Cores.{OpensAfter};
+ghost use Rattle.journal_parts.specs.Cores.{Leaves as LeavesHistory};
 ghost use Rattle.journal_parts.specs.Durables.{IsDurable, Leaves, begun_durable, disk_of};
 
 use journal_disk::{BlockDisk, MemDisk};
@@ -108,13 +108,14 @@ impl<'b, D: BlockDisk, R: MapRule, J: Naming> Durable<'b, D, R, J> {
     }
 
     /// Gives the disk up, as it is. If it was honest and settled when it was opened, each image
-    /// that a crash may leave of it opens as the map after some of the front's commits. It can be
-    /// mended once a failed barrier, a kill or a crash has left it, also after a fault.
+    /// that a crash may leave of it opens as the map after some of the front's commits: no fewer
+    /// than the front's greatest mark. It can be mended once a failed barrier, a kill or a crash
+    /// has left it, also after a fault.
     pub fn into_disk(self) -> D
         ensures disk { D.state result ≡ disk_of self.entry }
         ensures size { (D.state result).past.size ≡ J.layout.blocks }
         ensures images { IsTrue (D.state result).honest → EveryImage (D.state result).past (Leaves self.entry) }
-        ensures opens { IsTrue (D.state result).honest → EveryImage (D.state result).past (OpensAfter self.entry.front) }
+        ensures opens { IsTrue (D.state result).honest → EveryImage (D.state result).past (LeavesHistory self.entry.front) }
         ensures mendable { IsTrue (D.state result).honest → IsMendable (D.state result).past }
     {
         let Durable { objects, .. } = self;

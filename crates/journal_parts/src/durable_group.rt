@@ -1,7 +1,7 @@
 // The groups that the durable part takes from the memory part, and how far the history is.
 ghost use Rattle.std.specs.Prelude.{◌≡◌, ◌≤◌, ◌<◌, ◌↔◌, [], false, true, length, IsTrue, IfOk, IfErr};
 ghost use mathlib.Core.List.{IsPrefix};
-ghost use Rattle.journal_world.specs.Histories.{is_trusted, count};
+ghost use Rattle.journal_world.specs.Histories.{is_trusted, count, floor};
 ghost use Rattle.journal_memlog.specs.Logs.{HasDistinctBlocks};
 ghost use Rattle.journal_tail.specs.Homes.{AreHomes};
 ghost use Rattle.journal_wal.specs.Wal.{with_room};
@@ -44,13 +44,15 @@ impl<'b, D: BlockDisk, R: MapRule, J: Naming> Durable<'b, D, R, J> {
     // after `logged` wrote, as the last of them left each address. That is said of addresses, not
     // of blocks: the other objects of a written block came with its fetch.
     /// Takes a group that was cut from memory, which `reserve` made room for, and the history that
-    /// has its commits, with their number. It takes no memory, and moves the blocks.
+    /// has its commits, with their number. That history has no mark that this part lacks. It takes
+    /// no memory, and moves the blocks.
     pub(crate) fn take(&mut self, group: Vec<Update>, front: Front<'b, J, R>, commits: CommitCount)
         requires homes { AreHomes J.layout.blocks group.items }
         requires distinct { HasDistinctBlocks group.items }
         requires room { HasGroupRoom self.old.objects (length group.items) }
         requires longer { IsPrefix self.old.front front }
         requires counted { commits ≡ count front }
+        requires floored { floor front ≤ self.old.marked }
         requires all { IsTrue (is_trusted front) → HaveAllSince J.layout front self.old.logged group.items }
         ensures takes { TakesCut front.entry group.items self.old self.new }
         ensures flies { end_of self.new.objects < self.new.objects.log.cut }
@@ -63,17 +65,19 @@ impl<'b, D: BlockDisk, R: MapRule, J: Naming> Durable<'b, D, R, J> {
         self.coming = commits;
     }
 
-    /// Notes that all commits of the history are logged, with their number: those since the last
-    /// cut wrote nothing, and no group is in flight.
-    pub(crate) fn note_all_logged(&mut self, front: Front<'b, J, R>, commits: CommitCount)
+    /// Notes the mark of all commits of the history, with their number, which the history now has.
+    /// All of them are logged: those since the last cut wrote nothing, and no group is in flight.
+    pub(crate) fn set_all_marked(&mut self, front: Front<'b, J, R>, commits: CommitCount)
         requires rest { IsCutLogged self.old.objects }
         requires longer { IsPrefix self.old.front front }
         requires counted { commits ≡ count front }
+        requires floored { floor front ≤ commits }
         requires all { IsTrue (is_trusted front) → HaveAllSince J.layout front self.old.logged [] }
-        ensures reaches { self.new ≡ record self.old { front = front.entry; logged = count front.entry; coming = count front.entry } }
+        ensures marks { self.new ≡ record self.old { front = front.entry; marked = count front.entry; logged = count front.entry; coming = count front.entry } }
         ensures crash { Crashes self.old self.new }
     {
         self.front = front;
+        self.marked = commits;
         self.logged = commits;
         self.coming = commits;
     }
@@ -81,6 +85,7 @@ impl<'b, D: BlockDisk, R: MapRule, J: Naming> Durable<'b, D, R, J> {
     /// Notes the mark of all commits that are logged, which the history now has.
     pub(crate) fn set_marked(&mut self, front: Front<'b, J, R>)
         requires longer { IsPrefix self.old.front front }
+        requires floored { floor front ≤ self.old.logged }
         ensures marks { self.new ≡ record self.old { front = front.entry; marked = self.old.logged } }
         ensures crash { Crashes self.old self.new }
     {

@@ -131,7 +131,8 @@ impl<'b, D: BlockDisk, R: MapRule, J: Naming> Durable<'b, D, R, J> {
     /// # Errors
     /// Nothing is then marked or cut.
     /// - `J9 Stale`: the history that this part has seen is the longer, the history has a greater
-    ///   mark than what is logged, or it is longer than the core's.
+    ///   mark than what is logged, a cut meets a mark that this part lacks, or the history is
+    ///   longer than the core's.
     /// - `J6 DeviceFailed`: the device failed before.
     /// - `J11 Worn`: the history's length or a position would reach 2^62.
     /// - `J1 NoMemory`: memory for the group is refused.

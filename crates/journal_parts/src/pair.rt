@@ -52,7 +52,7 @@ impl<'b, D: BlockDisk, R: MapRule, J: Naming> Durable<'b, D, R, J> {
     ///
     /// # Errors
     /// The first that applies is answered. All is as it was, but may have more room in memory.
-    /// - `J9 Stale`: the history that this part has seen is the longer.
+    /// - `J9 Stale`: the history that this part has seen is the longer, or it lacks a mark.
     /// - `J6 DeviceFailed`: the device failed before.
     /// - `J11 Worn`: a position would reach 2^62.
     /// - `J1 NoMemory`: memory is refused.
@@ -73,6 +73,10 @@ impl<'b, D: BlockDisk, R: MapRule, J: Naming> Durable<'b, D, R, J> {
         volatile.prove_invariant();
         volatile.prove_short_tail();
         let front = volatile.front_over(&self.front)?;
+        let floor = volatile.floor();
+        if self.marked < floor {
+            return Err(Refusal::Stale(self.key.cause(RefusalNumber::J9, front)));
+        }
         if self.logged < volatile.last_cut() {
             return Ok(false);
         }
@@ -124,7 +128,7 @@ impl<'b, D: BlockDisk, R: MapRule, J: Naming> Durable<'b, D, R, J> {
     }
 
     // A step of its own for commits that wrote nothing. It moves `logged` and `coming` too, which
-    // is true because nothing was written after it.
+    // is true because nothing was written after the last cut.
     /// Marks all commits if nothing awaits logging: those since the last cut wrote nothing. False
     /// if something does, or if all are marked.
     ///
@@ -152,8 +156,7 @@ impl<'b, D: BlockDisk, R: MapRule, J: Naming> Durable<'b, D, R, J> {
             return Ok(false);
         }
         volatile.mark(&self.key, commits)?;
-        self.note_all_logged(volatile.front(), commits);
-        self.set_marked(volatile.front());
+        self.set_all_marked(volatile.front(), commits);
         Ok(true)
     }
 

@@ -17,7 +17,7 @@ use Rattle.journal_memory.specs.declared.bit_scan.BitScan.{BitScan}
 use Rattle.journal_memory.specs.Bits.{is_scan}
 use Rattle.journal_memory.specs.Causes.{CauseState, IsUnexplained, IsExplained}
 use Rattle.journal_parts.specs.Openings.{HoldsMap, HasSize}
-use Rattle.journal_parts.specs.Cores.{OpensAfter}
+use Rattle.journal_parts.specs.Cores.{Leaves}
 
 -- A journal, by what is known of it outside its lock
 pub record JournalState : Type 0 where
@@ -35,11 +35,11 @@ pub record BeginsWith (rule : Map → Type 0) (layout : Shape) (disk : DiskState
   pub start : history ≡ opening map disk.honest ∷ []
 
 -- Each image that a crash may leave of the disk opens as the map after some first commits of a
--- history that goes on from this one
+-- history that goes on from this one, no fewer than its greatest mark
 pub record LeavesFront (start : List Entry) (disk : DiskState) : Type 0 where
   pub front : List Entry
   pub later : IsPrefix start front
-  pub images : IsTrue disk.honest → EveryImage disk.past (OpensAfter front)
+  pub images : IsTrue disk.honest → EveryImage disk.past (Leaves front)
 
 -- The facts of a history that was seen, under the mount's rule, on a disk of this layout
 pub record IsKnown (rule : Map → Type 0) (layout : Shape) (history : List Entry) : Type 0 where

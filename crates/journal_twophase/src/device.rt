@@ -12,7 +12,7 @@ ghost use Rattle.journal_disk.specs.Disks.{IsSettled};
 ghost use Rattle.journal_disk.specs.Images.{EveryImage};
 ghost use Rattle.journal_circ.specs.Mending.{IsMendable};
 ghost use Rattle.journal_history.specs.Tokens.{OnlyExtends};
-ghost use Rattle.journal_parts.specs.Cores.{Leaves, OpensAfter};
+ghost use Rattle.journal_parts.specs.Cores.{Leaves};
 ghost use Rattle.journal_parts.specs.Durables.{disk_of, is_faulted};
 ghost use Rattle.journal_memory.specs.SlotCounts.{AreUnder};
 ghost use Rattle.journal_twophase.specs.Journals.{IsLogRefusal, IsInstallRefusal, IsFetchRefusal, IsCloseRefusal, IsImageRefusal};
@@ -316,7 +316,7 @@ impl<'b, D: BlockDisk, R: MapRule, J: Naming> LockedParts<'b, D, R, J> {
             (λ refused. IsTrue (D.state refused.left.disk).honest → IsMendable (D.state refused.left.disk).past) }
         ensures refusal { IfErr result (λ refused. IsCloseRefusal refused.refusal) }
         ensures left_size { IfErr result (λ refused. (D.state refused.left.disk).past.size ≡ J.layout.blocks) }
-        ensures left_images { IfErr result (λ refused. IsTrue (D.state refused.left.disk).honest → EveryImage (D.state refused.left.disk).past (OpensAfter refused.left.front)) }
+        ensures left_images { IfErr result (λ refused. IsTrue (D.state refused.left.disk).honest → EveryImage (D.state refused.left.disk).past (Leaves refused.left.front)) }
         ensures begun { IfErr result (λ refused. refused.left.front ≢ []) }
     {
         let (durable, volatile) = self.into_parts();
@@ -332,7 +332,7 @@ impl<'b, D: BlockDisk, R: MapRule, J: Naming> LockedParts<'b, D, R, J> {
     // Gives the disk up, with the history as far as the disk's part has seen it.
     pub(crate) fn into_disk(self) -> DiskLeft<'b, D, R, J>
         ensures size { (D.state result.disk).past.size ≡ J.layout.blocks }
-        ensures images { IsTrue (D.state result.disk).honest → EveryImage (D.state result.disk).past (OpensAfter result.front) }
+        ensures images { IsTrue (D.state result.disk).honest → EveryImage (D.state result.disk).past (Leaves result.front) }
         ensures mendable { IsTrue (D.state result.disk).honest → IsMendable (D.state result.disk).past }
         ensures begun { result.front ≢ [] }
     {
@@ -418,7 +418,7 @@ fn disk_left<'b, D: BlockDisk, R: MapRule, J: Naming>(
     durable: Durable<'b, D, R, J>,
 ) -> DiskLeft<'b, D, R, J>
     ensures size { (D.state result.disk).past.size ≡ J.layout.blocks }
-    ensures images { IsTrue (D.state result.disk).honest → EveryImage (D.state result.disk).past (OpensAfter result.front) }
+    ensures images { IsTrue (D.state result.disk).honest → EveryImage (D.state result.disk).past (Leaves result.front) }
     ensures mendable { IsTrue (D.state result.disk).honest → IsMendable (D.state result.disk).past }
     ensures begun { result.front ≢ [] }
 {

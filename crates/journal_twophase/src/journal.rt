@@ -8,7 +8,7 @@ ghost use Rattle.journal_disk.specs.Disks.{IsSettled};
 ghost use Rattle.journal_disk.specs.Images.{EveryImage};
 ghost use Rattle.journal_circ.specs.Mending.{IsMendable};
 ghost use Rattle.journal_history.specs.Tokens.{made, IsExact, OnlyExtends};
-ghost use Rattle.journal_parts.specs.Cores.{Leaves, OpensAfter};
+ghost use Rattle.journal_parts.specs.Cores.{Leaves};
 ghost use Rattle.journal_parts.specs.Openings.{HasWellFormedLog, IsInRange, IsLayoutRefusal, IsOpenRefusal, OnlyReadsDisk};
 ghost use Rattle.journal_twophase.specs.Journals.{BeginsWith, LeavesFront, IsKnown, IsSessionRefusal, IsFenceRefusal, IsLogRefusal, IsInstallRefusal, IsCloseRefusal, IsImageRefusal};
 ghost use Rattle.journal_twophase.specs.Waits.{IsStable, IsWaitRefusal, IsEndedUnmarked};
@@ -35,8 +35,8 @@ pub const CACHED_BLOCKS: usize = 64;
 /// The most copies that `Journal::open_with_cache` keeps.
 pub const MAX_CACHED_BLOCKS: usize = 4096;
 
-/// The rest of a journal that was ended: its disk, as it is, and a front of its history, which has
-/// each commit that a crash may leave of the disk.
+/// The rest of a journal that was ended: its disk, as it is, and a front of its history. That has
+/// each commit that a crash may leave of the disk, and no mark that the disk lacks.
 #[derive(Drop)]
 pub struct DiskLeft<'b, D: BlockDisk, R: MapRule, J: Naming> {
     /// The disk.
@@ -430,11 +430,11 @@ impl<'b, D: BlockDisk, R: MapRule, J: Naming> Journal<'b, D, R, J> {
 
     /// Ends the journal, and gives the disk up as it is, with the history as far as the disk's part
     /// has seen it, which goes on from the journal's opening. Each image that a crash may leave of
-    /// the disk opens as the map after some first commits of that history. If there is a session,
-    /// `close` says more.
+    /// the disk opens as the map after some first commits of that history, no fewer than its
+    /// greatest mark. If there is a session, `close` says the same of the whole history.
     pub fn into_disk(self) -> DiskLeft<'b, D, R, J>
         ensures size { (D.state result.disk).past.size ≡ J.layout.blocks }
-        ensures images { IsTrue (D.state result.disk).honest → EveryImage (D.state result.disk).past (OpensAfter result.front) }
+        ensures images { IsTrue (D.state result.disk).honest → EveryImage (D.state result.disk).past (Leaves result.front) }
         ensures mendable { IsTrue (D.state result.disk).honest → IsMendable (D.state result.disk).past }
         ensures start { IsPrefix self.entry.start result.front }
     {
@@ -456,7 +456,7 @@ impl<'b, D: BlockDisk, R: MapRule, J: Naming> Journal<'b, D, R, J> {
     /// # Errors
     /// - `J9 Stale`: the session had seen more of the history than the core. The disk is given up
     ///   too: each image that a crash may leave of it opens as the map after some first commits of
-    ///   a history that goes on from the journal's opening.
+    ///   a history that goes on from the journal's opening, no fewer than its greatest mark.
     pub fn close(self, session: &mut Session<'b, J, R>) -> Result<D, Refused<D, Cause<'b, J, R>>>
         ensures session { OnlyExtends session.old session.new }
         ensures size { IfOk result (λ disk. (D.state disk).past.size ≡ J.layout.blocks) }

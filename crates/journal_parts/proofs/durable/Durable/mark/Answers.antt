@@ -1,9 +1,10 @@
-use Rattle.std.proofs.Common.{List, ◌≡◌, ◌<◌, ◌++◌, ◌∷◌, ◌∙◌, [], inl, inr, refl, ap, sym, subst, arith, rules}
+use Rattle.std.proofs.Common.{List, ◌≡◌, ◌<◌, ◌≤◌, ◌++◌, ◌∷◌, ◌∙◌, [], inl, inr, refl, ap, sym, subst, arith, rules}
 use Rattle.std.proofs.lemmas.Bool.{eqb-true, eqb-false, not-true, not-false}
 use mathlib.Core.List.{IsPrefix}
 use Rattle.journal_world.specs.declared.refusal.Refusal.{Refusal}
 use Rattle.journal_world.specs.Histories.{Entry, floor}
 use Rattle.journal_world.specs.Histories.Entry.{stable}
+use Rattle.journal_world.proofs.Marks.{floor-mark}
 use Rattle.journal_world.proofs.Prefixes.{IsPrefix-trans}
 use Rattle.journal_objlog.proofs.Openings.{OnlyReads-refl}
 use Rattle.journal_tail.proofs.Exits.{if_err}
@@ -78,16 +79,24 @@ mark-requires-clause-due g c = inl (sym (eqb-true c.last_cut.result c.self.insid
 pub mark-requires-clause-made : goal.mark-requires-clause-made
 mark-requires-clause-made g c = omega (arith, eqb-true c.last_cut.result c.self.inside.logged (not-false _ (sym c.if-ne.ensures)), c.last_cut.ensures, c.prove_invariant.ensures.made)
 
-pub set_marked-requires : goal.set_marked-requires
-set_marked-requires g c =
+pub set_marked-requires-clause-longer : goal.set_marked-requires-clause-longer
+set_marked-requires-clause-longer g c =
     let history : c.front-2.result ≡ c.args.volatile.now.ledger.history ++ stable c.self.inside.logged ∷ [] =
     c.front-2.ensures.history ∙ ap (λ (v : VolatileState). v.ledger.history) c.in_ok-mark.ensures.added in
-    record {
-      longer = subst (λ (h : List Entry). IsPrefix c.args.self.now.front h) (sym history)
-          (IsPrefix-trans c.args.self.now.front c.args.volatile.now.ledger.history (c.args.volatile.now.ledger.history ++ stable c.self.inside.logged ∷ [])
-          (subst (λ (d : DurableState). IsPrefix d.front c.args.volatile.now.ledger.history) c.self.view_is c.in_ok-front.ensures.begins)
-          (stable c.self.inside.logged ∷ [], refl));
-    }
+    subst (λ (h : List Entry). IsPrefix c.args.self.now.front h) (sym history)
+    (IsPrefix-trans c.args.self.now.front c.args.volatile.now.ledger.history (c.args.volatile.now.ledger.history ++ stable c.self.inside.logged ∷ [])
+    (subst (λ (d : DurableState). IsPrefix d.front c.args.volatile.now.ledger.history) c.self.view_is c.in_ok-front.ensures.begins)
+    (stable c.self.inside.logged ∷ [], refl))
+
+pub set_marked-requires-clause-floored : goal.set_marked-requires-clause-floored
+set_marked-requires-clause-floored g c =
+    let history : c.front-2.result ≡ c.args.volatile.now.ledger.history ++ stable c.self.inside.logged ∷ [] =
+    c.front-2.ensures.history ∙ ap (λ (v : VolatileState). v.ledger.history) c.in_ok-mark.ensures.added in
+    let low : floor c.args.volatile.now.ledger.history ≤ c.self.inside.logged =
+    omega (arith, not_below c.self.inside.logged c.floor-marked.result c.if-lt.ensures, c.floor-marked.ensures) in
+    let marked : floor c.front-2.result ≡ c.self.inside.logged = ap floor history ∙ floor-mark c.args.volatile.now.ledger.history c.self.inside.logged low in
+    let logged : c.self.inside.logged ≡ c.args.self.now.logged = ap (λ (d : DurableState). d.logged) c.self.view_is in
+    omega (arith, marked, logged)
 
 pub returns-clause-marks : goal.returns-clause-marks
 returns-clause-marks g c = λ done.

@@ -1,9 +1,9 @@
-use Rattle.std.proofs.Common.{List, IsTrue, ◌≡◌, ◌++◌, ◌∷◌, ◌∙◌, [], ℕ, inl, inr, refl, ap, sym, subst, arith}
+use Rattle.std.proofs.Common.{List, IsTrue, ◌≡◌, ◌≤◌, ◌++◌, ◌∷◌, ◌∙◌, [], ℕ, inl, inr, refl, ap, sym, subst, arith}
 use mathlib.Core.List.{IsPrefix}
 use Rattle.journal_world.specs.declared.refusal.Refusal.{Refusal}
-use Rattle.journal_world.specs.Histories.{Entry, is_trusted, count}
+use Rattle.journal_world.specs.Histories.{Entry, is_trusted, count, floor}
 use Rattle.journal_world.specs.Histories.Entry.{stable}
-use Rattle.journal_world.proofs.Marks.{count-mark}
+use Rattle.journal_world.proofs.Marks.{count-mark, floor-mark}
 use Rattle.journal_world.proofs.Prefixes.{IsPrefix-trans}
 use Rattle.journal_objlog.proofs.Openings.{OnlyReads-refl}
 use Rattle.journal_tail.proofs.Exits.{if_err}
@@ -58,8 +58,8 @@ pub returns-in_err-mark-clause-crash : goal.returns-in_err-mark-clause-crash
 returns-in_err-mark-clause-crash g c =
     crashes_reads g.J.Naming.layout _ c.args.self.now c.args.self.now c.self.invariant c.self.view_is (OnlyReads-refl c.args.self.now.objects) refl
 
-pub note_all_logged-requires-clause-longer : goal.note_all_logged-requires-clause-longer
-note_all_logged-requires-clause-longer g c =
+pub set_all_marked-requires-clause-longer : goal.set_all_marked-requires-clause-longer
+set_all_marked-requires-clause-longer g c =
     let history : c.front.result ≡ c.args.volatile.now.ledger.history ++ stable c.commits-commits.result ∷ [] =
     c.front.ensures.history ∙ ap (λ (v : VolatileState). v.ledger.history) c.in_ok-mark.ensures.added in
     subst (λ (h : List Entry). IsPrefix c.args.self.now.front h) (sym history)
@@ -67,15 +67,23 @@ note_all_logged-requires-clause-longer g c =
     (subst (λ (d : DurableState). IsPrefix d.front c.args.volatile.now.ledger.history) c.self.view_is c.in_ok-front_over.ensures.begins)
     (stable c.commits-commits.result ∷ [], refl))
 
-pub note_all_logged-requires-clause-counted : goal.note_all_logged-requires-clause-counted
-note_all_logged-requires-clause-counted g c =
+pub set_all_marked-requires-clause-counted : goal.set_all_marked-requires-clause-counted
+set_all_marked-requires-clause-counted g c =
     let history : c.front.result ≡ c.args.volatile.now.ledger.history ++ stable c.commits-commits.result ∷ [] =
     c.front.ensures.history ∙ ap (λ (v : VolatileState). v.ledger.history) c.in_ok-mark.ensures.added in
     c.commits-commits.ensures
     ∙ sym (ap count history ∙ count-mark c.args.volatile.now.ledger.history c.commits-commits.result)
 
-pub note_all_logged-requires-clause-all : goal.note_all_logged-requires-clause-all
-note_all_logged-requires-clause-all g c =
+pub set_all_marked-requires-clause-floored : goal.set_all_marked-requires-clause-floored
+set_all_marked-requires-clause-floored g c =
+    let history : c.front.result ≡ c.args.volatile.now.ledger.history ++ stable c.commits-commits.result ∷ [] =
+    c.front.ensures.history ∙ ap (λ (v : VolatileState). v.ledger.history) c.in_ok-mark.ensures.added in
+    let low : floor c.args.volatile.now.ledger.history ≤ c.commits-commits.result =
+    omega (arith, above c.commits-commits.result c.floor.result c.if-le.ensures, c.floor.ensures) in
+    omega (arith, ap floor history ∙ floor-mark c.args.volatile.now.ledger.history c.commits-commits.result low)
+
+pub set_all_marked-requires-clause-all : goal.set_all_marked-requires-clause-all
+set_all_marked-requires-clause-all g c =
     let commits : c.commits-commits.result ≡ count c.args.volatile.now.ledger.history = c.commits-commits.ensures in
     let history : c.front.result ≡ c.args.volatile.now.ledger.history ++ stable (count c.args.volatile.now.ledger.history) ∷ [] =
     c.front.ensures.history ∙ ap (λ (v : VolatileState). v.ledger.history) c.in_ok-mark.ensures.added
@@ -93,14 +101,13 @@ returns-clause-marks g c = λ done.
       tail = c.if-awaits_logging.ensures.tail refl;
       more = omega (arith, above c.commits-commits.result c.floor.result c.if-le.ensures, c.floor.ensures, commits);
     } in
-    marks_all c.args.volatile.now c.mark.new.self c.args.self.now c.note_all_logged.new.self c.set_marked.new.self c.commits-commits.result c.front.result c.front-2.result due commits
-    c.in_ok-mark.ensures.added c.front.ensures.history
-    c.front-2.ensures.history c.note_all_logged.ensures.reaches c.set_marked.ensures.marks
+    marks_all c.args.volatile.now c.mark.new.self c.args.self.now c.set_all_marked.new.self c.commits-commits.result c.front.result due commits
+    c.in_ok-mark.ensures.added c.front.ensures.history c.set_all_marked.ensures.marks
 
 pub returns-clause-tied : goal.returns-clause-tied
 returns-clause-tied g c = λ tied.
     let commits : c.commits-commits.result ≡ count c.args.volatile.now.ledger.history = c.commits-commits.ensures in
-    tied_rest g.J.Naming.layout c.args.volatile.now c.mark.new.self c.args.self.now c.set_marked.new.self
+    tied_rest g.J.Naming.layout c.args.volatile.now c.mark.new.self c.args.self.now c.set_all_marked.new.self
     c.prove_invariant.ensures (subst (IsDurable g.J.Naming.layout) c.self.view_is c.self.invariant)
     (omega (arith, above c.commits-commits.result c.floor.result c.if-le.ensures, c.floor.ensures, commits))
     (returns-clause-marks g c refl) tied

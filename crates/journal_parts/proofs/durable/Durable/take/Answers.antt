@@ -1,6 +1,6 @@
-use Rattle.std.proofs.Common.{◌<◌, ⊎_elim, IsTrue, length, sym, subst, arith}
+use Rattle.std.proofs.Common.{◌<◌, ◌≤◌, ⊎_elim, IsTrue, length, sym, subst, arith}
 use mathlib.Core.List.{IsPrefix}
-use Rattle.journal_world.specs.Histories.{is_trusted}
+use Rattle.journal_world.specs.Histories.{is_trusted, floor}
 use Rattle.journal_wal.specs.Groups.{HasGroupRoom}
 use Rattle.journal_memory.specs.Updates.{HaveAllSince}
 use Rattle.journal_parts.specs.Durables.{DurableState}
@@ -24,6 +24,7 @@ invariant_of-self g c =
     (subst (λ (d : DurableState). HasGroupRoom d.objects (length c.args.group.items)) (sym c.self.view_is) c.requires.room)
     flying
     c.requires.counted
+    (subst (λ (d : DurableState). floor c.args.front ≤ d.marked) (sym c.self.view_is) c.requires.floored)
     (subst (λ (d : DurableState). IsTrue (is_trusted c.args.front) → HaveAllSince g.J.Naming.layout c.args.front d.logged c.args.group.items) (sym c.self.view_is) c.requires.all)
 
 pub returns-clause-crash : goal.returns-clause-crash
