@@ -1,9 +1,9 @@
-// The disk's lock: device calls, and the holds of both parts.
+// The disk's lock: device calls, the holds of both parts, and commits, which may have to fetch.
 //
 // A hold of the disk's lock makes at most one device call that changes the disk. Once that call is
 // over the hold may take the memory lock inside: to cut, to mark, to trim, or to note that the
 // device failed.
-ghost use Rattle.std.specs.Prelude.{◌≡◌, ◌≢◌, ◌<◌, [], length, IsTrue, IsOkUnless, IfOk, IfErr, OnOk, OnErr, MatchResult, All};
+ghost use Rattle.std.specs.Prelude.{true, ◌≡◌, ◌≢◌, ◌<◌, [], length, IsTrue, IsOkUnless, IfOk, IfErr, OnOk, OnErr, MatchResult, All};
 ghost use Rattle.journal_world.specs.Addresses.{is_valid};
 ghost use Rattle.journal_world.specs.Maps.{Map, Agrees, overwritten};
 ghost use Rattle.journal_world.specs.Histories.{is_trusted};
@@ -17,10 +17,13 @@ ghost use Rattle.journal_parts.specs.Durables.{disk_of, is_faulted};
 ghost use Rattle.journal_memory.specs.SlotCounts.{AreUnder};
 ghost use Rattle.journal_twophase.specs.Journals.{IsLogRefusal, IsInstallRefusal, IsFetchRefusal, IsCloseRefusal, IsImageRefusal};
 ghost use Rattle.journal_twophase.specs.Transactions.{KeepsHeld, ReadsObject, IsCheckRefusal};
-ghost use Rattle.journal_twophase.specs.Commits.{IsCommitted, ShowsFence, IsTryRefusal};
+ghost use Rattle.journal_twophase.specs.Commits.{IsCommitted, ShowsFence, IsTryRefusal, IsRefusedWhenFull};
 
 use crate::journal::{DiskLeft, RefusedClose};
-use crate::locked_parts::{JournalRefusal, LockedParts, UnderMemoryLock, is_past_threshold};
+use crate::locked_parts::{
+    AnsweredCommit, JournalRefusal, LockedParts, UnderMemoryLock, WhenFull, is_past_threshold,
+};
+use crate::spent::SpentTransaction;
 use journal_block::Block;
 use journal_disk::{BlockDisk, MemDisk};
 use journal_history::{Naming, Receipt, Session};
@@ -203,9 +206,76 @@ impl<'b, D: BlockDisk, R: MapRule, J: Naming> LockedParts<'b, D, R, J> {
         unreachable!()
     }
 
+    // Commits under the memory lock, which is held in the end. Blocks that it needs and memory
+    // lacks are fetched first. One that waits for room is tried again in each hold of the lock
+    // after a cut. The transaction is spent, so no caller commits it a second time.
+    pub(crate) fn commit_under<'s, W: Wait>(
+        &'s self,
+        rt: &W,
+        session: &mut Session<'b, J, R>,
+        transaction: Transaction<'b, J, R>,
+        held: &mut [Held<J>],
+        spares: &mut Spares,
+        when_full: WhenFull,
+    ) -> AnsweredCommit<'s, 'b, R, J>
+        requires rule { (m : Map) → m.layout ≡ J.layout → R.statement m → Agrees m transaction.reads
+            → R.statement (overwritten m transaction.writes) }
+        requires held { KeepsHeld J.layout held.old transaction }
+        ensures committed { IfOk result.answer (IsCommitted R.statement J.layout transaction.entry.seen transaction.entry session.old session.new) }
+        ensures refusal { IfErr result.answer (IsRefusedWhenFull when_full transaction.entry session.old) }
+        ensures fenced { IfErr result.answer (ShowsFence session.new) }
+        ensures session { OnErr result.answer (OnlyExtends session.old session.new) }
+        ensures held { OnErr result.answer (held.new ≡ held.old) }
+    {
+        let mut memory = self.lock_memory(rt);
+        let mut has_waited = false;
+        for _ in rt.forever() {
+            let nothing = self.empty_fetch(&transaction);
+            let step = memory
+                .volatile
+                .commit(rt, session, &transaction, held, spares, &nothing);
+            // Called for its contract: the history that the session has then seen is sound.
+            let _seen = session.seen();
+            let (guard, answer) = match step {
+                Ok(CommitStep::Done(receipt)) => (memory, Ok(receipt)),
+                Ok(CommitStep::Missing(_blocks)) => {
+                    drop(memory);
+                    self.commit_fetched(rt, session, &transaction, held, spares)
+                }
+                Err(why) => (memory, Err(why)),
+            };
+            if when_full.waits(&answer) {
+                memory = self.await_room(rt, guard, &mut has_waited);
+            } else {
+                return AnsweredCommit {
+                    memory: guard,
+                    answer,
+                    spent: SpentTransaction::new(transaction),
+                };
+            }
+        }
+        unreachable!()
+    }
+
+    // Waits for room, which a cut makes. A commit that waits again is counted once.
+    fn await_room<'s, W: Wait>(
+        &'s self,
+        rt: &W,
+        memory: MutexGuard<'s, UnderMemoryLock<'b, R, J>>,
+        has_waited: &mut bool,
+    ) -> MutexGuard<'s, UnderMemoryLock<'b, R, J>>
+        ensures noted { has_waited.new ≡ true }
+    {
+        if !*has_waited {
+            *has_waited = true;
+            self.room_waits.fetch_add(1, Ordering::SeqCst);
+        }
+        self.room.wait(rt, memory)
+    }
+
     // Commits, and fetches the blocks that memory still lacks, as `read_fetched` does. The memory
-    // lock is held in the end.
-    pub(crate) fn commit_fetched<'s, W: Wait>(
+    // lock is held in the end. It is lent the transaction, so `commit_under` alone calls it.
+    fn commit_fetched<'s, W: Wait>(
         &'s self,
         rt: &W,
         session: &mut Session<'b, J, R>,

@@ -27,16 +27,14 @@ use crate::waiters::MarkWaiters;
 use journal_disk::BlockDisk;
 use journal_history::{Book, Front, Naming, Receipt, Session};
 use journal_lockmap::{Held, SlotCell, Slots};
-use journal_memory::{
-    Cause, CommitStep, Fetched, ReadResult, SessionNumber, Spares, Transaction, Volatile,
-};
+use journal_memory::{Cause, Fetched, ReadResult, SessionNumber, Spares, Transaction, Volatile};
 use journal_parts::{Durable, open_parts};
 use journal_tail::Position;
 use journal_world::{Addr, CommitCount, Layout, MapRule, Refusal, Refused};
 use std::alloc::Global;
 use std::hint::spin_loop;
 use std::rt::Clock;
-use std::sync::atomic::{AtomicU64, Ordering};
+use std::sync::atomic::AtomicU64;
 use std::sync::{Condvar, CondvarTimeouts, Mutex, MutexGuard, Wait};
 use std::time::Duration;
 
@@ -73,7 +71,7 @@ pub(crate) enum WhenFull {
 
 impl WhenFull {
     // True if a commit with this answer waits for room, to be tried again.
-    fn waits<T, C>(self, answer: &Result<T, Refusal<C>>) -> bool
+    pub(crate) fn waits<T, C>(self, answer: &Result<T, Refusal<C>>) -> bool
         ensures { IsTrue result ↔ IsErrAnd answer.now (IsAwaited self) }
     {
         match answer {
@@ -583,73 +581,6 @@ impl<'b, D: BlockDisk, R: MapRule, J: Naming> LockedParts<'b, D, R, J> {
         self.wake_logger(wake);
         self.wake_after_fault(&answer);
         answer
-    }
-
-    // Commits under the memory lock, which is held in the end. Blocks that it needs and memory
-    // lacks are fetched first. One that waits for room is tried again in each hold of the lock
-    // after a cut. The transaction is spent, so no caller commits it a second time.
-    pub(crate) fn commit_under<'s, W: Wait>(
-        &'s self,
-        rt: &W,
-        session: &mut Session<'b, J, R>,
-        transaction: Transaction<'b, J, R>,
-        held: &mut [Held<J>],
-        spares: &mut Spares,
-        when_full: WhenFull,
-    ) -> AnsweredCommit<'s, 'b, R, J>
-        requires rule { (m : Map) → m.layout ≡ J.layout → R.statement m → Agrees m transaction.reads
-            → R.statement (overwritten m transaction.writes) }
-        requires held { KeepsHeld J.layout held.old transaction }
-        ensures committed { IfOk result.answer (IsCommitted R.statement J.layout transaction.entry.seen transaction.entry session.old session.new) }
-        ensures refusal { IfErr result.answer (IsRefusedWhenFull when_full transaction.entry session.old) }
-        ensures fenced { IfErr result.answer (ShowsFence session.new) }
-        ensures session { OnErr result.answer (OnlyExtends session.old session.new) }
-        ensures held { OnErr result.answer (held.new ≡ held.old) }
-    {
-        let mut memory = self.lock_memory(rt);
-        let mut has_waited = false;
-        for _ in rt.forever() {
-            let nothing = self.empty_fetch(&transaction);
-            let step = memory
-                .volatile
-                .commit(rt, session, &transaction, held, spares, &nothing);
-            // Called for its contract: the history that the session has then seen is sound.
-            let _seen = session.seen();
-            let (guard, answer) = match step {
-                Ok(CommitStep::Done(receipt)) => (memory, Ok(receipt)),
-                Ok(CommitStep::Missing(_blocks)) => {
-                    drop(memory);
-                    self.commit_fetched(rt, session, &transaction, held, spares)
-                }
-                Err(why) => (memory, Err(why)),
-            };
-            if when_full.waits(&answer) {
-                memory = self.await_room(rt, guard, &mut has_waited);
-            } else {
-                return AnsweredCommit {
-                    memory: guard,
-                    answer,
-                    spent: SpentTransaction::new(transaction),
-                };
-            }
-        }
-        unreachable!()
-    }
-
-    // Waits for room, which a cut makes. A commit that waits again is counted once.
-    fn await_room<'s, W: Wait>(
-        &'s self,
-        rt: &W,
-        memory: MutexGuard<'s, UnderMemoryLock<'b, R, J>>,
-        has_waited: &mut bool,
-    ) -> MutexGuard<'s, UnderMemoryLock<'b, R, J>>
-        ensures noted { has_waited.new ≡ true }
-    {
-        if !*has_waited {
-            *has_waited = true;
-            self.room_waits.fetch_add(1, Ordering::SeqCst);
-        }
-        self.room.wait(rt, memory)
     }
 
     // Wakes the logger from the wait that was ended.
