@@ -9,8 +9,8 @@ use Rattle.journal_inode.specs.declared.node.FileNode.{FileNode}
 use Rattle.journal_inode.specs.declared.node.Node.{Node}
 use Rattle.journal_inode.specs.declared.node.Node.TheVariants.{Root, File}
 use Rattle.journal_inode.specs.Sound.{node_at, IsInPlace, IsSoundFile, HasSoundFiles}
-use Rattle.journal_filestore.specs.declared.reply.Attributes.{Attributes}
-use Rattle.journal_filestore.specs.declared.status.Status.{Status}
+use Rattle.journal_file_types.specs.declared.reply.Attributes.{Attributes}
+use Rattle.journal_file_types.specs.declared.status.Status.{Status}
 use Rattle.journal_filestore.specs.declared.find.Target.{Target}
 use Rattle.journal_filestore.specs.declared.find.Target.TheVariants.{Gone, Directory, Regular}
 use Rattle.journal_filestore.specs.Files.{FileData, Files, is_file_number, with_entry, files_of}

@@ -18,14 +18,14 @@ use Rattle.journal_inode.specs.Nodes.{Fits}
 use Rattle.journal_inode.specs.Versions.{most_bytes, extra_count}
 use Rattle.journal_inode.specs.Sound.{node_at, content, IsSoundFile, HasSoundFiles}
 use Rattle.journal_inode.proofs.Blocks.{more_fits}
-use Rattle.journal_filestore.specs.declared.reply.Found.{Found}
-use Rattle.journal_filestore.specs.declared.status.Status.{Status}
-use Rattle.journal_filestore.specs.declared.status.Status.TheVariants.{Exists, TooBig, NoSpace, NotSupported}
-use Rattle.journal_filestore.specs.declared.settings.NewTime.{NewTime}
-use Rattle.journal_filestore.specs.declared.settings.NewTime.TheVariants.{Leave, Server, Client}
-use Rattle.journal_filestore.specs.declared.settings.Settings.{Settings}
-use Rattle.journal_filestore.specs.declared.settings.CreateMode.{CreateMode}
-use Rattle.journal_filestore.specs.declared.settings.CreateMode.TheVariants.{Unchecked, Guarded, Exclusive}
+use Rattle.journal_file_types.specs.declared.reply.Found.{Found}
+use Rattle.journal_file_types.specs.declared.status.Status.{Status}
+use Rattle.journal_file_types.specs.declared.status.Status.TheVariants.{Exists, TooBig, NoSpace, NotSupported}
+use Rattle.journal_file_types.specs.declared.settings.NewTime.{NewTime}
+use Rattle.journal_file_types.specs.declared.settings.NewTime.TheVariants.{Leave, Server, Client}
+use Rattle.journal_file_types.specs.declared.settings.Settings.{Settings}
+use Rattle.journal_file_types.specs.declared.settings.CreateMode.{CreateMode}
+use Rattle.journal_file_types.specs.declared.settings.CreateMode.TheVariants.{Unchecked, Guarded, Exclusive}
 use Rattle.journal_filestore.specs.Files.{FileData, Files, is_file_number, with_entry, entry_of, files_of}
 use Rattle.journal_filestore.specs.Operations.{attributes, attributes_of_node, of_root, number_of_name, is_no_time, is_too_big, time_after, resized, with_settings, new_file, created, create_new, create_file, create_number, create_how, create_case, file_target}
 use Rattle.journal_filestore.specs.declared.find.Target.{Target}

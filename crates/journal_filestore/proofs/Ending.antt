@@ -17,12 +17,12 @@ use Rattle.journal_twophase.specs.Transactions.{TxnState, core_of}
 use Rattle.journal_twophase.specs.Commits.{IsCommitted}
 use Rattle.journal_inode.specs.declared.version.FormatVersion.{FormatVersion}
 use Rattle.journal_inode.specs.Sound.{HasSoundFiles}
-use Rattle.journal_filestore.specs.declared.fault.Fault.{Fault}
-use Rattle.journal_filestore.specs.declared.fault.Fault.TheVariants.{Refused, Unsure}
-use Rattle.journal_filestore.specs.declared.pending_wait.PendingWait.{PendingWait}
-use Rattle.journal_filestore.specs.declared.pending_wait.PendingWait.TheVariants.{Nothing, Wait}
-use Rattle.journal_filestore.specs.declared.pending_wait.Committed.{Committed}
-use Rattle.journal_filestore.specs.declared.status.Status.{Status}
+use Rattle.journal_file_types.specs.declared.fault.Fault.{Fault}
+use Rattle.journal_file_types.specs.declared.fault.Fault.TheVariants.{Refused, Unsure}
+use Rattle.journal_file_types.specs.declared.pending_wait.PendingWait.{PendingWait}
+use Rattle.journal_file_types.specs.declared.pending_wait.PendingWait.TheVariants.{Nothing, Wait}
+use Rattle.journal_file_types.specs.declared.pending_wait.Committed.{Committed}
+use Rattle.journal_file_types.specs.declared.status.Status.{Status}
 use Rattle.journal_filestore.specs.Files.{Files, files_of}
 use Rattle.journal_filestore.specs.Doing.{Does}
 use Rattle.journal_filestore.specs.Done.{IsMadeAt, IsDone, IsOperationFault, IsAnswered, IsReceiptOf, IsWaitOf, IsCommittedBy, IsAnsweredNoWait, IsWaitOver, IsWait, pending_wait_for}

@@ -7,8 +7,8 @@ use Rattle.journal_inode.specs.declared.node.FileNode.{FileNode}
 use Rattle.journal_inode.specs.declared.node.Node.{Node}
 use Rattle.journal_inode.specs.declared.node.Node.TheVariants.{Free, Root, File}
 use Rattle.journal_inode.specs.Sound.{node_at, HasSoundFiles}
-use Rattle.journal_filestore.specs.declared.reply.Attributes.{Attributes}
-use Rattle.journal_filestore.specs.declared.status.Status.TheVariants.{NoEntry}
+use Rattle.journal_file_types.specs.declared.reply.Attributes.{Attributes}
+use Rattle.journal_file_types.specs.declared.status.Status.TheVariants.{NoEntry}
 use Rattle.journal_filestore.specs.Files.{is_file_number, files_of}
 use Rattle.journal_filestore.specs.Operations.{attributes_of_node, of_root, lookup_entry, lookup_number, remove_entry, remove_number}
 use Rattle.journal_filestore.specs.Doing.{Puts}

@@ -15,10 +15,11 @@ use Rattle.journal_inode.specs.Places.Object.{block}
 use Rattle.journal_inode.specs.Versions.{most_bytes, extra_count}
 use Rattle.journal_inode.specs.Sound.{file_blocks, held, stored, content, IsSoundFile}
 use Rattle.journal_inode.proofs.Blocks.{length-blocks, length-held}
-use Rattle.journal_filestore.specs.declared.read.TheConstants.{READ_BYTES}
-use Rattle.journal_filestore.specs.declared.reply.Attributes.{Attributes}
+use Rattle.journal_file_types.specs.declared.portion.TheConstants.{READ_BYTES}
+use Rattle.journal_file_types.specs.declared.reply.Attributes.{Attributes}
 use Rattle.journal_filestore.specs.Files.{files_of}
-use Rattle.journal_filestore.specs.Operations.{PortionState, attributes_of_node, portion, portion_length, read_case}
+use Rattle.journal_file_types.specs.Portions.{PortionState}
+use Rattle.journal_filestore.specs.Operations.{attributes_of_node, portion, portion_length, read_case}
 use Rattle.journal_filestore.specs.Operations.FileTarget.{file}
 use Rattle.journal_filestore.specs.Handles.{data_of}
 use Rattle.journal_filestore.specs.Doing.{LearnsThat, Leads, Makes}

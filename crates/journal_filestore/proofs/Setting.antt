@@ -22,8 +22,8 @@ use Rattle.journal_inode.specs.Nodes.{Fits}
 use Rattle.journal_inode.specs.Versions.{most_bytes, extra_count, room_of}
 use Rattle.journal_inode.specs.Sound.{node_at, file_blocks, held, content, IsSoundFile, HasSoundFiles}
 use Rattle.journal_inode.proofs.Blocks.{more_fits, room_enough, length-blocks, length-held}
-use Rattle.journal_filestore.specs.declared.settings.NewTime.{NewTime}
-use Rattle.journal_filestore.specs.declared.settings.NewTime.TheVariants.{Leave, Server, Client}
+use Rattle.journal_file_types.specs.declared.settings.NewTime.{NewTime}
+use Rattle.journal_file_types.specs.declared.settings.NewTime.TheVariants.{Leave, Server, Client}
 use Rattle.journal_filestore.specs.Files.{is_file_number}
 use Rattle.journal_filestore.specs.Operations.{time_after, is_no_time, is_too_big, attributes_of_node}
 use Rattle.journal_filestore.specs.Doing.{LearnsThat, WritesEach, AreClear, AreFresh, bits_written, file_written, Puts}

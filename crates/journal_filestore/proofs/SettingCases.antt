@@ -8,8 +8,8 @@ use Rattle.journal_inode.specs.declared.node.Time.{Time}
 use Rattle.journal_inode.specs.declared.node.FileNode.{FileNode}
 use Rattle.journal_inode.specs.Versions.{extra_count}
 use Rattle.journal_inode.specs.Sound.{content, IsSoundFile}
-use Rattle.journal_filestore.specs.declared.settings.Settings.{Settings}
-use Rattle.journal_filestore.specs.declared.status.Status.TheVariants.{Invalid, TooBig, NotSync, NoSpace}
+use Rattle.journal_file_types.specs.declared.settings.Settings.{Settings}
+use Rattle.journal_file_types.specs.declared.status.Status.TheVariants.{Invalid, TooBig, NotSync, NoSpace}
 use Rattle.journal_filestore.specs.Files.{FileData, Files}
 use Rattle.journal_filestore.specs.Operations.{attributes, attributes_of_node, changed, setattr_case, is_other_time, is_no_time, is_too_big, time_after, with_settings}
 use Rattle.journal_filestore.specs.Operations.FileTarget.{file}

@@ -17,8 +17,8 @@ use Rattle.journal_inode.specs.Nodes.{Fits}
 use Rattle.journal_inode.specs.Versions.{most_bytes, extra_count}
 use Rattle.journal_inode.specs.Sound.{file_blocks, held, content, IsSoundFile, HasSoundFiles}
 use Rattle.journal_inode.proofs.Blocks.{more_fits, length-blocks}
-use Rattle.journal_filestore.specs.declared.reply.Attributes.{Attributes}
-use Rattle.journal_filestore.specs.declared.status.Status.TheVariants.{Invalid, TooBig, NoSpace}
+use Rattle.journal_file_types.specs.declared.reply.Attributes.{Attributes}
+use Rattle.journal_file_types.specs.declared.status.Status.TheVariants.{Invalid, TooBig, NoSpace}
 use Rattle.journal_filestore.specs.Files.{FileData, Files, files_of}
 use Rattle.journal_filestore.specs.Operations.{attributes, attributes_of_node, changed, placed, with_data, lacks_blocks, write_case}
 use Rattle.journal_filestore.specs.Operations.FileTarget.{file}

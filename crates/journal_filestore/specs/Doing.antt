@@ -15,7 +15,7 @@ use Rattle.journal_inode.specs.Nodes.{inode_bytes}
 use Rattle.journal_inode.specs.Places.{Object, addr_of, IsOnDisk, object}
 use Rattle.journal_inode.specs.Places.Object.{bit, inode, block}
 use Rattle.journal_inode.specs.Sound.{HasSoundFiles}
-use Rattle.journal_filestore.specs.declared.status.Status.{Status}
+use Rattle.journal_file_types.specs.declared.status.Status.{Status}
 use Rattle.journal_filestore.specs.Files.{FileEntry, Files, files_of, with_entry}
 use Rattle.journal_filestore.specs.Operations.{Outcome}
 

@@ -7,8 +7,8 @@ use Rattle.journal_memory.specs.declared.refusal_number.RefusalNumber.TheVariant
 use Rattle.journal_memory.specs.Causes.{CauseState, IsUnexplained}
 use Rattle.journal_twophase.specs.Journals.{IsShown}
 use Rattle.journal_twophase.specs.Waits.{IsWaitRefusal}
-use Rattle.journal_filestore.specs.declared.fault.Fault.{Fault}
-use Rattle.journal_filestore.specs.declared.fault.Fault.TheVariants as fault
+use Rattle.journal_file_types.specs.declared.fault.Fault.{Fault}
+use Rattle.journal_file_types.specs.declared.fault.Fault.TheVariants as fault
 use Rattle.journal_filestore.specs.declared.operation.AttemptFault.{AttemptFault}
 use Rattle.journal_filestore.specs.declared.operation.AttemptFault.TheVariants.{Held, Refused}
 

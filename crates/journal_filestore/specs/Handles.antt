@@ -12,10 +12,10 @@ use Rattle.journal_inode.specs.Versions.{most_bytes}
 use Rattle.journal_inode.specs.Sound.{node_at, content}
 use Rattle.journal_filestore.specs.declared.find.Target.{Target}
 use Rattle.journal_filestore.specs.declared.find.Target.TheVariants.{Gone, Directory, Regular}
-use Rattle.journal_filestore.specs.declared.reply.Found.{Found}
-use Rattle.journal_filestore.specs.declared.settings.Settings.{Settings}
-use Rattle.journal_filestore.specs.declared.settings.CreateMode.{CreateMode}
-use Rattle.journal_filestore.specs.declared.settings.CreateMode.TheVariants.{Unchecked, Guarded, Exclusive}
+use Rattle.journal_file_types.specs.declared.reply.Found.{Found}
+use Rattle.journal_file_types.specs.declared.settings.Settings.{Settings}
+use Rattle.journal_file_types.specs.declared.settings.CreateMode.{CreateMode}
+use Rattle.journal_file_types.specs.declared.settings.CreateMode.TheVariants.{Unchecked, Guarded, Exclusive}
 use Rattle.journal_filestore.specs.Files.{FileData, is_file_number, files_of}
 use Rattle.journal_filestore.specs.Operations.{attributes_of_node, of_root, file_target}
 use Rattle.journal_filestore.specs.Operations.FileTarget.{gone, root, file}

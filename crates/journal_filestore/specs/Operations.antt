@@ -7,19 +7,20 @@ use Rattle.journal_inode.specs.declared.version.FormatVersion.TheVariants.{One, 
 use Rattle.journal_inode.specs.declared.node.Time.{Time}
 use Rattle.journal_inode.specs.declared.node.FileNode.{FileNode}
 use Rattle.journal_inode.specs.Versions.{most_bytes, extra_count}
-use Rattle.journal_filestore.specs.declared.read.TheConstants.{READ_BYTES}
-use Rattle.journal_filestore.specs.declared.status.Status.{Status}
-use Rattle.journal_filestore.specs.declared.status.Status.TheVariants.{NoEntry, Exists, NotDirectory, Invalid, TooBig, NoSpace, Stale, NotSync, NotSupported}
-use Rattle.journal_filestore.specs.declared.reply.Attributes.{Attributes}
-use Rattle.journal_filestore.specs.declared.reply.Changed.{Changed}
-use Rattle.journal_filestore.specs.declared.reply.Found.{Found}
-use Rattle.journal_filestore.specs.declared.settings.NewTime.{NewTime}
-use Rattle.journal_filestore.specs.declared.settings.NewTime.TheVariants.{Leave, Server, Client}
-use Rattle.journal_filestore.specs.declared.settings.Settings.{Settings}
-use Rattle.journal_filestore.specs.declared.settings.CreateMode.{CreateMode}
-use Rattle.journal_filestore.specs.declared.settings.CreateMode.TheVariants.{Unchecked, Guarded, Exclusive}
-use Rattle.journal_filestore.specs.declared.settings.Stability.{Stability}
-use Rattle.journal_filestore.specs.declared.settings.Stability.TheVariants.{Unstable, Stable}
+use Rattle.journal_file_types.specs.declared.portion.TheConstants.{READ_BYTES}
+use Rattle.journal_file_types.specs.declared.status.Status.{Status}
+use Rattle.journal_file_types.specs.declared.status.Status.TheVariants.{NoEntry, Exists, NotDirectory, Invalid, TooBig, NoSpace, Stale, NotSync, NotSupported}
+use Rattle.journal_file_types.specs.declared.reply.Attributes.{Attributes}
+use Rattle.journal_file_types.specs.declared.reply.Changed.{Changed}
+use Rattle.journal_file_types.specs.declared.reply.Found.{Found}
+use Rattle.journal_file_types.specs.declared.settings.NewTime.{NewTime}
+use Rattle.journal_file_types.specs.declared.settings.NewTime.TheVariants.{Leave, Server, Client}
+use Rattle.journal_file_types.specs.declared.settings.Settings.{Settings}
+use Rattle.journal_file_types.specs.declared.settings.CreateMode.{CreateMode}
+use Rattle.journal_file_types.specs.declared.settings.CreateMode.TheVariants.{Unchecked, Guarded, Exclusive}
+use Rattle.journal_file_types.specs.declared.settings.Stability.{Stability}
+use Rattle.journal_file_types.specs.declared.settings.Stability.TheVariants.{Unstable, Stable}
+use Rattle.journal_file_types.specs.Portions.{PortionState}
 use Rattle.journal_filestore.specs.Files.{FileData, FileEntry, Files, is_file_number, with_entry}
 
 -- The result of an operation: its answer, and the files after it
@@ -156,12 +157,7 @@ lookup_number F (Some i) = lookup_entry F i (F.at i)
 abbrev pub lookup_case : List ℕ → Files → FileTarget → Outcome Found
 lookup_case name F dir = in_root F dir (lookup_number F (number_of_name name))
 
--- READ: the attributes, the bytes, and whether they reach the file's end
-pub record PortionState : Type 0 where
-  pub file : Attributes
-  pub bytes : List ℕ
-  pub is_end : Bool
-
+-- READ: the bytes from an offset on, as far as the file has them
 abbrev pub portion : ℕ → ℕ → ℕ → FileData → PortionState
 portion offset n i d = record {
   file = attributes i d;

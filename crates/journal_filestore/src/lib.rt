@@ -20,32 +20,22 @@ mod block_reservation;
 mod blocks;
 mod commit;
 mod create;
-mod fault;
 mod find;
 mod getattr;
-mod handle;
 mod lookup;
 mod name;
 mod objects;
 mod operation;
-mod pending_wait;
-mod portion;
 mod read;
 mod remove;
 mod reply;
 mod set_file;
 mod set_size;
-mod settings;
-mod status;
 mod store;
 mod write;
 
-pub use fault::Fault;
-pub use handle::Handle;
-pub use pending_wait::{CommitResult, Committed, PendingWait};
-pub use portion::Portion;
-pub use read::READ_BYTES;
-pub use reply::{Attributes, Changed, Found};
-pub use settings::{CreateMode, NewTime, Settings, Stability};
-pub use status::Status;
-pub use store::{Answer, FileFault, FileStore};
+pub use journal_file_types::{
+    Answer, Attributes, Changed, Committed, CreateMode, Fault, Found, Handle, NewTime, PendingWait,
+    Portion, READ_BYTES, Settings, Stability, Status,
+};
+pub use store::{CommitResult, FileFault, FileStore};

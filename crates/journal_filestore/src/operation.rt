@@ -1,13 +1,14 @@
 // An operation on files, as one transaction, and why an attempt at it is undone.
 ghost use Rattle.std.specs.Prelude.{◌≡◌, [], Bool, IfOk, IfErr, Result};
 ghost use Rattle.journal_inode.specs.Places.{HasFiles};
-ghost use Rattle.journal_filestore.specs.declared.status.Status.{Status};
+ghost use Rattle.journal_file_types.specs.declared.status.Status.{Status};
 ghost use Rattle.journal_filestore.specs.Files.{Files};
 ghost use Rattle.journal_filestore.specs.Doing.{Does};
 ghost use Rattle.journal_filestore.specs.Faults.{IsAttemptEnd, fault_at};
 
+use crate::Answer;
 use crate::block_reservation::BlockReservation;
-use crate::store::{Answer, FileTxn};
+use crate::store::FileTxn;
 use journal_disk::BlockDisk;
 use journal_history::Naming;
 use journal_inode::{SoundFiles, Version};

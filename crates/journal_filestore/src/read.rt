@@ -13,17 +13,14 @@ use crate::blocks::read_blocks;
 use crate::find::{Target, find};
 use crate::operation::{AttemptEnd, Operation};
 use crate::reply::attributes_of;
-use crate::store::{Answer, FileFault, FileTxn};
-use crate::{FileStore, Handle, Portion, Status};
+use crate::store::{FileFault, FileTxn};
+use crate::{Answer, FileStore, Handle, Portion, READ_BYTES, Status};
 use journal_disk::BlockDisk;
 use journal_history::{Naming, Session};
 use journal_inode::{FormatVersion, SoundFiles, Version};
 use journal_world::BLOCK_BYTES;
 use std::alloc::Global;
 use std::sync::Wait;
-
-/// The most bytes that one READ gives.
-pub const READ_BYTES: u64 = 8192;
 
 // A portion of a file.
 #[derive(Drop)]

@@ -20,7 +20,7 @@ ghost use Rattle.journal_filestore.specs.Faults.{IsFilesRefusal, IsFaultOf};
 
 use crate::block_reservation::BlockReservation;
 use crate::operation::{AttemptFault, Operation};
-use crate::{CommitResult, Committed, Fault, PendingWait, Status};
+use crate::{Answer, Committed, Fault, PendingWait};
 use journal_alloc::Alloc;
 use journal_disk::BlockDisk;
 use journal_history::{Book, Naming, Receipt, Session};
@@ -33,11 +33,15 @@ use std::alloc::Global;
 use std::marker::Model;
 use std::sync::{Mutex, Wait};
 
-/// The answer of an operation: a success, or the case that is none. Either is committed.
-pub type Answer<A> = Result<A, Status>;
-
 /// Why an operation on files has no answer.
 pub type FileFault<'b, J, V = VersionOne> = Fault<Cause<'b, J, SoundFiles<V>>>;
+
+/// The result of an operation that is not waited for: committed, or refused by the journal, without
+/// a commit.
+pub type CommitResult<'b, J, A, V = VersionOne> = Result<
+    Committed<A, Receipt<'b, J, SoundFiles<V>>>,
+    Refusal<Cause<'b, J, SoundFiles<V>>>,
+>;
 
 /// Why the journal below refuses.
 pub(crate) type FileRefusal<'b, J, V> = Refusal<Cause<'b, J, SoundFiles<V>>>;

@@ -4,8 +4,8 @@ use Rattle.std.specs.Prelude.{◌==◌, MatchBool}
 use Rattle.journal_history.specs.Tokens.{SessionState}
 use Rattle.journal_inode.specs.declared.node.Time.{Time}
 use Rattle.journal_inode.specs.declared.version.FormatVersion.{FormatVersion}
-use Rattle.journal_filestore.specs.declared.reply.Attributes.{Attributes}
-use Rattle.journal_nfs3.specs.declared.results.NfsError.{NfsError}
+use Rattle.journal_file_types.specs.declared.reply.Attributes.{Attributes}
+use Rattle.journal_nfs3_wire.specs.declared.results.NfsError.{NfsError}
 use Rattle.journal_mount3.specs.Listings.{Listed, IsLongestFront, IsPage, Seen, SeesPage}
 use Rattle.journal_mount3.specs.Served.{Lists}
 use Rattle.journal_mount3.specs.Roots.{attributes_at}

@@ -12,18 +12,18 @@ use Rattle.journal_inode.specs.declared.version.FormatVersion.{FormatVersion}
 use Rattle.journal_rpc.specs.declared.replies.CallRefused.{CallRefused}
 use Rattle.journal_rpc.specs.Calls.{Asked, Message}
 use Rattle.journal_rpc.specs.Replies.{one_fragment, reply}
-use Rattle.journal_filestore.specs.declared.pending_wait.PendingWait.{PendingWait}
-use Rattle.journal_filestore.specs.declared.pending_wait.PendingWait.TheVariants.{Nothing, Wait}
+use Rattle.journal_file_types.specs.declared.pending_wait.PendingWait.{PendingWait}
+use Rattle.journal_file_types.specs.declared.pending_wait.PendingWait.TheVariants.{Nothing, Wait}
 use Rattle.journal_nfs3.specs.declared.pending.ReplyWait.{ReplyWait}
-use Rattle.journal_nfs3.specs.Arguments.{Operation}
-use Rattle.journal_nfs3.specs.declared.procedure.Procedure.{Procedure}
-use Rattle.journal_nfs3.specs.declared.results.FormatResults.{FormatResults}
-use Rattle.journal_nfs3.specs.declared.results.NfsError.{NfsError}
-use Rattle.journal_nfs3.specs.Results.{Results, results_text, procedure_of_results}
-use Rattle.journal_nfs3.specs.Profile.{results_of, refused_results}
-use Rattle.journal_nfs3.specs.Calls.{asks as asks_nine_alone}
+use Rattle.journal_nfs3_wire.specs.Arguments.{Operation}
+use Rattle.journal_nfs3_wire.specs.declared.procedure.Procedure.{Procedure}
+use Rattle.journal_nfs3_wire.specs.declared.results.FormatResults.{FormatResults}
+use Rattle.journal_nfs3_wire.specs.declared.results.NfsError.{NfsError}
+use Rattle.journal_nfs3_wire.specs.Results.{Results, results_text, procedure_of_results, IsResult}
+use Rattle.journal_nfs3_wire.specs.Profile.{results_of, refused_results}
+use Rattle.journal_nfs3_wire.specs.Calls.{asks as asks_nine_alone}
 use Rattle.journal_nfs3.specs.Served.{Standing, ServesAs, marked, awaiting, refusal_error}
-use Rattle.journal_nfs3.specs.Answers.{IsCallOf, IsResult, sent, pending_wait_for, procedure_for}
+use Rattle.journal_nfs3.specs.Answers.{IsCallOf, sent, pending_wait_for, procedure_for}
 use Rattle.journal_nfs3.proofs.Pendings.{call_paid, call_takes_place}
 use Rattle.journal_server.specs.FileProtocols.{IsAwaitedCall, StandsInFor}
 use Rattle.journal_mount3.specs.declared.results.Told as code_told

@@ -5,9 +5,9 @@ use Rattle.journal_inode.specs.declared.node.Time.{Time}
 use Rattle.journal_inode.specs.declared.version.FormatVersion.{FormatVersion}
 use Rattle.journal_rpc.specs.declared.replies.CallRefused.{CallRefused}
 use Rattle.journal_rpc.specs.Calls.{Message}
-use Rattle.journal_nfs3.specs.Arguments.{Operation}
-use Rattle.journal_nfs3.specs.Results.{Results, Null, GetAttributes, SetAttributes, Lookup, Read, Write, Create, Remove, Commit}
-use Rattle.journal_nfs3.specs.Calls as nine_calls
+use Rattle.journal_nfs3_wire.specs.Arguments.{Operation}
+use Rattle.journal_nfs3_wire.specs.Results.{Results, Null, GetAttributes, SetAttributes, Lookup, Read, Write, Create, Remove, Commit}
+use Rattle.journal_nfs3_wire.specs.Calls as nine_calls
 use Rattle.journal_nfs3.specs.Served.{Standing}
 use Rattle.journal_nfs3.specs.Answers.{ServesCall, AnswersAs, sent}
 use Rattle.journal_mount3.specs.Calls.{Requested, nine}

@@ -5,11 +5,11 @@ use Rattle.journal_world.specs.declared.layout.TheConstants.{BLOCK_BYTES, FIRST_
 use Rattle.journal_history.specs.Tokens.{SessionState}
 use Rattle.journal_inode.specs.declared.version.FormatVersion.{FormatVersion}
 use Rattle.journal_inode.specs.declared.version.FormatVersion.TheVariants.{One, Two}
-use Rattle.journal_filestore.specs.declared.reply.Attributes.{Attributes}
-use Rattle.journal_filestore.specs.declared.reply.Found.{Found}
-use Rattle.journal_nfs3.specs.declared.results.NfsError.{NfsError}
-use Rattle.journal_nfs3.specs.declared.results.NfsError.TheVariants.{NoEntry}
-use Rattle.journal_nfs3.specs.Profile.{used_bytes}
+use Rattle.journal_file_types.specs.declared.reply.Attributes.{Attributes}
+use Rattle.journal_file_types.specs.declared.reply.Found.{Found}
+use Rattle.journal_nfs3_wire.specs.declared.results.NfsError.{NfsError}
+use Rattle.journal_nfs3_wire.specs.declared.results.NfsError.TheVariants.{NoEntry}
+use Rattle.journal_nfs3_wire.specs.Profile.{used_bytes}
 use Rattle.journal_mount3.specs.declared.results.SpaceUse.{SpaceUse}
 use Rattle.journal_mount3.specs.Listings.{LooksUp, LooksAllUp, AreKnown, Listed, found_among, IsCutShort}
 use Rattle.journal_mount3.specs.Served.{used_by, FindsAll, Measures}

@@ -9,11 +9,11 @@ use Rattle.journal_world.specs.declared.refusal.Refusal.TheVariants.{NoMemory}
 use Rattle.journal_history.specs.Tokens.{SessionState, OnlyExtends}
 use Rattle.journal_memory.specs.Causes.{CauseState}
 use Rattle.journal_inode.specs.declared.version.FormatVersion.{FormatVersion}
-use Rattle.journal_filestore.specs.declared.fault.Fault.TheVariants.{Refused}
-use Rattle.journal_filestore.specs.declared.reply.Attributes.{Attributes}
-use Rattle.journal_filestore.specs.declared.reply.Found.{Found}
-use Rattle.journal_nfs3.specs.declared.results.NfsError.{NfsError}
-use Rattle.journal_nfs3.specs.declared.results.NfsError.TheVariants.{NoEntry, ServerFault}
+use Rattle.journal_file_types.specs.declared.fault.Fault.TheVariants.{Refused}
+use Rattle.journal_file_types.specs.declared.reply.Attributes.{Attributes}
+use Rattle.journal_file_types.specs.declared.reply.Found.{Found}
+use Rattle.journal_nfs3_wire.specs.declared.results.NfsError.{NfsError}
+use Rattle.journal_nfs3_wire.specs.declared.results.NfsError.TheVariants.{NoEntry, ServerFault}
 use Rattle.journal_mount3.proofs.Finding.{dot_found, file_found}
 use Rattle.journal_mount3.specs.Listings.{LooksUp, LooksAllUp, IsKnown, AreKnown, Listed, dots, with_found, found_among, first_number, IsLongestFront, IsPage, IsCutShort, Finds}
 

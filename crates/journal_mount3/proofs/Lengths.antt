@@ -10,10 +10,10 @@ use Rattle.journal_xdr.specs.BasicLaws.{length-word, length-hyper, length-boolea
 use Rattle.journal_xdr.specs.Lists.{link_text, list_text}
 use Rattle.journal_inode.specs.declared.node.Time.{Time}
 use Rattle.journal_inode.specs.declared.version.FormatVersion.{FormatVersion}
-use Rattle.journal_nfs3.specs.Arguments.{name, time}
-use Rattle.journal_nfs3.specs.Handles.{FileHandle, file_handle}
-use Rattle.journal_nfs3.specs.Results.{Fattr, fattr, given_handle, post_op_attributes}
-use Rattle.journal_nfs3.specs.Profile.{fattr_of}
+use Rattle.journal_nfs3_wire.specs.Arguments.{name, time}
+use Rattle.journal_nfs3_wire.specs.Handles.{FileHandle, file_handle}
+use Rattle.journal_nfs3_wire.specs.Results.{Fattr, fattr, given_handle, post_op_attributes}
+use Rattle.journal_nfs3_wire.specs.Profile.{fattr_of}
 use Rattle.journal_mount3.specs.Entries.{entry, entry_plus, entry_name, file_name}
 use Rattle.journal_mount3.specs.Results.{page_results}
 use Rattle.journal_mount3.specs.Listings.{Listed, plain_of, plus_of, page_of, cookie_verifier, FitsCount, FitsNames}

@@ -3,13 +3,13 @@ use Rattle.std.proofs.Common.{◌≡◌, Bool, true, false, Some, Result, Ok, Er
 use Rattle.std.specs.Prelude.{◌==◌}
 use Rattle.journal_inode.specs.declared.node.Time.{Time}
 use Rattle.journal_inode.specs.declared.version.FormatVersion.{FormatVersion}
-use Rattle.journal_filestore.specs.declared.reply.Attributes.{Attributes}
-use Rattle.journal_filestore.specs.declared.reply.Changed.{Changed}
-use Rattle.journal_filestore.specs.declared.reply.Found.{Found}
-use Rattle.journal_nfs3.specs.declared.results.NfsError.{NfsError}
-use Rattle.journal_nfs3.specs.declared.results.Results.TheVariants as code_result
-use Rattle.journal_nfs3.specs.Results.{Fattr, Change, Results, Null, GetAttributes, SetAttributes, Lookup, Read, Write, Create, Remove, Commit, procedure_of_results}
-use Rattle.journal_nfs3.specs.Profile.{fattr_of, change_of, unchanged_of, found_handle, results_of}
+use Rattle.journal_file_types.specs.declared.reply.Attributes.{Attributes}
+use Rattle.journal_file_types.specs.declared.reply.Changed.{Changed}
+use Rattle.journal_file_types.specs.declared.reply.Found.{Found}
+use Rattle.journal_nfs3_wire.specs.declared.results.NfsError.{NfsError}
+use Rattle.journal_nfs3_wire.specs.declared.results.Results.TheVariants as code_result
+use Rattle.journal_nfs3_wire.specs.Results.{Fattr, Change, Results, Null, GetAttributes, SetAttributes, Lookup, Read, Write, Create, Remove, Commit, procedure_of_results}
+use Rattle.journal_nfs3_wire.specs.Profile.{fattr_of, change_of, unchanged_of, found_handle, results_of}
 use Rattle.journal_mount3.specs.Roots.{attributes_at, changed_at, found_at, fattr_at, change_at, accepted_at, results_at}
 
 pub fattr_now : (now : Time) (version : FormatVersion) (a : Attributes) → fattr_at now (fattr_of version a) ≡ fattr_of version (attributes_at now a)

@@ -7,10 +7,10 @@ use Rattle.journal_xdr.specs.Basic.{word, hyper, boolean, string, opaque, fixed}
 use Rattle.journal_xdr.specs.BasicLaws.{length-word, length-hyper, length-boolean}
 use Rattle.journal_inode.specs.declared.node.Time.{Time}
 use Rattle.journal_inode.specs.declared.version.FormatVersion.{FormatVersion}
-use Rattle.journal_nfs3.specs.declared.results.NfsError.{NfsError}
-use Rattle.journal_nfs3.specs.Arguments.{time}
-use Rattle.journal_nfs3.specs.Handles.{file_handle}
-use Rattle.journal_nfs3.specs.Results.{status, error_number, Fattr, given_handle, post_op_attributes}
+use Rattle.journal_nfs3_wire.specs.declared.results.NfsError.{NfsError}
+use Rattle.journal_nfs3_wire.specs.Arguments.{time}
+use Rattle.journal_nfs3_wire.specs.Handles.{file_handle}
+use Rattle.journal_nfs3_wire.specs.Results.{status, error_number, Fattr, given_handle, post_op_attributes}
 use Rattle.journal_mount3.specs.declared.entry.PlainEntry as code_plain
 use Rattle.journal_mount3.specs.declared.entry.PlusEntry as code_plus
 use Rattle.journal_mount3.specs.declared.page.Listing.{Listing}

@@ -7,7 +7,7 @@ use Rattle.journal_xdr.specs.Items.{Item}
 use Rattle.journal_xdr.specs.Basic.{word, boolean, fixed}
 use Rattle.journal_xdr.specs.Lists.{link_text}
 use Rattle.journal_inode.specs.declared.version.FormatVersion.{FormatVersion}
-use Rattle.journal_nfs3.specs.declared.results.NfsError.{NfsError}
+use Rattle.journal_nfs3_wire.specs.declared.results.NfsError.{NfsError}
 use Rattle.journal_mount3.specs.declared.entry.PlainEntry as code_plain
 use Rattle.journal_mount3.specs.declared.entry.PlusEntry as code_plus
 use Rattle.journal_mount3.specs.declared.page.Listing.{Listing}

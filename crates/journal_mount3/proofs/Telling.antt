@@ -6,8 +6,8 @@ use Rattle.journal_world.specs.declared.layout.TheConstants.{BLOCK_BYTES, FIRST_
 use Rattle.journal_history.specs.Tokens.{SessionState}
 use Rattle.journal_inode.specs.declared.node.Time.{Time}
 use Rattle.journal_inode.specs.declared.version.FormatVersion.{FormatVersion}
-use Rattle.journal_filestore.specs.declared.reply.Attributes.{Attributes}
-use Rattle.journal_nfs3.specs.declared.results.NfsError.{NfsError}
+use Rattle.journal_file_types.specs.declared.reply.Attributes.{Attributes}
+use Rattle.journal_nfs3_wire.specs.declared.results.NfsError.{NfsError}
 use Rattle.journal_mount3.specs.declared.entry.PlainEntry as code_plain
 use Rattle.journal_mount3.specs.declared.entry.PlusEntry as code_plus
 use Rattle.journal_mount3.specs.declared.page.Listing.{Listing}

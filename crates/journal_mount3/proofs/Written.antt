@@ -4,10 +4,10 @@ use Rattle.journal_xdr.specs.Items.{Writes}
 use Rattle.journal_xdr.specs.Basic.{word, hyper}
 use Rattle.journal_inode.specs.Versions.{most_bytes}
 use Rattle.journal_inode.specs.declared.version.FormatVersion.{FormatVersion}
-use Rattle.journal_filestore.specs.declared.reply.Attributes.{Attributes}
-use Rattle.journal_nfs3.specs.Arguments.{time}
-use Rattle.journal_nfs3.specs.Results.{status, post_op_attributes}
-use Rattle.journal_nfs3.specs.Profile.{fattr_of}
+use Rattle.journal_file_types.specs.declared.reply.Attributes.{Attributes}
+use Rattle.journal_nfs3_wire.specs.Arguments.{time}
+use Rattle.journal_nfs3_wire.specs.Results.{status, post_op_attributes}
+use Rattle.journal_nfs3_wire.specs.Profile.{fattr_of}
 use Rattle.journal_mount3.specs.declared.results.SpaceUse.{SpaceUse}
 use Rattle.journal_mount3.specs.Results.{told, status_results, information_results}
 use Rattle.journal_mount3.specs.Served.{information_of}

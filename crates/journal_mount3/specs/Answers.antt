@@ -6,7 +6,7 @@ use Rattle.journal_inode.specs.declared.version.FormatVersion.{FormatVersion}
 use Rattle.journal_rpc.specs.declared.replies.CallRefused.{CallRefused}
 use Rattle.journal_rpc.specs.Calls.{Message}
 use Rattle.journal_rpc.specs.Replies.{one_fragment, reply}
-use Rattle.journal_nfs3.specs.Results.{Results, results_text}
+use Rattle.journal_nfs3_wire.specs.Results.{Results, results_text}
 use Rattle.journal_nfs3.specs.Served.{Standing, HasNoWait}
 use Rattle.journal_nfs3.specs.Answers.{ServesCall}
 use Rattle.journal_mount3.specs.Calls.{Requested, nine, query, mount, asks}

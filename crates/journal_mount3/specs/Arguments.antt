@@ -3,7 +3,7 @@
 use Rattle.std.specs.Prelude.{ℕ, List, Option, Some, None}
 use Rattle.journal_xdr.specs.Items.{Item, pair, mapped_item, only, variant}
 use Rattle.journal_xdr.specs.Basic.{word, hyper, fixed, string}
-use Rattle.journal_nfs3.specs.Arguments.{handle}
+use Rattle.journal_nfs3_wire.specs.Arguments.{handle}
 use Rattle.journal_mount3.specs.declared.arguments.PageArguments as code_page
 use Rattle.journal_mount3.specs.declared.arguments.PagePlusArguments as code_page_plus
 use Rattle.journal_mount3.specs.declared.arguments.Query as code_query

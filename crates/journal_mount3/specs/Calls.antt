@@ -4,10 +4,10 @@ use Rattle.std.specs.Prelude.{ℕ, ◌==◌, if◌then◌else◌, List, Option, 
 use Rattle.journal_rpc.specs.declared.replies.CallRefused.{CallRefused}
 use Rattle.journal_rpc.specs.declared.replies.CallRefused.TheVariants.{RpcMismatch, ProgramUnavailable, ProgramMismatch, ProcedureUnavailable, GarbageArguments}
 use Rattle.journal_rpc.specs.Calls.{Asked, OtherVersion, Procedure}
-use Rattle.journal_nfs3.specs.Arguments.{Operation, operation_of}
-use Rattle.journal_nfs3.specs.Calls.{called}
-use Rattle.journal_nfs3.specs.Procedures.{procedure_of}
-use Rattle.journal_nfs3.specs.Whole.{whole}
+use Rattle.journal_nfs3_wire.specs.Arguments.{Operation, operation_of}
+use Rattle.journal_nfs3_wire.specs.Calls.{called}
+use Rattle.journal_nfs3_wire.specs.Procedures.{procedure_of}
+use Rattle.journal_nfs3_wire.specs.Whole.{whole}
 use Rattle.journal_mount3.specs.declared.arguments.Query as code_query
 use Rattle.journal_mount3.specs.declared.arguments.MountCall as code_mount
 use Rattle.journal_mount3.specs.declared.arguments.Requested as code_requested

@@ -2,16 +2,16 @@
 use Rattle.std.specs.Prelude.{◌≡◌, ℕ, ◌-◌, ◌≤◌, true, false, List, [], ◌++◌, length, map, Option, Some, None, Result, Ok, Err}
 use Rattle.journal_inode.specs.declared.version.FormatVersion.{FormatVersion}
 use Rattle.journal_rpc.specs.declared.replies.CallRefused.{CallRefused}
-use Rattle.journal_nfs3.specs.declared.results.NfsError.{NfsError}
+use Rattle.journal_nfs3_wire.specs.declared.results.NfsError.{NfsError}
 use Rattle.journal_xdr.specs.Basic.{boolean, fixed}
 use Rattle.journal_xdr.specs.Lists.{list_text}
-use Rattle.journal_nfs3.specs.Results.{status, post_op_attributes, results_text, procedure_of_results}
-use Rattle.journal_nfs3.specs.Profile.{fattr_of, results_of}
+use Rattle.journal_nfs3_wire.specs.Results.{status, post_op_attributes, results_text, procedure_of_results}
+use Rattle.journal_nfs3_wire.specs.Profile.{fattr_of, results_of}
 use Rattle.journal_nfs3.specs.Answers.{IsCallOf}
-use Rattle.journal_nfs3.specs.Arguments.{Operation}
+use Rattle.journal_nfs3_wire.specs.Arguments.{Operation}
 use Rattle.journal_nfs3.specs.declared.pending.ReplyWait.{ReplyWait}
-use Rattle.journal_filestore.specs.declared.pending_wait.PendingWait.{PendingWait}
-use Rattle.journal_filestore.specs.declared.pending_wait.PendingWait.TheVariants.{Nothing, Wait}
+use Rattle.journal_file_types.specs.declared.pending_wait.PendingWait.{PendingWait}
+use Rattle.journal_file_types.specs.declared.pending_wait.PendingWait.TheVariants.{Nothing, Wait}
 use Rattle.journal_mount3.specs.declared.page.Entry as code_entry
 use Rattle.journal_mount3.specs.declared.entry.PlainEntry as code_plain
 use Rattle.journal_mount3.specs.declared.entry.PlusEntry as code_plus

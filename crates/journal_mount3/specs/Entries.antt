@@ -3,10 +3,10 @@ use Rattle.std.specs.Prelude.{ℕ, ◌+◌, ◌-◌, ◌/◌, ◌%◌, ◌==◌,
 use Rattle.journal_xdr.specs.Items.{Item, pair, mapped_item}
 use Rattle.journal_xdr.specs.Basic.{hyper, optional}
 use Rattle.journal_inode.specs.declared.version.FormatVersion.{FormatVersion}
-use Rattle.journal_nfs3.specs.Arguments.{name}
-use Rattle.journal_nfs3.specs.Handles.{FileHandle}
-use Rattle.journal_nfs3.specs.Results.{Fattr, given_handle, post_op_attributes}
-use Rattle.journal_nfs3.specs.Profile.{fattr_of}
+use Rattle.journal_nfs3_wire.specs.Arguments.{name}
+use Rattle.journal_nfs3_wire.specs.Handles.{FileHandle}
+use Rattle.journal_nfs3_wire.specs.Results.{Fattr, given_handle, post_op_attributes}
+use Rattle.journal_nfs3_wire.specs.Profile.{fattr_of}
 use Rattle.journal_mount3.specs.declared.page.Entry as code_entry
 
 -- entry3

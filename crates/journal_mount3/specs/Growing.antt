@@ -5,11 +5,11 @@ use mathlib.Core.List.{IsPrefix}
 use Rattle.journal_history.specs.Tokens.{SessionState}
 use Rattle.journal_inode.specs.declared.node.Time.{Time}
 use Rattle.journal_inode.specs.declared.version.FormatVersion.{FormatVersion}
-use Rattle.journal_filestore.specs.declared.pending_wait.PendingWait.TheVariants.{Nothing}
-use Rattle.journal_filestore.specs.declared.reply.Attributes.{Attributes}
-use Rattle.journal_filestore.specs.declared.reply.Found.{Found}
-use Rattle.journal_nfs3.specs.declared.results.NfsError.{NfsError}
-use Rattle.journal_nfs3.specs.Handles.{handle_in}
+use Rattle.journal_file_types.specs.declared.pending_wait.PendingWait.TheVariants.{Nothing}
+use Rattle.journal_file_types.specs.declared.reply.Attributes.{Attributes}
+use Rattle.journal_file_types.specs.declared.reply.Found.{Found}
+use Rattle.journal_nfs3_wire.specs.declared.results.NfsError.{NfsError}
+use Rattle.journal_nfs3_wire.specs.Handles.{handle_in}
 use Rattle.journal_nfs3.specs.Served.{awaiting}
 use Rattle.journal_mount3.specs.Arguments.{Query, Access, ReadDirectory, ReadDirectoryPlus, FileSystemStatus, FileSystemInformation, PathConfiguration}
 use Rattle.journal_mount3.specs.Listings.{IsLookup, Listed, LooksUp, LooksAllUp, IsPage, IsCutShort, Seen, SeesPage}

@@ -9,17 +9,17 @@ use Rattle.journal_memory.specs.Causes.{CauseState}
 use Rattle.journal_inode.specs.declared.node.Time.{Time}
 use Rattle.journal_inode.specs.declared.version.FormatVersion.{FormatVersion}
 use Rattle.journal_rpc.specs.declared.replies.CallRefused.{CallRefused}
-use Rattle.journal_filestore.specs.declared.pending_wait.PendingWait.{PendingWait}
-use Rattle.journal_filestore.specs.declared.pending_wait.PendingWait.TheVariants.{Wait}
+use Rattle.journal_file_types.specs.declared.pending_wait.PendingWait.{PendingWait}
+use Rattle.journal_file_types.specs.declared.pending_wait.PendingWait.TheVariants.{Wait}
 use Rattle.journal_filestore.specs.Done.{IsWaitOver}
-use Rattle.journal_nfs3.specs.declared.procedure.Procedure.{Procedure}
-use Rattle.journal_nfs3.specs.declared.procedure.Procedure.TheVariants as procedure
-use Rattle.journal_nfs3.specs.declared.results.NfsError.{NfsError}
-use Rattle.journal_nfs3.specs.Arguments.{Operation}
-use Rattle.journal_nfs3.specs.Results.{Results}
-use Rattle.journal_nfs3.specs.Profile.{refused_results}
+use Rattle.journal_nfs3_wire.specs.declared.procedure.Procedure.{Procedure}
+use Rattle.journal_nfs3_wire.specs.declared.procedure.Procedure.TheVariants as procedure
+use Rattle.journal_nfs3_wire.specs.declared.results.NfsError.{NfsError}
+use Rattle.journal_nfs3_wire.specs.Arguments.{Operation}
+use Rattle.journal_nfs3_wire.specs.Results.{Results}
+use Rattle.journal_nfs3_wire.specs.Profile.{refused_results}
 use Rattle.journal_nfs3.specs.Served.{Standing, marked, awaiting, refusal_error}
-use Rattle.journal_nfs3.specs.Calls as nine_calls
+use Rattle.journal_nfs3_wire.specs.Calls as nine_calls
 use Rattle.journal_nfs3.specs.Answers.{IsCallOf, sent}
 use Rattle.journal_nfs3.proofs.Pendings.{call_paid, call_stays, call_takes_place}
 use Rattle.journal_server.specs.FileProtocols.{IsFileLawful, StandsInFor}

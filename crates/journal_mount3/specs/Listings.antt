@@ -6,16 +6,16 @@ use Rattle.journal_history.specs.Tokens.{SessionState}
 use Rattle.journal_xdr.specs.Items.{Item}
 use Rattle.journal_inode.specs.declared.node.Time.{Time}
 use Rattle.journal_inode.specs.declared.version.FormatVersion.{FormatVersion}
-use Rattle.journal_filestore.specs.declared.pending_wait.PendingWait.TheVariants.{Nothing}
-use Rattle.journal_filestore.specs.declared.reply.Attributes.{Attributes}
-use Rattle.journal_filestore.specs.declared.reply.Found.{Found}
-use Rattle.journal_filestore.specs.declared.status.Status.{Status}
+use Rattle.journal_file_types.specs.declared.pending_wait.PendingWait.TheVariants.{Nothing}
+use Rattle.journal_file_types.specs.declared.reply.Attributes.{Attributes}
+use Rattle.journal_file_types.specs.declared.reply.Found.{Found}
+use Rattle.journal_file_types.specs.declared.status.Status.{Status}
 use Rattle.journal_filestore.specs.Files.{Files}
 use Rattle.journal_filestore.specs.Operations.{Op, Call as call, Reply as reply}
-use Rattle.journal_nfs3.specs.declared.results.NfsError.{NfsError}
-use Rattle.journal_nfs3.specs.declared.results.NfsError.TheVariants.{NoEntry, TooSmall}
-use Rattle.journal_nfs3.specs.Handles.{FileHandle}
-use Rattle.journal_nfs3.specs.Profile.{fattr_of}
+use Rattle.journal_nfs3_wire.specs.declared.results.NfsError.{NfsError}
+use Rattle.journal_nfs3_wire.specs.declared.results.NfsError.TheVariants.{NoEntry, TooSmall}
+use Rattle.journal_nfs3_wire.specs.Handles.{FileHandle}
+use Rattle.journal_nfs3_wire.specs.Profile.{fattr_of}
 use Rattle.journal_nfs3.specs.Served.{awaiting, TellsOutcome}
 use Rattle.journal_mount3.specs.Entries.{Entry, entry, EntryPlus, entry_name, file_name}
 use Rattle.journal_mount3.specs.Mounts.{root_handle}

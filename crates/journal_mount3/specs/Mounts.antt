@@ -4,8 +4,8 @@ use Rattle.std.specs.Str.{bytes_eq}
 use Rattle.journal_xdr.specs.Items.{Item, pair, mapped_item}
 use Rattle.journal_xdr.specs.Basic.{word, string}
 use Rattle.journal_xdr.specs.Lists.{array, list}
-use Rattle.journal_nfs3.specs.Handles.{FileHandle}
-use Rattle.journal_nfs3.specs.Results.{given_handle}
+use Rattle.journal_nfs3_wire.specs.Handles.{FileHandle}
+use Rattle.journal_nfs3_wire.specs.Results.{given_handle}
 use Rattle.journal_mount3.specs.Arguments.{MountCall, Null, Mount, Dump, Unmount, UnmountAll, Export, path}
 
 -- exportnode: a path, and the groups that may mount it, which are all where none is named

@@ -8,13 +8,13 @@ use Rattle.journal_inode.specs.declared.node.Time.{Time}
 use Rattle.journal_inode.specs.declared.version.FormatVersion.{FormatVersion}
 use Rattle.journal_rpc.specs.declared.replies.CallRefused.{CallRefused}
 use Rattle.journal_rpc.specs.Calls.{Message}
-use Rattle.journal_filestore.specs.declared.pending_wait.PendingWait.{PendingWait}
-use Rattle.journal_filestore.specs.declared.pending_wait.PendingWait.TheVariants.{Wait}
+use Rattle.journal_file_types.specs.declared.pending_wait.PendingWait.{PendingWait}
+use Rattle.journal_file_types.specs.declared.pending_wait.PendingWait.TheVariants.{Wait}
 use Rattle.journal_filestore.specs.Done.{IsWaitOver}
-use Rattle.journal_nfs3.specs.declared.procedure.Procedure.{Procedure}
-use Rattle.journal_nfs3.specs.Arguments.{Operation}
+use Rattle.journal_nfs3_wire.specs.declared.procedure.Procedure.{Procedure}
+use Rattle.journal_nfs3_wire.specs.Arguments.{Operation}
 use Rattle.journal_nfs3.specs.Served.{Standing, marked, awaiting, HasNoWait}
-use Rattle.journal_nfs3.specs.Calls as nine_calls
+use Rattle.journal_nfs3_wire.specs.Calls as nine_calls
 use Rattle.journal_nfs3.specs.Answers.{IsCallOf}
 use Rattle.journal_server.specs.FileProtocols.{IsFileLawful, IsAwaitedCall, StandsInFor}
 use Rattle.journal_protocol.specs.Grows.{grows-same}

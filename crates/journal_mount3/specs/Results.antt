@@ -5,9 +5,9 @@ use Rattle.journal_xdr.specs.Items.{Item, pair, mapped_item}
 use Rattle.journal_xdr.specs.Basic.{word, hyper, boolean, fixed}
 use Rattle.journal_xdr.specs.Lists.{list}
 use Rattle.journal_inode.specs.declared.node.Time.{Time}
-use Rattle.journal_nfs3.specs.declared.results.NfsError.{NfsError}
-use Rattle.journal_nfs3.specs.Arguments.{time}
-use Rattle.journal_nfs3.specs.Results.{Fattr, post_op_attributes, outcome}
+use Rattle.journal_nfs3_wire.specs.declared.results.NfsError.{NfsError}
+use Rattle.journal_nfs3_wire.specs.Arguments.{time}
+use Rattle.journal_nfs3_wire.specs.Results.{Fattr, post_op_attributes, outcome}
 use Rattle.journal_mount3.specs.Entries.{Entry, entry, EntryPlus, entry_plus}
 
 -- ACCESS3resok

@@ -1,10 +1,10 @@
 -- The root's times. In each reply they are the moment of the call.
 use Rattle.std.specs.Prelude.{◌≡◌, ◌==◌, Bool, false, if◌then◌else◌, Option, Some, None, Result, Ok, Err}
 use Rattle.journal_inode.specs.declared.node.Time.{Time}
-use Rattle.journal_filestore.specs.declared.reply.Attributes.{Attributes}
-use Rattle.journal_filestore.specs.declared.reply.Changed.{Changed}
-use Rattle.journal_filestore.specs.declared.reply.Found.{Found}
-use Rattle.journal_nfs3.specs.Results.{Fattr, Before, Change, Results, Null, GetAttributes, SetAttributes, Lookup, Read, Write, Create, Remove, Commit}
+use Rattle.journal_file_types.specs.declared.reply.Attributes.{Attributes}
+use Rattle.journal_file_types.specs.declared.reply.Changed.{Changed}
+use Rattle.journal_file_types.specs.declared.reply.Found.{Found}
+use Rattle.journal_nfs3_wire.specs.Results.{Fattr, Before, Change, Results, Null, GetAttributes, SetAttributes, Lookup, Read, Write, Create, Remove, Commit}
 
 -- ---- attributes as the file store gives them
 

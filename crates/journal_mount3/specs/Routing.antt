@@ -3,12 +3,12 @@ use Rattle.std.proofs.Common.{◌≡◌, ℕ, Bool, true, false, List, Option, S
 use Rattle.std.specs.Prelude.{◌==◌}
 use Rattle.std.proofs.lemmas.Bool.{eqb-true}
 use Rattle.journal_rpc.specs.Calls.{Asked, OtherVersion, Procedure}
-use Rattle.journal_nfs3.specs.declared.procedure.Procedure as file_procedure
-use Rattle.journal_nfs3.specs.declared.procedure.Procedure.TheVariants.{Null, GetAttributes, SetAttributes, Lookup, Read, Write, Create, Remove, Commit}
-use Rattle.journal_nfs3.specs.Procedures.{procedure_of, procedure_number, procedure_back}
-use Rattle.journal_nfs3.specs.Arguments.{Operation}
-use Rattle.journal_nfs3.specs.Calls.{called, asks as asks_nine_alone}
-use Rattle.journal_nfs3.specs.Whole.{whole}
+use Rattle.journal_nfs3_wire.specs.declared.procedure.Procedure as file_procedure
+use Rattle.journal_nfs3_wire.specs.declared.procedure.Procedure.TheVariants.{Null, GetAttributes, SetAttributes, Lookup, Read, Write, Create, Remove, Commit}
+use Rattle.journal_nfs3_wire.specs.Procedures.{procedure_of, procedure_number, procedure_back}
+use Rattle.journal_nfs3_wire.specs.Arguments.{Operation}
+use Rattle.journal_nfs3_wire.specs.Calls.{called, asks as asks_nine_alone}
+use Rattle.journal_nfs3_wire.specs.Whole.{whole}
 use Rattle.journal_rpc.specs.declared.replies.CallRefused.{CallRefused}
 use Rattle.journal_rpc.specs.declared.replies.CallRefused.TheVariants.{ProgramUnavailable, ProgramMismatch}
 use Rattle.journal_mount3.specs.declared.procedure.QueryProcedure.{QueryProcedure}

@@ -5,16 +5,16 @@ use Rattle.journal_history.specs.Tokens.{SessionState}
 use Rattle.journal_inode.specs.declared.node.Time.{Time}
 use Rattle.journal_inode.specs.declared.version.FormatVersion.{FormatVersion}
 use Rattle.journal_inode.specs.Versions.{most_bytes}
-use Rattle.journal_filestore.specs.declared.pending_wait.PendingWait.TheVariants.{Nothing}
-use Rattle.journal_filestore.specs.declared.reply.Attributes.{Attributes}
-use Rattle.journal_filestore.specs.declared.reply.Found.{Found}
-use Rattle.journal_filestore.specs.declared.status.Status.{Status}
+use Rattle.journal_file_types.specs.declared.pending_wait.PendingWait.TheVariants.{Nothing}
+use Rattle.journal_file_types.specs.declared.reply.Attributes.{Attributes}
+use Rattle.journal_file_types.specs.declared.reply.Found.{Found}
+use Rattle.journal_file_types.specs.declared.status.Status.{Status}
 use Rattle.journal_filestore.specs.Files.{Files}
 use Rattle.journal_filestore.specs.Operations.{Op, Call as call, Reply as reply}
-use Rattle.journal_nfs3.specs.declared.results.NfsError.{NfsError}
-use Rattle.journal_nfs3.specs.declared.results.NfsError.TheVariants.{NotDirectory}
-use Rattle.journal_nfs3.specs.Handles.{FileHandle, handle_in}
-use Rattle.journal_nfs3.specs.Profile.{fattr_of, used_bytes}
+use Rattle.journal_nfs3_wire.specs.declared.results.NfsError.{NfsError}
+use Rattle.journal_nfs3_wire.specs.declared.results.NfsError.TheVariants.{NotDirectory}
+use Rattle.journal_nfs3_wire.specs.Handles.{FileHandle, handle_in}
+use Rattle.journal_nfs3_wire.specs.Profile.{fattr_of, used_bytes}
 use Rattle.journal_nfs3.specs.Served.{awaiting, TellsOutcome}
 use Rattle.journal_mount3.specs.Arguments.{Query, Access, ReadDirectory, ReadDirectoryPlus, FileSystemStatus, FileSystemInformation, PathConfiguration}
 use Rattle.journal_mount3.specs.Entries.{entry, entry_plus}

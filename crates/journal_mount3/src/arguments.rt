@@ -1,5 +1,5 @@
 // What callers ask beside the nine procedures.
-use journal_nfs3::Operation;
+use journal_nfs3_wire::Operation;
 
 // A part of a listing that is asked for (RFC 1813, section 3.3.16): what stands behind a cookie.
 #[derive(Clone, Copy, Debug)]

@@ -3,13 +3,13 @@ ghost use Rattle.std.specs.Prelude.{◌≡◌};
 ghost use Rattle.journal_rpc.specs.CallViews.{asked_of};
 ghost use Rattle.journal_mount3.specs.Arguments.{query_arguments, mount_arguments};
 ghost use Rattle.journal_mount3.specs.Procedures.{query_procedure_of, mount_procedure_of};
-ghost use Rattle.journal_nfs3.specs.Whole.{whole};
+ghost use Rattle.journal_nfs3_wire.specs.Whole.{whole};
 ghost use Rattle.journal_mount3.specs.Calls.{asks, asks_files, asks_mount, decided, found_query, found_mount};
 
 use crate::arguments::{MountCall, Query, Requested};
 use crate::procedure::{MountProcedure, QueryProcedure};
 use crate::reading::{read_mount, read_query};
-use journal_nfs3::{PROGRAM, VERSION, decide_procedure};
+use journal_nfs3_wire::{PROGRAM, VERSION, decide_procedure};
 use journal_rpc::{Call, CallRefused};
 use journal_xdr::{Enumeration, Reader};
 

@@ -2,14 +2,14 @@
 ghost use Rattle.std.specs.Prelude.{◌≡◌, ◌≤◌, ◌+◌, ◌%◌, OnOk, OnErr, List, ℕ, ◌++◌};
 ghost use Rattle.journal_xdr.specs.Items.{Writes};
 ghost use Rattle.journal_inode.specs.declared.version.FormatVersion.{FormatVersion};
-ghost use Rattle.journal_nfs3.specs.Arguments.{name};
+ghost use Rattle.journal_nfs3_wire.specs.Arguments.{name};
 ghost use Rattle.journal_mount3.specs.declared.page.TheConstants.{LAST_COOKIE};
 ghost use Rattle.journal_mount3.specs.Entries.{file_name, entry_name, entry, entry_of};
 
 use crate::page::Entry;
 use journal_filestore::Attributes;
 use journal_inode::FormatVersion;
-use journal_nfs3::{write_after, write_handle};
+use journal_nfs3_wire::{write_after, write_handle};
 use journal_xdr::{Element, Writer};
 use std::alloc::AllocError;
 

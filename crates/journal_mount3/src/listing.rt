@@ -1,8 +1,8 @@
 // Listings: what stands behind a cookie, a page at a time.
 ghost use Rattle.std.specs.Prelude.{◌≡◌, ◌≤◌, ◌<◌, ◌-◌, ◌/◌, min, ℕ, List, [], length, IfOk, IfSome, IfNone, Result};
 ghost use Rattle.std.specs.List.{All};
-ghost use Rattle.journal_filestore.specs.declared.reply.Attributes.{Attributes};
-ghost use Rattle.journal_nfs3.specs.declared.results.NfsError.{NfsError};
+ghost use Rattle.journal_file_types.specs.declared.reply.Attributes.{Attributes};
+ghost use Rattle.journal_nfs3_wire.specs.declared.results.NfsError.{NfsError};
 ghost use Rattle.journal_mount3.specs.declared.page.TheConstants.{LAST_COOKIE};
 ghost use Rattle.journal_mount3.specs.Listings.{Seen, LooksFor, Finds, Fills};
 ghost use Rattle.journal_mount3.specs.Served.{TellsThen, Lists};
@@ -15,7 +15,8 @@ use journal_disk::BlockDisk;
 use journal_filestore::{Attributes, FileStore, Found};
 use journal_history::{Naming, Session};
 use journal_inode::{SoundFiles, Time, Version};
-use journal_nfs3::{DirectoryEntry, NfsError, get_attributes, look_up};
+use journal_nfs3::{get_attributes, look_up};
+use journal_nfs3_wire::{DirectoryEntry, NfsError};
 use std::alloc::Global;
 use std::sync::Wait;
 

@@ -1,6 +1,6 @@
 // NFS and MOUNT where the files are only read.
 ghost use Rattle.std.specs.Prelude.{◌≡◌, ℕ, List, Ok, IfOk, IfSome, IfNone, OnErr};
-ghost use Rattle.journal_nfs3.specs.Arguments.{operation_of};
+ghost use Rattle.journal_nfs3_wire.specs.Arguments.{operation_of};
 ghost use Rattle.journal_mount3.specs.Arguments.{Access};
 ghost use Rattle.journal_mount3.specs.Calls.{query, decided};
 ghost use Rattle.journal_mount3.specs.Answers.{sent_text};
@@ -15,7 +15,8 @@ use journal_disk::BlockDisk;
 use journal_filestore::FileStore;
 use journal_history::{Naming, Receipt, Session};
 use journal_inode::{SoundFiles, Time, Version};
-use journal_nfs3::{Operation, PendingReply, Procedure, Verifier};
+use journal_nfs3::PendingReply;
+use journal_nfs3_wire::{Operation, Procedure, Verifier};
 use journal_rpc::{Call, CallRefused, Results, write_reply};
 use journal_server::{FileProtocol, Programs};
 use journal_world::{Layout, Moment, Refusal};

@@ -7,8 +7,8 @@ ghost use Rattle.journal_filestore.specs.Handles.{time_of};
 ghost use Rattle.journal_nfs3.specs.Served.{marked, awaiting};
 ghost use Rattle.journal_nfs3.specs.Answers.{pending_wait_for};
 ghost use Rattle.journal_server.specs.FileProtocols.{IsAwaitedCall};
-ghost use Rattle.journal_nfs3.specs.Arguments.{operation_of};
-ghost use Rattle.journal_nfs3.specs.Calls.{asks as asks_nine};
+ghost use Rattle.journal_nfs3_wire.specs.Arguments.{operation_of};
+ghost use Rattle.journal_nfs3_wire.specs.Calls.{asks as asks_nine};
 ghost use Rattle.journal_mount3.specs.Calls.{nine, asks};
 ghost use Rattle.journal_mount3.specs.Answers.{AnswersBoth, Comes};
 ghost use Rattle.journal_mount3.specs.CodeViews.{told_text, texts_of, reply_wait_of, IsWaitFor};
@@ -22,9 +22,8 @@ use journal_disk::BlockDisk;
 use journal_filestore::{FileStore, PendingWait};
 use journal_history::{Naming, Receipt, Session};
 use journal_inode::{SoundFiles, Time, Version};
-use journal_nfs3::{
-    FormatResults, Operation, Pending, PendingReply, ReplyWait, Results, Verifier, serve_no_wait,
-};
+use journal_nfs3::{Pending, PendingReply, ReplyWait, serve_no_wait};
+use journal_nfs3_wire::{FormatResults, Operation, Results, Verifier};
 use journal_rpc::{Call, CallRefused, write_reply};
 use journal_world::{Layout, Moment};
 use std::alloc::{AllocError, Global};

@@ -11,7 +11,7 @@ use crate::writing::{
 };
 use journal_filestore::Attributes;
 use journal_inode::FormatVersion;
-use journal_nfs3::{FormatResults, NfsError};
+use journal_nfs3_wire::{FormatResults, NfsError};
 use journal_xdr::Writer;
 use std::alloc::AllocError;
 

@@ -3,12 +3,12 @@
 // see what another client makes or removes.
 ghost use Rattle.std.specs.Prelude.{◌≡◌};
 ghost use Rattle.journal_inode.specs.declared.version.FormatVersion.{FormatVersion};
-ghost use Rattle.journal_nfs3.specs.Profile.{results_of};
+ghost use Rattle.journal_nfs3_wire.specs.Profile.{results_of};
 ghost use Rattle.journal_mount3.specs.Roots.{attributes_at, changed_at, found_at, accepted_at, results_at};
 
 use journal_filestore::{Attributes, Changed, Found};
 use journal_inode::Time;
-use journal_nfs3::{NfsError, Results};
+use journal_nfs3_wire::{NfsError, Results};
 
 // The number of the root directory's inode.
 pub(crate) const ROOT: u32 = 1;

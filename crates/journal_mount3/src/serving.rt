@@ -1,7 +1,7 @@
 // What is asked beside the nine procedures, answered.
 ghost use Rattle.std.specs.Prelude.{◌≡◌, ℕ, Result, IfOk, IfErr};
-ghost use Rattle.journal_filestore.specs.declared.reply.Attributes.{Attributes};
-ghost use Rattle.journal_nfs3.specs.declared.results.NfsError.{NfsError};
+ghost use Rattle.journal_file_types.specs.declared.reply.Attributes.{Attributes};
+ghost use Rattle.journal_nfs3_wire.specs.declared.results.NfsError.{NfsError};
 ghost use Rattle.journal_mount3.specs.Arguments.{query_of, mount_call_of};
 ghost use Rattle.journal_mount3.specs.Mounts.{mount_text, is_exported};
 ghost use Rattle.journal_mount3.specs.Listings.{IsCutShort};
@@ -17,7 +17,8 @@ use journal_disk::BlockDisk;
 use journal_filestore::{Attributes, FileStore};
 use journal_history::{Naming, Session};
 use journal_inode::{SoundFiles, Time, Version};
-use journal_nfs3::{NfsError, get_attributes, used_bytes};
+use journal_nfs3::get_attributes;
+use journal_nfs3_wire::{NfsError, used_bytes};
 use journal_world::{BLOCK_BYTES, FIRST_DATA, Layout};
 use std::alloc::Global;
 use std::sync::Wait;

@@ -11,7 +11,7 @@ use crate::results::{Granted, MountResults, SpaceUse};
 use crate::root::ROOT;
 use journal_filestore::Attributes;
 use journal_inode::{FormatVersion, Time};
-use journal_nfs3::{NfsError, Untold, write_after, write_handle, write_status, write_time};
+use journal_nfs3_wire::{NfsError, Untold, write_after, write_handle, write_status, write_time};
 use journal_xdr::{Element, Writer};
 use std::alloc::AllocError;
 

@@ -11,22 +11,22 @@ use Rattle.journal_inode.specs.declared.node.Time.{Time}
 use Rattle.journal_inode.specs.Sound.{HasSoundFiles}
 use Rattle.journal_rpc.specs.declared.replies.CallRefused.{CallRefused}
 use Rattle.journal_rpc.specs.Replies.{one_fragment, reply}
-use Rattle.journal_filestore.specs.declared.pending_wait.PendingWait.{PendingWait}
-use Rattle.journal_filestore.specs.declared.pending_wait.PendingWait.TheVariants.{Nothing, Wait}
+use Rattle.journal_file_types.specs.declared.pending_wait.PendingWait.{PendingWait}
+use Rattle.journal_file_types.specs.declared.pending_wait.PendingWait.TheVariants.{Nothing, Wait}
 use Rattle.journal_filestore.specs.Done.{IsWaitOver}
-use Rattle.journal_nfs3.specs.declared.procedure.Procedure.{Procedure}
-use Rattle.journal_nfs3.specs.declared.procedure.Procedure.TheVariants as procedure
-use Rattle.journal_nfs3.specs.declared.results.NfsError.{NfsError}
-use Rattle.journal_nfs3.specs.declared.results.NfsError.TheVariants.{ServerFault}
+use Rattle.journal_nfs3_wire.specs.declared.procedure.Procedure.{Procedure}
+use Rattle.journal_nfs3_wire.specs.declared.procedure.Procedure.TheVariants as procedure
+use Rattle.journal_nfs3_wire.specs.declared.results.NfsError.{NfsError}
+use Rattle.journal_nfs3_wire.specs.declared.results.NfsError.TheVariants.{ServerFault}
 use Rattle.journal_nfs3.specs.declared.pending.ReplyWait.{ReplyWait}
 use Rattle.journal_nfs3.specs.declared.pending.PendingReply.{PendingReply}
-use Rattle.journal_nfs3.specs.Arguments.{Operation}
-use Rattle.journal_nfs3.specs.Results.{Results, results_text, procedure_of_results}
-use Rattle.journal_nfs3.specs.declared.results.FormatResults.{FormatResults}
-use Rattle.journal_nfs3.specs.Profile.{results_of, refused_results}
+use Rattle.journal_nfs3_wire.specs.Arguments.{Operation}
+use Rattle.journal_nfs3_wire.specs.Results.{Results, results_text, procedure_of_results, IsResult}
+use Rattle.journal_nfs3_wire.specs.declared.results.FormatResults.{FormatResults}
+use Rattle.journal_nfs3_wire.specs.Profile.{results_of, refused_results}
 use Rattle.journal_nfs3.specs.Served.{refusal_error, marked, awaiting, HasNoWait}
-use Rattle.journal_nfs3.specs.Answers.{procedure_for, IsResult, ServesCall, sent, outcome_seen, AnswersAs, Answers, pending_wait_for, awaited_of, IsCallOf, AnswersNoWait, TakesPlace}
-use Rattle.journal_nfs3.proofs.ResultFacts.{null_result, get_attributes_err, set_attributes_err, lookup_err, read_err, write_err, create_err, remove_err, commit_err}
+use Rattle.journal_nfs3.specs.Answers.{procedure_for, ServesCall, sent, outcome_seen, AnswersAs, Answers, pending_wait_for, awaited_of, IsCallOf, AnswersNoWait, TakesPlace}
+use Rattle.journal_nfs3_wire.proofs.ResultFacts.{null_result, get_attributes_err, set_attributes_err, lookup_err, read_err, write_err, create_err, remove_err, commit_err}
 use Rattle.journal_nfs3.proofs.Standings.{serves_paid, serves_stays, serves_waited, serves_takes_place, serves_unsure}
 
 -- ---- the results of a refusal

@@ -8,20 +8,20 @@ use Rattle.journal_memory.specs.Causes.{CauseState}
 use Rattle.journal_inode.specs.declared.version.FormatVersion.{FormatVersion}
 use Rattle.journal_inode.specs.declared.node.Time.{Time}
 use Rattle.journal_inode.specs.Sound.{HasSoundFiles}
-use Rattle.journal_filestore.specs.declared.fault.Fault.{Fault}
-use Rattle.journal_filestore.specs.declared.fault.Fault.TheVariants.{Refused, Unsure}
-use Rattle.journal_filestore.specs.declared.pending_wait.Committed.{Committed}
-use Rattle.journal_filestore.specs.declared.pending_wait.PendingWait.{PendingWait}
-use Rattle.journal_filestore.specs.declared.pending_wait.PendingWait.TheVariants.{Nothing, Wait}
-use Rattle.journal_filestore.specs.declared.status.Status.{Status}
+use Rattle.journal_file_types.specs.declared.fault.Fault.{Fault}
+use Rattle.journal_file_types.specs.declared.fault.Fault.TheVariants.{Refused, Unsure}
+use Rattle.journal_file_types.specs.declared.pending_wait.Committed.{Committed}
+use Rattle.journal_file_types.specs.declared.pending_wait.PendingWait.{PendingWait}
+use Rattle.journal_file_types.specs.declared.pending_wait.PendingWait.TheVariants.{Nothing, Wait}
+use Rattle.journal_file_types.specs.declared.status.Status.{Status}
 use Rattle.journal_filestore.specs.Files.{Files}
 use Rattle.journal_filestore.specs.Done.{IsAnswered, IsWaitOf, IsCommittedBy, IsAnsweredNoWait, IsWaitOver}
 use Rattle.journal_filestore.proofs.Ending.{IsDone-paid, IsFault-unpaid}
-use Rattle.journal_nfs3.specs.declared.results.NfsError.{NfsError}
-use Rattle.journal_nfs3.specs.Arguments.{Operation, Null, GetAttributes, SetAttributes, Lookup, Read, Write, Create, Remove, Commit}
-use Rattle.journal_nfs3.specs.Handles.{FileHandle}
-use Rattle.journal_nfs3.specs.Results.{Results}
-use Rattle.journal_nfs3.specs.Profile.{refused_results}
+use Rattle.journal_nfs3_wire.specs.declared.results.NfsError.{NfsError}
+use Rattle.journal_nfs3_wire.specs.Arguments.{Operation, Null, GetAttributes, SetAttributes, Lookup, Read, Write, Create, Remove, Commit}
+use Rattle.journal_nfs3_wire.specs.Handles.{FileHandle}
+use Rattle.journal_nfs3_wire.specs.Results.{Results}
+use Rattle.journal_nfs3_wire.specs.Profile.{refused_results}
 use Rattle.journal_nfs3.specs.Served.{refusal_error, committed_answer, committed_wait, Standing, marked, awaiting, HasNoWait, IsDoneAs, IsAnsweredAs, TellsOutcome, Performs, ServesAs}
 use Rattle.journal_nfs3.specs.Answers.{procedure_for}
 

@@ -17,7 +17,7 @@ use Rattle.journal_inode.specs.Versions.{most_bytes, room_of}
 use Rattle.journal_inode.specs.Sound.{node_at, file_blocks, IsInPlace, HasSoundFiles}
 use Rattle.journal_inode.proofs.Blocks.{length-blocks}
 use Rattle.journal_filestore.specs.Operations.{attributes_of_node}
-use Rattle.journal_nfs3.specs.Profile.{used_bytes, fattr_of}
+use Rattle.journal_nfs3_wire.specs.Profile.{used_bytes, fattr_of}
 
 -- an inode's further blocks have each a number
 more_whole : (v : Value) (f : FileNode) → node_of v ≡ File f → length f.more ≡ MORE_BLOCKS

@@ -1,21 +1,21 @@
 -- Which reply belongs to a call (RFC 5531, section 9; RFC 1813, section 3.3).
-use Rattle.std.specs.Prelude.{ℕ, ◌≡◌, ◌<◌, ◌^◌, List, length, Option, Some, None, Result, Ok, Err, IfSome}
+use Rattle.std.specs.Prelude.{ℕ, ◌≡◌, List, Option, Some, None, Result, Ok, Err, IfSome}
 use Rattle.journal_world.specs.Histories.{Entry}
 use Rattle.journal_history.specs.Tokens.{SessionState, CommitPlace}
 use Rattle.journal_inode.specs.declared.node.Time.{Time}
 use Rattle.journal_inode.specs.declared.version.FormatVersion.{FormatVersion}
 use Rattle.journal_rpc.specs.declared.replies.CallRefused.{CallRefused}
 use Rattle.journal_rpc.specs.Replies.{one_fragment, reply}
-use Rattle.journal_filestore.specs.declared.pending_wait.PendingWait.{PendingWait}
-use Rattle.journal_filestore.specs.declared.pending_wait.PendingWait.TheVariants.{Nothing, Wait}
-use Rattle.journal_nfs3.specs.declared.procedure.Procedure.{Procedure}
-use Rattle.journal_nfs3.specs.declared.procedure.Procedure.TheVariants as procedure
+use Rattle.journal_file_types.specs.declared.pending_wait.PendingWait.{PendingWait}
+use Rattle.journal_file_types.specs.declared.pending_wait.PendingWait.TheVariants.{Nothing, Wait}
+use Rattle.journal_nfs3_wire.specs.declared.procedure.Procedure.{Procedure}
+use Rattle.journal_nfs3_wire.specs.declared.procedure.Procedure.TheVariants as procedure
 use Rattle.journal_nfs3.specs.declared.pending.ReplyWait.{ReplyWait}
 use Rattle.journal_nfs3.specs.declared.pending.PendingReply.{PendingReply}
-use Rattle.journal_nfs3.specs.Arguments.{Operation, Null, GetAttributes, SetAttributes, Lookup, Read, Write, Create, Remove, Commit}
-use Rattle.journal_nfs3.specs.declared.results.FormatResults.{FormatResults}
-use Rattle.journal_nfs3.specs.Results.{Results, results, results_text, procedure_of_results}
-use Rattle.journal_nfs3.specs.Profile.{results_of}
+use Rattle.journal_nfs3_wire.specs.Arguments.{Operation, Null, GetAttributes, SetAttributes, Lookup, Read, Write, Create, Remove, Commit}
+use Rattle.journal_nfs3_wire.specs.declared.results.FormatResults.{FormatResults}
+use Rattle.journal_nfs3_wire.specs.Results.{Results, results_text, procedure_of_results, IsResult}
+use Rattle.journal_nfs3_wire.specs.Profile.{results_of}
 use Rattle.journal_nfs3.specs.Served.{Standing, marked, awaiting, HasNoWait, ServesAs}
 
 abbrev pub procedure_for : Operation → Procedure
@@ -28,12 +28,6 @@ procedure_for (Write h offset count how bytes) = procedure.Write
 procedure_for (Create e how) = procedure.Create
 procedure_for (Remove e) = procedure.Remove
 procedure_for (Commit h offset count) = procedure.Commit
-
--- The results are in the grammar of their procedure's, and a reply with them is no longer than a
--- fragment may be
-pub record IsResult (r : Results) : Type 0 where
-  pub has : (results (procedure_of_results r)).Has r
-  pub short : length (results_text r) < 2 ^ 30
 
 -- The outcome of a call, and how far it is: why it is refused, and then it does nothing; or the
 -- results of its operation, which is done

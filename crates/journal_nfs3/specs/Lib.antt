@@ -1,9 +1,2 @@
-pub mod Procedures
-pub mod Arguments
-pub mod Whole
-pub mod Handles
-pub mod Calls
-pub mod Results
-pub mod Profile
 pub mod Served
 pub mod Answers

@@ -10,28 +10,28 @@ use Rattle.journal_history.specs.Tokens.{SessionState, OnlyExtends, IsExact, Com
 use Rattle.journal_memory.specs.Causes.{CauseState}
 use Rattle.journal_inode.specs.declared.node.Time.{Time}
 use Rattle.journal_inode.specs.declared.version.FormatVersion.{FormatVersion}
-use Rattle.journal_filestore.specs.declared.fault.Fault.{Fault}
-use Rattle.journal_filestore.specs.declared.fault.Fault.TheVariants.{Refused, Unsure}
-use Rattle.journal_filestore.specs.declared.pending_wait.Committed.{Committed}
-use Rattle.journal_filestore.specs.declared.pending_wait.PendingWait.{PendingWait}
-use Rattle.journal_filestore.specs.declared.pending_wait.PendingWait.TheVariants.{Nothing}
-use Rattle.journal_filestore.specs.declared.settings.Settings.{Settings}
-use Rattle.journal_filestore.specs.declared.settings.CreateMode as file_mode
-use Rattle.journal_filestore.specs.declared.settings.CreateMode.TheVariants as file_modes
-use Rattle.journal_filestore.specs.declared.status.Status.{Status}
-use Rattle.journal_filestore.specs.declared.status.Status.TheVariants as status
+use Rattle.journal_file_types.specs.declared.fault.Fault.{Fault}
+use Rattle.journal_file_types.specs.declared.fault.Fault.TheVariants.{Refused, Unsure}
+use Rattle.journal_file_types.specs.declared.pending_wait.Committed.{Committed}
+use Rattle.journal_file_types.specs.declared.pending_wait.PendingWait.{PendingWait}
+use Rattle.journal_file_types.specs.declared.pending_wait.PendingWait.TheVariants.{Nothing}
+use Rattle.journal_file_types.specs.declared.settings.Settings.{Settings}
+use Rattle.journal_file_types.specs.declared.settings.CreateMode as file_mode
+use Rattle.journal_file_types.specs.declared.settings.CreateMode.TheVariants as file_modes
+use Rattle.journal_file_types.specs.declared.status.Status.{Status}
+use Rattle.journal_file_types.specs.declared.status.Status.TheVariants as status
 use Rattle.journal_filestore.specs.Files.{Files}
 use Rattle.journal_filestore.specs.Operations.{Op, Call as call, Reply as reply}
 use Rattle.journal_filestore.specs.Done.{IsMadeAt, IsWaitOf}
-use Rattle.journal_nfs3.specs.declared.arguments.NewAttributes.{NewAttributes}
-use Rattle.journal_nfs3.specs.declared.arguments.StableHow.{StableHow}
-use Rattle.journal_nfs3.specs.declared.arguments.StableHow.TheVariants.{Unstable, DataSync, FileSync}
-use Rattle.journal_nfs3.specs.declared.results.NfsError.{NfsError}
-use Rattle.journal_nfs3.specs.declared.results.NfsError.TheVariants.{NoEntry, Io, Exists, NotDirectory, Invalid, TooBig, NoSpace, Stale, BadHandle, NotSync, NotSupported, ServerFault, Jukebox}
-use Rattle.journal_nfs3.specs.Arguments.{How, Unchecked, Guarded, Exclusive, Operation, Operation as operation}
-use Rattle.journal_nfs3.specs.Handles.{FileHandle, handle_in}
-use Rattle.journal_nfs3.specs.Results.{Results, Null, GetAttributes, SetAttributes, Lookup, Read, Write, Create, Remove, Commit}
-use Rattle.journal_nfs3.specs.Profile.{fattr_of, change_of, unchanged_of, no_change, lookup_of, read_results_of, write_of, create_of, commit_of, outcome_of}
+use Rattle.journal_nfs3_wire.specs.declared.arguments.NewAttributes.{NewAttributes}
+use Rattle.journal_nfs3_wire.specs.declared.arguments.StableHow.{StableHow}
+use Rattle.journal_nfs3_wire.specs.declared.arguments.StableHow.TheVariants.{Unstable, DataSync, FileSync}
+use Rattle.journal_nfs3_wire.specs.declared.results.NfsError.{NfsError}
+use Rattle.journal_nfs3_wire.specs.declared.results.NfsError.TheVariants.{NoEntry, Io, Exists, NotDirectory, Invalid, TooBig, NoSpace, Stale, BadHandle, NotSync, NotSupported, ServerFault, Jukebox}
+use Rattle.journal_nfs3_wire.specs.Arguments.{How, Unchecked, Guarded, Exclusive, Operation, Operation as operation}
+use Rattle.journal_nfs3_wire.specs.Handles.{FileHandle, handle_in}
+use Rattle.journal_nfs3_wire.specs.Results.{Results, Null, GetAttributes, SetAttributes, Lookup, Read, Write, Create, Remove, Commit}
+use Rattle.journal_nfs3_wire.specs.Profile.{fattr_of, change_of, unchanged_of, no_change, lookup_of, read_results_of, write_of, create_of, commit_of, outcome_of}
 
 -- ---- what the file store is asked
 

@@ -1,15 +1,14 @@
 // The calls of the file store, and its answers in the protocol's words.
 ghost use Rattle.std.specs.Prelude.{◌≡◌};
 ghost use Rattle.journal_filestore.specs.Operations.{is_waiting};
-ghost use Rattle.journal_nfs3.specs.Arguments.{how_of};
+ghost use Rattle.journal_nfs3_wire.specs.Arguments.{how_of};
 ghost use Rattle.journal_nfs3.specs.Served.{settings_of, create_mode_of, waits, error_of, refusal_error, answer_to_nfs, to_nfs, committed_answer, committed_wait};
 
-use crate::arguments::{CreateHow, NewAttributes, StableHow};
 use crate::pending::Pending;
-use crate::results::NfsError;
 use journal_filestore::{
     Answer, Committed, CreateMode, Fault, PendingWait, Settings, Stability, Status,
 };
+use journal_nfs3_wire::{CreateHow, NewAttributes, NfsError, StableHow};
 use journal_world::Refusal;
 
 // An answer of the file store in the protocol's words, or that it has none.

@@ -1,5 +1,5 @@
-// Laws of all arguments and results.
-ghost use Rattle.std.specs.Prelude.{◌≡◌, ◌↔◌, ◌<◌, ◌≤◌, ◌*◌, ℕ, List, length, IsTrue, Option, Result, Some, Ok, Err};
+// Laws of all answers.
+ghost use Rattle.std.specs.Prelude.{◌≡◌, ◌<◌, ◌≤◌, ◌*◌, ℕ, List, length, IsTrue, Result};
 ghost use Rattle.journal_world.specs.declared.layout.TheConstants.{BLOCK_BYTES};
 ghost use Rattle.journal_world.specs.Maps.{Map};
 ghost use Rattle.journal_world.specs.Histories.{Entry, floor};
@@ -10,46 +10,16 @@ ghost use Rattle.journal_inode.specs.declared.node.FileNode.{FileNode};
 ghost use Rattle.journal_inode.specs.declared.node.Node.TheVariants.{File};
 ghost use Rattle.journal_inode.specs.declared.place.TheConstants.{INODES};
 ghost use Rattle.journal_inode.specs.Sound.{node_at, file_blocks, HasSoundFiles};
-ghost use Rattle.journal_xdr.specs.Items.{IsGrammar};
-ghost use Rattle.journal_filestore.specs.declared.pending_wait.PendingWait.{PendingWait};
+ghost use Rattle.journal_file_types.specs.declared.pending_wait.PendingWait.{PendingWait};
 ghost use Rattle.journal_filestore.specs.Done.{IsWaitOver};
 ghost use Rattle.journal_filestore.specs.Operations.{attributes_of_node};
 ghost use Rattle.journal_history.specs.Tokens.{CommitPlace};
 ghost use Rattle.journal_rpc.specs.declared.replies.CallRefused.{CallRefused};
-ghost use Rattle.journal_rpc.specs.declared.replies.CallRefused.TheVariants.{GarbageArguments};
-ghost use Rattle.journal_nfs3.specs.declared.procedure.Procedure.{Procedure};
-ghost use Rattle.journal_nfs3.specs.Arguments.{Operation, arguments};
-ghost use Rattle.journal_nfs3.specs.Whole.{IsSpelling};
-ghost use Rattle.journal_nfs3.specs.Handles.{FileHandle, used_handle, handle_in};
-ghost use Rattle.journal_nfs3.specs.Calls.{called};
-ghost use Rattle.journal_nfs3.specs.Results.{Results, results};
-ghost use Rattle.journal_nfs3.specs.Profile.{fattr_of};
+ghost use Rattle.journal_nfs3_wire.specs.Arguments.{Operation};
+ghost use Rattle.journal_nfs3_wire.specs.Results.{Results};
+ghost use Rattle.journal_nfs3_wire.specs.Profile.{fattr_of};
 ghost use Rattle.journal_nfs3.specs.Served.{marked, awaiting, Serves, has_to_wait, is_accepted, CommitsOnceAt, IsMarked};
 ghost use Rattle.journal_nfs3.specs.Answers.{AnswersAs};
-
-/// A procedure's arguments are an item: what is read is spelled so, and what is spelled so is read
-/// (RFC 1813, section 3.3). An operation is run exactly where the arguments are its spelling, and
-/// they are refused exactly where they are the spelling of none.
-pub fn arguments_are_spellings()
-    ensures items { (procedure : Procedure) → IsGrammar (arguments procedure) }
-    ensures runs { (procedure : Procedure) (bytes : List ℕ) (operation : Operation)
-        → (called (Some procedure) bytes ≡ Ok operation) ↔ IsSpelling (arguments procedure) bytes operation }
-    ensures garbage { (procedure : Procedure) (bytes : List ℕ)
-        → (called (Some procedure) bytes ≡ Err GarbageArguments)
-        ↔ ((operation : Operation) → ¬ (IsSpelling (arguments procedure) bytes operation)) }
-{}
-
-/// So are a procedure's results.
-pub fn results_are_spellings()
-    ensures items { (procedure : Procedure) → IsGrammar (results procedure) }
-{}
-
-/// A handle is 12 bytes, which name one inode and a generation; other bytes are none.
-pub fn handles_are_spellings()
-    ensures item { IsGrammar used_handle }
-    ensures named { (bytes : List ℕ) (handle : FileHandle)
-        → (handle_in bytes ≡ Some handle) ↔ IsSpelling used_handle bytes handle }
-{}
 
 /// If an operation that waits until it is stable is answered OK, the session has one more commit,
 /// and has seen a mark that covers it, at its place, and all commits before it. So it is of COMMIT

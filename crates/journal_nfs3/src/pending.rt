@@ -1,9 +1,9 @@
 // Answers whose wait is still pending.
 ghost use Rattle.std.specs.Prelude.{◌≡◌};
-ghost use Rattle.journal_filestore.specs.declared.pending_wait.PendingWait.TheVariants.{Nothing};
+ghost use Rattle.journal_file_types.specs.declared.pending_wait.PendingWait.TheVariants.{Nothing};
 
-use crate::procedure::Procedure;
 use journal_filestore::PendingWait;
+use journal_nfs3_wire::Procedure;
 
 /// The answer to an operation that is not waited for, and its pending wait.
 #[derive(Drop)]

@@ -1,30 +1,29 @@
 // Running the operations on the file store, each up to its commit.
 ghost use Rattle.std.specs.Prelude.{◌≡◌, true, false, Result};
-ghost use Rattle.journal_filestore.specs.declared.pending_wait.PendingWait.TheVariants.{Nothing};
+ghost use Rattle.journal_file_types.specs.declared.pending_wait.PendingWait.TheVariants.{Nothing};
 ghost use Rattle.journal_inode.specs.declared.node.Time.{Time};
 ghost use Rattle.journal_filestore.specs.Handles.{time_of};
 ghost use Rattle.journal_filestore.specs.Operations.{Op};
 ghost use Rattle.journal_filestore.specs.Operations.Call.{getattr, setattr, lookup, read, write, create, remove, commit};
 ghost use Rattle.journal_filestore.specs.Operations.Reply.{got, set, found, bytes_read, wrote, made, removed, committed};
-ghost use Rattle.journal_nfs3.specs.declared.results.Results.TheVariants as results;
-ghost use Rattle.journal_nfs3.specs.Arguments.{operation_of, how_of};
-ghost use Rattle.journal_nfs3.specs.Handles.{handle_in};
-ghost use Rattle.journal_nfs3.specs.Results.{procedure_of_results};
-ghost use Rattle.journal_nfs3.specs.Profile.{results_of};
+ghost use Rattle.journal_nfs3_wire.specs.declared.results.Results.TheVariants as results;
+ghost use Rattle.journal_nfs3_wire.specs.Arguments.{operation_of, how_of};
+ghost use Rattle.journal_nfs3_wire.specs.Handles.{handle_in};
+ghost use Rattle.journal_nfs3_wire.specs.Results.{procedure_of_results};
+ghost use Rattle.journal_nfs3_wire.specs.Profile.{results_of};
 ghost use Rattle.journal_nfs3.specs.Served.{settings_of, create_mode_of, waits, awaiting, TellsOutcome, ServesAs};
 ghost use Rattle.journal_nfs3.specs.Answers.{procedure_for};
 
-use crate::arguments::{
-    CreateArguments, DirectoryEntry, FileRange, Operation, SetArguments, WriteArguments,
-};
 use crate::convert::{create_mode_of, settings_of, stability_of, to_nfs, to_nfs_no_wait};
-use crate::handle::read_handle;
 use crate::pending::Pending;
-use crate::results::{NfsError, Results, Verifier};
 use journal_disk::BlockDisk;
 use journal_filestore::{Attributes, Changed, FileStore, Found, Portion};
 use journal_history::{Naming, Receipt, Session};
 use journal_inode::{SoundFiles, Version};
+use journal_nfs3_wire::{
+    CreateArguments, DirectoryEntry, FileRange, NfsError, Operation, Results, SetArguments,
+    Verifier, WriteArguments, read_handle,
+};
 use journal_world::Moment;
 use std::sync::Wait;
 

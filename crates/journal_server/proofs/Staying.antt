@@ -12,9 +12,9 @@ use Rattle.journal_inode.specs.declared.version.FormatVersion.{FormatVersion}
 use Rattle.journal_inode.specs.declared.node.Time.{Time}
 use Rattle.journal_rpc.specs.declared.replies.CallRefused.{CallRefused}
 use Rattle.journal_rpc.specs.Calls.{Message, message}
-use Rattle.journal_nfs3.specs.Arguments.{Operation}
-use Rattle.journal_nfs3.specs.Results.{Results}
-use Rattle.journal_nfs3.specs.Calls.{asks}
+use Rattle.journal_nfs3_wire.specs.Arguments.{Operation}
+use Rattle.journal_nfs3_wire.specs.Results.{Results}
+use Rattle.journal_nfs3_wire.specs.Calls.{asks}
 use Rattle.journal_nfs3.specs.Served.{marked, has_to_wait, is_accepted, CommitsOnceAt, IsMarked}
 use Rattle.journal_nfs3.specs.Answers.{ServesCall}
 use Rattle.journal_nfs3.proofs.Marked.{HasMarked, serves_marked_in}

@@ -5,12 +5,12 @@ use Rattle.journal_world.specs.Histories.{Entry, floor}
 use Rattle.journal_history.specs.Tokens.{SessionState, CommitPlace}
 use Rattle.journal_inode.specs.declared.node.Time.{Time}
 use Rattle.journal_rpc.specs.Calls.{Message}
-use Rattle.journal_filestore.specs.declared.pending_wait.PendingWait.{PendingWait}
-use Rattle.journal_filestore.specs.declared.pending_wait.PendingWait.TheVariants.{Wait}
+use Rattle.journal_file_types.specs.declared.pending_wait.PendingWait.{PendingWait}
+use Rattle.journal_file_types.specs.declared.pending_wait.PendingWait.TheVariants.{Wait}
 use Rattle.journal_filestore.specs.Done.{IsWaitOver}
-use Rattle.journal_nfs3.specs.declared.procedure.Procedure.{Procedure}
+use Rattle.journal_nfs3_wire.specs.declared.procedure.Procedure.{Procedure}
 use Rattle.journal_nfs3.specs.declared.pending.ReplyWait.{ReplyWait}
-use Rattle.journal_nfs3.specs.Calls.{asks}
+use Rattle.journal_nfs3_wire.specs.Calls.{asks}
 use Rattle.journal_nfs3.specs.Served.{Standing, marked, awaiting}
 use Rattle.journal_nfs3.specs.Answers.{IsCallOf}
 use Rattle.journal_server.specs.declared.file_protocol.AwaitedCall.{AwaitedCall}

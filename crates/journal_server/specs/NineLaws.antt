@@ -9,18 +9,18 @@ use Rattle.journal_history.specs.Tokens.{SessionState}
 use Rattle.journal_memory.specs.Causes.{CauseState}
 use Rattle.journal_inode.specs.declared.version.FormatVersion.{FormatVersion}
 use Rattle.journal_inode.specs.declared.node.Time.{Time}
-use Rattle.journal_filestore.specs.declared.pending_wait.PendingWait.TheVariants.{Wait}
-use Rattle.journal_filestore.specs.declared.fault.Fault.{Fault}
-use Rattle.journal_filestore.specs.declared.fault.Fault.TheVariants.{Refused, Unsure}
-use Rattle.journal_filestore.specs.declared.status.Status.{Status}
+use Rattle.journal_file_types.specs.declared.pending_wait.PendingWait.TheVariants.{Wait}
+use Rattle.journal_file_types.specs.declared.fault.Fault.{Fault}
+use Rattle.journal_file_types.specs.declared.fault.Fault.TheVariants.{Refused, Unsure}
+use Rattle.journal_file_types.specs.declared.status.Status.{Status}
 use Rattle.journal_filestore.specs.Files.{Files}
 use Rattle.journal_rpc.specs.declared.replies.CallRefused.{CallRefused}
-use Rattle.journal_nfs3.specs.Arguments.{Operation, Null, GetAttributes, SetAttributes, Lookup, Read, Write, Create, Remove, Commit}
-use Rattle.journal_nfs3.specs.Handles.{FileHandle}
-use Rattle.journal_nfs3.specs.Results.{Results}
-use Rattle.journal_nfs3.specs.Calls.{asks}
-use Rattle.journal_nfs3.specs.declared.procedure.Procedure.{Procedure}
-use Rattle.journal_nfs3.specs.Profile.{refused_results}
+use Rattle.journal_nfs3_wire.specs.Arguments.{Operation, Null, GetAttributes, SetAttributes, Lookup, Read, Write, Create, Remove, Commit}
+use Rattle.journal_nfs3_wire.specs.Handles.{FileHandle}
+use Rattle.journal_nfs3_wire.specs.Results.{Results}
+use Rattle.journal_nfs3_wire.specs.Calls.{asks}
+use Rattle.journal_nfs3_wire.specs.declared.procedure.Procedure.{Procedure}
+use Rattle.journal_nfs3_wire.specs.Profile.{refused_results}
 use Rattle.journal_nfs3.specs.Served.{Standing, marked, awaiting, refusal_error, IsAnsweredAs, TellsOutcome, Performs, ServesAs}
 use Rattle.journal_nfs3.specs.Answers.{ServesCall, AnswersAs, TakesPlace, sent}
 use Rattle.journal_nfs3.proofs.Pendings.{answers_paid, answers_stay, takes_place}

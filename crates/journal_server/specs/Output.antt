@@ -5,7 +5,7 @@ use Rattle.journal_history.specs.Tokens.{SessionState}
 use Rattle.journal_inode.specs.declared.version.FormatVersion.{FormatVersion}
 use Rattle.journal_inode.specs.declared.node.Time.{Time}
 use Rattle.journal_rpc.specs.Calls.{Message}
-use Rattle.journal_nfs3.specs.Calls.{asks}
+use Rattle.journal_nfs3_wire.specs.Calls.{asks}
 use Rattle.journal_nfs3.specs.Answers.{AnswersAs}
 use Rattle.journal_protocol.specs.Output.{IsReplyBy}
 use Rattle.journal_server.specs.FileProtocols.{FileAnswering, told_by}

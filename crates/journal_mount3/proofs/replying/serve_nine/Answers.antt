@@ -2,9 +2,9 @@ use Rattle.std.proofs.Common.{◌∙◌, ap, subst}
 use Rattle.journal_inode.specs.declared.node.Time.{Time}
 use Rattle.journal_inode.specs.declared.version.FormatVersion.{FormatVersion}
 use Rattle.journal_filestore.specs.Handles.{time_of}
-use Rattle.journal_nfs3.specs.Arguments.{operation_of}
-use Rattle.journal_nfs3.specs.Profile.{results_of}
-use Rattle.journal_nfs3.specs.Answers.{IsResult}
+use Rattle.journal_nfs3_wire.specs.Arguments.{operation_of}
+use Rattle.journal_nfs3_wire.specs.Profile.{results_of}
+use Rattle.journal_nfs3_wire.specs.Results.{IsResult}
 use Rattle.journal_mount3.specs.Roots.{results_at}
 use Rattle.journal_mount3.proofs.Answering.{nine_comes, nine_waits}
 use Rattle.journal_mount3.proofs.Short.{short_so}

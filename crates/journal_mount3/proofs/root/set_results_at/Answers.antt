@@ -1,10 +1,10 @@
 use Rattle.std.proofs.Common.{Result, ap, ◌∙◌}
-use Rattle.journal_filestore.specs.declared.reply.Attributes.{Attributes}
-use Rattle.journal_filestore.specs.declared.reply.Changed.{Changed}
-use Rattle.journal_filestore.specs.declared.reply.Found.{Found}
-use Rattle.journal_nfs3.specs.declared.results.NfsError.{NfsError}
-use Rattle.journal_nfs3.specs.declared.results.Results.TheVariants as code_result
-use Rattle.journal_nfs3.specs.Profile.{results_of}
+use Rattle.journal_file_types.specs.declared.reply.Attributes.{Attributes}
+use Rattle.journal_file_types.specs.declared.reply.Changed.{Changed}
+use Rattle.journal_file_types.specs.declared.reply.Found.{Found}
+use Rattle.journal_nfs3_wire.specs.declared.results.NfsError.{NfsError}
+use Rattle.journal_nfs3_wire.specs.declared.results.Results.TheVariants as code_result
+use Rattle.journal_nfs3_wire.specs.Profile.{results_of}
 use Rattle.journal_mount3.proofs.RootTimes.{get_attributes_now, set_attributes_now, lookup_now, create_now, remove_now}
 use Rattle.journal_mount3.proofs.root.set_results_at.Goals as goal
 

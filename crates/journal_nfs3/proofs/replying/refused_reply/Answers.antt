@@ -1,7 +1,7 @@
 use Rattle.std.proofs.Common.{Ok, ap, ◌∙◌}
 use Rattle.journal_inode.specs.declared.version.FormatVersion.TheVariants.{One}
-use Rattle.journal_nfs3.specs.Results.{Results}
-use Rattle.journal_nfs3.specs.Profile.{refused_results}
+use Rattle.journal_nfs3_wire.specs.Results.{Results}
+use Rattle.journal_nfs3_wire.specs.Profile.{refused_results}
 use Rattle.journal_nfs3.specs.Answers.{sent}
 use Rattle.journal_nfs3.proofs.Pendings.{takes_place_so}
 use Rattle.journal_nfs3.proofs.replying.refused_reply.Goals as goal

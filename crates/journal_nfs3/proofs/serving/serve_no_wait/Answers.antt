@@ -1,5 +1,5 @@
 use Rattle.std.proofs.Common.{ap, refl}
-use Rattle.journal_nfs3.specs.Profile.{results_of}
+use Rattle.journal_nfs3_wire.specs.Profile.{results_of}
 use Rattle.journal_nfs3.proofs.Standings.{tells_due}
 use Rattle.journal_nfs3.proofs.serving.serve_no_wait.Goals as goal
 

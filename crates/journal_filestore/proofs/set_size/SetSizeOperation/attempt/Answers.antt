@@ -1,7 +1,7 @@
 use Rattle.std.proofs.Common.{◌≡◌, ◌<◌, true, false, Err, refl, sym, ap, subst, ◌∙◌}
 use Rattle.std.specs.Prelude.{unwrap_or}
 use Rattle.journal_inode.specs.Versions.{extra_count}
-use Rattle.journal_filestore.specs.declared.status.Status.TheVariants.{NoSpace}
+use Rattle.journal_file_types.specs.declared.status.Status.TheVariants.{NoSpace}
 use Rattle.journal_filestore.specs.Files.{files_of}
 use Rattle.journal_filestore.specs.Handles.{data_of, time_of}
 use Rattle.journal_filestore.specs.Operations.{setattr_case, is_too_big, root_set, with_settings, file_target}

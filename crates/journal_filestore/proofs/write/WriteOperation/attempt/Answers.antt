@@ -1,7 +1,7 @@
 use Rattle.std.proofs.Common.{◌≡◌, ◌<◌, ◌≤◌, ◌+◌, true, false, length, max, Err, refl, sym, ap, subst, ◌∙◌, arith}
 use Rattle.journal_inode.specs.Sound.{content}
 use Rattle.journal_inode.specs.Versions.{most_bytes, extra_count}
-use Rattle.journal_filestore.specs.declared.status.Status.TheVariants.{NoSpace}
+use Rattle.journal_file_types.specs.declared.status.Status.TheVariants.{NoSpace}
 use Rattle.journal_filestore.specs.Files.{files_of}
 use Rattle.journal_filestore.specs.Handles.{time_of}
 use Rattle.journal_filestore.specs.Operations.{write_case, file_target}

@@ -3,7 +3,7 @@ use Rattle.std.proofs.lemmas.Result.{IfOk-weaker, on_err_weaker}
 use Rattle.journal_rpc.specs.declared.replies.CallRefused.{CallRefused}
 use Rattle.journal_rpc.specs.CallViews.{asked_of, message_of}
 use Rattle.journal_filestore.specs.Handles.{time_of}
-use Rattle.journal_filestore.specs.declared.pending_wait.PendingWait.TheVariants.{Nothing}
+use Rattle.journal_file_types.specs.declared.pending_wait.PendingWait.TheVariants.{Nothing}
 use Rattle.journal_nfs3.specs.Served.{awaiting}
 use Rattle.journal_nfs3.specs.Answers.{pending_wait_for}
 use Rattle.journal_nfs3.proofs.Pendings.{on_err}

@@ -1,5 +1,0 @@
-use Rattle.journal_nfs3.proofs.ResultLaws.{results_laws}
-use Rattle.journal_nfs3.proofs.laws.results_are_spellings.Goals as goal
-
-pub returns : goal.returns
-returns c = record { items = results_laws }
