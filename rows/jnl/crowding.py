@@ -7,7 +7,7 @@ from program_rows import Ended, record_of, wants, wants_run
 BLOCKS = 600
 FILES = 40
 # Of these the program has 24 for itself (docs/OPERATING.md).
-SAID = b"jnl: the system lets it open 40 files, so 16 connections are open at most\n"
+SAID = b"jnl: the system lets it open 40 files, so 16 connections and one visitor are open at most\n"
 PEERS = 24
 
 # A hello in version 1 and its answer, by docs/PROTOCOL.md.

@@ -18,7 +18,7 @@ IN_A_CROWD, BEHIND_SLOW_PEERS = 1.0, 20.0
 MOST_KIB_AT_REST = 16
 FEW_FILES = 64
 FEW_CONNECTIONS = 40
-FEW = b"jnlfs: the system lets it open %d files, so %d connections are open at most\n"
+FEW = b"jnlfs: the system lets it open %d files, so %d connections and one visitor are open at most\n"
 
 
 def begin(room, **more):

@@ -399,7 +399,9 @@ fn serve_command<'w>(alloc: Global) -> Result<Command<'w>, AllocError> {
         .value_name("N")
         .value_parser(value_parser!(u64).range(1..=1024))
         .default_value("1024")
-        .help("How many connections are open at once, 1 to 1024; further ones wait");
+        .help(
+            "How many connections are open at once, 1 to 1024; one more is a visitor, and further ones wait",
+        );
     let slots = Arg::new(alloc, SLOTS_WORD)
         .long(SLOTS_WORD)
         .value_name("S")

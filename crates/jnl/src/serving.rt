@@ -45,7 +45,7 @@ pub struct Service<'w> {
     pub socket: &'w str,
     /// The port of this machine, or 0 for one that is free, where there is to be one.
     pub port: Option<u16>,
-    /// How many connections are open at once.
+    /// How many connections are open at once, beside one visitor.
     pub connections: u64,
     /// The layout that is asked for, whatever number of blocks the disk has.
     pub layout: AskedLayout,
@@ -111,8 +111,8 @@ pub fn serve<
     print_line(output, "stopped", "")
 }
 
-// How many connections are open at most, where as many are asked for: fewer where the system lets
-// the program have fewer files open, and then it says so.
+// How many connections are open beside a visitor, where as many are asked for: fewer where the
+// system lets the program have fewer files open, and then it says so.
 fn allowed<E: Write>(asked: u64, faults: &mut E) -> u64 {
     let Some(files) = file_numbers() else {
         return asked;
@@ -122,7 +122,7 @@ fn allowed<E: Write>(asked: u64, faults: &mut E) -> u64 {
         // The service does not depend on whether this can be printed.
         let _ = writeln!(
             faults,
-            "jnl: the system lets it open {files} files, so {most} connections are open at most"
+            "jnl: the system lets it open {files} files, so {most} connections and one visitor are open at most"
         );
     }
     most

@@ -16,7 +16,7 @@ const ABOUT: &str = "Files on a disk of a transactional block journal";
 const SERVE_NOTES: &str =
     "A client mounts /files, or /, by version 3 of NFS and of MOUNT, which are both on this port:\n  mount -t nfs -o vers=3,nolock,proto=tcp,port=P,mountproto=tcp,mountport=P HOST:/files DIRECTORY\n\nThe service looks at no credential. Whoever reaches the address reads and writes all files: each program on this machine, and with another address than 127.0.0.1 each machine of the network too.\n\nThe first line of the output says at which port it listens. jnlfs stop ends it once all is stable, where --control names a socket. Only the owner of that socket can open it. A socket whose program is gone is replaced, and anything else at PATH is refused. A signal ends the service as a crash does: all that was answered as stable stands, and a client sends its other writes again once the disk is served anew. Where the device fails, standard error has the reason, and the status is 1.\n\nWith --read-only nothing is written to FILE, which need not be writable then, and others may read it too. A client mounts it with the option ro.\n\njnlfs make makes a disk of files. Any other is refused.";
 
-// How many connections are open at most.
+// How many connections are open beside a visitor.
 const MOST_CONNECTIONS: u64 = 1024;
 
 // The names of the arguments.

@@ -149,8 +149,8 @@ fn export<
     }
 }
 
-// How many connections are open at most: fewer than asked for where the system lets the program
-// have fewer files open, and then it is said.
+// How many connections are open beside a visitor: fewer than asked for where the system lets the
+// program have fewer files open, and then it is said.
 fn allowed<E: Write>(connections: u64, faults: &mut E) -> u64 {
     let Some(files) = file_numbers() else {
         return connections;
@@ -162,7 +162,7 @@ fn allowed<E: Write>(connections: u64, faults: &mut E) -> u64 {
     // The service does not depend on whether this can be printed.
     let _ = writeln!(
         faults,
-        "{PROGRAM}: the system lets it open {files} files, so {most} connections are open at most"
+        "{PROGRAM}: the system lets it open {files} files, so {most} connections and one visitor are open at most"
     );
     most
 }
