@@ -32,7 +32,8 @@ pub struct Endpoint {
     pub address: Ipv4Addr,
     /// The port, or 0 for one that is free.
     pub port: u16,
-    /// How many connections are open at most, at least one. Further ones wait with the system.
+    /// How many connections are open at most, at least one. One more is a visitor, and further
+    /// ones wait with the system.
     pub connections: u64,
 }
 
