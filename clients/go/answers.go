@@ -13,9 +13,9 @@ func (c *connection) hasAnswered(of *call) bool {
 	return c.answered.Load() > of.number
 }
 
-// await waits until a call was answered, or has met the end of the connection.
+// await waits until a call was answered, or has met the end of the connection. It has the lock at
+// first, and not at last.
 func (c *connection) await(mine *call) {
-	c.mu.Lock()
 	switch {
 	case c.hasAnswered(mine):
 		c.mu.Unlock()
@@ -43,15 +43,15 @@ func (c *connection) sleep(mine *call) {
 	<-mine.wake
 	next := mine.next
 	mine.next = nil
-	wake(next)
-}
-
-// wake wakes the goroutine of a call, which wakes that of the next one. All at once would be taken
-// by other processors, and wait there for the lock of each other.
-func wake(first *call) {
-	if first != nil {
-		first.wake <- struct{}{}
+	c.coming.Add(-1)
+	if next != nil {
+		next.wake <- struct{}{}
+		return
 	}
+	// This goroutine may call again before what is held is written: that waits for a processor.
+	c.mu.Lock()
+	c.release()
+	c.mu.Unlock()
 }
 
 // wakeLater has the goroutine of a call, if it waits, woken once the lock is free.
@@ -61,6 +61,7 @@ func (c *connection) wakeLater(of *call) {
 	}
 	of.isWaiting = false
 	c.waiting--
+	c.coming.Add(1)
 	if c.woken == nil {
 		c.woken = of
 	} else {
@@ -69,17 +70,22 @@ func (c *connection) wakeLater(of *call) {
 	c.lastWoken = of
 }
 
+// unlockAndWake wakes the first one that is to be woken, which wakes the next one. All at once would
+// be taken by other processors, and wait there for the lock of each other.
 func (c *connection) unlockAndWake() {
 	first := c.woken
 	c.woken, c.lastWoken = nil, nil
 	c.mu.Unlock()
-	wake(first)
+	if first != nil {
+		first.wake <- struct{}{}
+	}
 }
 
 // read reads answers until a call was answered; or, without one, as long as the socket takes no
 // records. It has the lock at first, and not at last. Nobody else reads.
 func (c *connection) read(mine *call) {
 	for c.readsOn(mine) {
+		c.release()
 		c.unlockAndWake()
 		n, err := c.socket.Read(c.received[c.used:])
 		c.mu.Lock()

@@ -19,18 +19,27 @@ func slowPort(listener net.Listener, mayGoOn <-chan struct{}) {
 		return
 	}
 	defer peer.Close()
-	nextOf(peer)
-	opening := newRequest(0, 0).word(opHello).word(version).address(Address{Block: 600})
-	opening = opening.word(7).word(257).word(128).word(0)
-	send(peer, opening)
+	greet(peer)
 	nextOf(peer)
 	<-mayGoOn
 	for commits := uint64(1); ; commits++ {
-		receipt := binary.BigEndian.AppendUint64(newRequest(0, 0).word(opCommit), commits-1)
-		if send(peer, binary.BigEndian.AppendUint64(receipt, commits)) != nil || nextOf(peer) != nil {
+		if send(peer, committed(commits)) != nil || nextOf(peer) != nil {
 			return
 		}
 	}
+}
+
+// greet answers the hello of a client.
+func greet(peer net.Conn) {
+	nextOf(peer)
+	opening := newRequest(0, 0).word(opHello).word(version).address(Address{Block: 600})
+	send(peer, opening.word(7).word(257).word(128).word(0))
+}
+
+// committed is the answer to a commit.
+func committed(commits uint64) []byte {
+	receipt := binary.BigEndian.AppendUint64(newRequest(0, 0).word(opCommit), commits-1)
+	return binary.BigEndian.AppendUint64(receipt, commits)
 }
 
 func nextOf(peer net.Conn) error {
@@ -43,8 +52,12 @@ func nextOf(peer net.Conn) error {
 }
 
 func send(peer net.Conn, record []byte) error {
-	_, err := peer.Write(append(request(nil).word(uint32(len(record))), record...))
+	_, err := peer.Write(recordOf(record))
 	return err
+}
+
+func recordOf(text []byte) []byte {
+	return append(request(nil).word(uint32(len(text))), text...)
 }
 
 // waitFor waits until something holds, with the lock of the connection held, but not for ever.

@@ -53,12 +53,19 @@ func newCall(operation uint32, decode func(*answer)) *call {
 // than to write or read it. One at a time writes what is held of all. Of those that wait for an
 // answer one reads for all, until its own is there. It then leaves that to another one that waits.
 // While nobody waits, nobody reads, unless the socket takes no more records.
+//
+// Commits that wait until they are stable are one group of the log where the port reads them at
+// once. It answers all that it has read of a connection before it reads on. So such a commit is held
+// back while an answer is owed, or a goroutine that was answered has not run yet, which may commit
+// again. Then all that is held is written at once.
 type connection struct {
 	socket net.Conn
 	raw    syscall.RawConn
 
 	// So many calls were answered, or have met the end. It is stored with the lock.
 	answered atomic.Uint64
+	// So many goroutines are to be woken, or were and have not run yet.
+	coming atomic.Int64
 
 	mu        sync.Mutex // of what follows
 	calls     queue
@@ -70,6 +77,7 @@ type connection struct {
 	isReading bool      // a goroutine reads, or is woken to. It alone uses received and used then
 	received  []byte    // what came, of which no answer is there whole
 	used      int       // so many bytes of it
+	written   uint64    // so many calls have their records written, or about to be
 	waiting   int       // so many goroutines wait
 	woken     *call     // the first of those to be woken once the lock is free; each wakes the next
 	lastWoken *call     // of these
@@ -109,14 +117,16 @@ func (c *connection) ask(mine *call, limit time.Duration, pieces ...[]byte) bool
 		c.isWriting = true
 		c.mu.Unlock()
 		c.writeHeld()
-	case c.isDue || c.isWriting:
-		c.mu.Unlock() // that goroutine writes this record too
+		c.mu.Lock()
+	case c.isDue || c.isWriting || c.isHeldBack(mine):
+		// Another goroutine writes this record too.
 	default:
 		c.isDue = true
 		c.mu.Unlock()
 		// Others that are about to call do so first, so that many records are written at once.
 		runtime.Gosched()
 		c.push()
+		c.mu.Lock()
 	}
 	c.await(mine)
 	return true
@@ -134,6 +144,17 @@ func (c *connection) submit(mine *call, pieces ...[]byte) bool {
 		c.writeHeld()
 	}
 	return true
+}
+
+// send has the record of a call written, unless it was or is to be held back. It has the lock at
+// last.
+func (c *connection) send(of *call) {
+	c.mu.Lock()
+	if !c.isHeldBack(of) {
+		c.mu.Unlock()
+		c.push()
+		c.mu.Lock()
+	}
 }
 
 func (c *connection) endAfter(limit time.Duration) *time.Timer {
@@ -197,6 +218,25 @@ func (c *connection) isEnough(mine *call) bool {
 	return !c.isWriting && len(c.held) >= least
 }
 
+// isHeldBack says whether the record of a call is to be held back, with the lock held.
+func (c *connection) isHeldBack(of *call) bool {
+	return of.isStable && c.isBusy()
+}
+
+// isBusy says whether an answer is owed, or a goroutine that was answered has not run yet.
+func (c *connection) isBusy() bool {
+	return c.answered.Load() < c.written || c.coming.Load() > 0
+}
+
+// release has what was held back written, unless it is still to be, with the lock held. It is called
+// wherever the connection may be busy no longer, and somebody waits.
+func (c *connection) release() {
+	if len(c.held) > 0 && c.err == nil && !c.isDue && !c.isWriting && !c.isBusy() {
+		c.isDue = true
+		go c.push()
+	}
+}
+
 // push writes what is held, unless another goroutine writes: that one sees to it.
 func (c *connection) push() {
 	c.mu.Lock()
@@ -214,6 +254,7 @@ func (c *connection) writeHeld() {
 	c.mu.Lock()
 	records := c.held
 	c.held, c.spare = c.spare[:0], nil
+	c.written = c.calls.added
 	c.hasRoom.Broadcast()
 	c.mu.Unlock()
 	err := c.write(records)
