@@ -4,6 +4,7 @@ import (
 	"fmt"
 	"net"
 	"path/filepath"
+	"runtime"
 	"testing"
 	"time"
 )
@@ -144,6 +145,29 @@ func TestAWaitForAFlightIsNotHeldBack(t *testing.T) {
 	wantPiece(t, peer, 1)
 	answerAll(t, peer, 1, 2)
 	wantNoErrors(t, errs, 2)
+}
+
+// TestWhoIsWokenLastHasOthersWritten has the first of two that are answered at once commit again
+// before the other one has run, which does not.
+func TestWhoIsWokenLastHasOthersWritten(t *testing.T) {
+	defer runtime.GOMAXPROCS(runtime.GOMAXPROCS(1))
+	j, peer := heldPort(t)
+	errs := make(chan error, 4)
+	commitLater(t, j, Stable, errs)
+	wantPiece(t, peer, 1)
+	go func() {
+		errs <- put(j, freeBit, Stable)
+		errs <- put(j, freeBit, Stable)
+	}()
+	c := j.connection.Load()
+	waitFor(t, c, "a record that is held", func() bool { return len(c.held) > 0 })
+	commitLater(t, j, Stable, errs)
+	answerAll(t, peer, 1, 1)
+	wantPiece(t, peer, 2)
+	answerAll(t, peer, 2, 3)
+	wantPiece(t, peer, 1)
+	answerAll(t, peer, 4, 4)
+	wantNoErrors(t, errs, 4)
 }
 
 // TestWhoDoesNotCallAgainHoldsNobodyBack has goroutines that were answered call no more, while
