@@ -112,12 +112,6 @@ pub found_settled : (layout : Shape) (offer : Offer) (marks : List Entry) (stabl
 found_settled layout offer marks stable (Ok request) old new told marked is = answer_settled layout offer marks stable request old new told marked is
 found_settled layout offer marks stable (Err why) old new told marked is = settled_other (λ a. (new ≡ old) × (a ≡ Refused (refused_for why))) stable told (λ p c no_such. absurd (let e : Unsure p c ≡ Refused (refused_for why) = no_such.1 in cc)) is
 
--- both, for a commit that was not known to be stable
-pub unsure_settled : (layout : Shape) (offer : Offer) (marks later : List Entry) (stable : ℕ) (request : Request) (old new : SessionState) (told : Answer) → IsPrefix marks later → stable ≤ floor later
-    → IsAnswerTo layout offer marks request old new told → IsAnswerTo layout offer later request old new (settled stable told)
-unsure_settled layout offer marks later stable request old new told more marked is =
-    answer_settled layout offer later stable request old new told marked (answer_later layout offer marks later request old new told more is)
-
 -- a hello is answered as one
 pub is_hello : (layout : Shape) (offer : Offer) (marks : List Entry) (request : Request) (version : ℕ) (session : SessionState) (told : Answer) → request ≡ asked.Hello version
     → IsHelloAnswer layout offer.number version session session told → IsAnswerTo layout offer marks request session session told

@@ -254,11 +254,6 @@ IsAnswerTo layout offer marks Stop old new answer = IsStopAnswer offer.rights.ma
 IsAnswerTo layout offer marks Counters old new answer = IsCountersAnswer offer.tells old new answer
 IsAnswerTo layout offer marks (Scan block first value most) old new answer = IsScanAnswer layout (scan_of block first value most) old new answer
 
--- The request was done and led the session to a state, which has only seen more since, as the mark
--- that it waited for
-abbrev pub IsAnswered : Shape → Offer → Request → SessionState → SessionState → Answer → Type 0
-IsAnswered layout offer request old new answer = (done : SessionState) × IsAnswerTo layout offer new.seen request old done answer × OnlyExtends done new
-
 -- what is answered where so many commits are stable: of one that was not known to be, that it is,
 -- where it is among them
 abbrev pub settled : ℕ → Answer → Answer

@@ -5,7 +5,7 @@ ghost use Rattle.journal_world.specs.Files.{shape};
 ghost use Rattle.journal_history.specs.Tokens.{OnlyExtends};
 ghost use Rattle.journal_records.specs.declared.answer.Answer.TheVariants.{Unsure};
 ghost use Rattle.journal_twophase.specs.Waits.{IsWaitRefusal};
-ghost use Rattle.journal_port.specs.Answers.{IsAnswerTo, IsCommitReply, is_denied, IsFlushed, IsFlushAnswer, IsStatAnswer, IsStopAnswer, IsAnswered, offer, settled};
+ghost use Rattle.journal_port.specs.Answers.{IsAnswerTo, IsCommitReply, is_denied, IsFlushed, IsFlushAnswer, IsStatAnswer, IsStopAnswer, offer, settled};
 
 use crate::commit::commit;
 use crate::counting::{Counting, count};
@@ -56,41 +56,23 @@ impl<'s, 'b, D: BlockDisk, J: Naming, C: Counting> Drop for Port<'s, 'b, D, J, C
     }
 }
 
-/// Answers a request under the session. No slot is held before or after it.
-///
-/// A commit is answered `Committed` where it stands, with its place, and if it waits it is then
-/// marked as stable; `Unsure` where it stands and is to wait, but no mark is known. A read is
-/// answered `Values`, which are what one map gives, at the end of what the session had seen once it
-/// was done. A flush is answered `Flushed` once all that the session has seen is stable, and a stop
-/// is answered `Stopping` then, where the connection may end the service. A hello is answered what
-/// the port's terms say, counters just what the program tells, by ascending names, and a scan
-/// `Bits`, which the map has at the end of what the session had then seen.
-///
-/// `Refused` says that nothing was done: the history lacks the request's transaction. It is
-/// `Conflict` where the map, at the end of what the session had seen once it was done, gives some
-/// compared address another value, `OtherVersion` where another version is asked for, `Forbidden`
-/// where the service may not be ended, `ReadOnly` where a commit writes and the connection may not,
-/// and else the journal's refusal. That is never `Busy`, since slots are taken in ascending order,
-/// nor `Full`, since a commit waits for room.
-pub fn answer<'b, D: BlockDisk, J: Naming, C: Counting, W: Wait>(
-    rt: &W,
-    port: &Port<'_, 'b, D, J, C>,
-    session: &mut Session<'b, J, AnyMap>,
-    request: Request,
-) -> Answer
-    ensures { IsAnswered J.layout (offer port.now.terms (C.tells port.now.counting.now)) request session.old session.new result }
-{
-    match answer_no_wait(rt, port, session, request) {
-        Answer::Unsure { place, commits } => {
-            let stable = await_stable(rt, port.journal, session);
-            settled(place, commits, stable)
-        }
-        told => told,
-    }
-}
-
-// Answers a request, but does not wait until a commit is stable: one that is to wait is answered
-// `Unsure`.
+// Answers a request under the session, but does not wait until a commit is stable: one that is to
+// wait is answered `Unsure`, and `settled` then says what it is answered. No slot is held before or
+// after it.
+//
+// A commit that stands is answered `Committed`, with its place. A read is answered `Values`, which
+// are what one map gives, at the end of what the session had seen once it was done. A flush is
+// answered `Flushed` once all that the session has seen is stable, and a stop is answered
+// `Stopping` then, where the connection may end the service. A hello is answered what the port's
+// terms say, counters just what the program tells, by ascending names, and a scan `Bits`, which the
+// map has at the end of what the session had then seen.
+//
+// `Refused` says that nothing was done: the history lacks the request's transaction. It is
+// `Conflict` where the map, at the end of what the session had seen once it was done, gives some
+// compared address another value, `OtherVersion` where another version is asked for, `Forbidden`
+// where the service may not be ended, `ReadOnly` where a commit writes and the connection may not,
+// and else the journal's refusal. That is never `Busy`, since slots are taken in ascending order,
+// nor `Full`, since a commit waits for room.
 pub(crate) fn answer_no_wait<'b, D: BlockDisk, J: Naming, C: Counting, W: Wait>(
     rt: &W,
     port: &Port<'_, 'b, D, J, C>,
