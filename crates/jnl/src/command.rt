@@ -5,7 +5,8 @@ use crate::serving::Service;
 use crate::stat::StatForm;
 use clap::{Arg, ArgAction, ArgMatches, Command, value_parser};
 use journal_commands::{
-    AskedLayout, FILE, Fault, JNL_VERSIONS, Regions, file_arg, named_regions, program_command, word,
+    AskedLayout, FILE, Fault, JNL_VERSIONS, Regions, file_arg, flag_arg, named_regions, option_arg,
+    program_command, subcommand, word,
 };
 use journal_form::LogForm;
 use journal_program::{Room, Zeros};
@@ -270,174 +271,153 @@ fn command<'w>(alloc: Global) -> Result<Command<'w>, AllocError> {
 }
 
 fn create_command<'w>(alloc: Global) -> Result<Command<'w>, AllocError> {
-    let force = Arg::new(alloc, FORCE)
-        .long(FORCE)
-        .action(ArgAction::SetTrue)
+    let force = flag_arg(alloc, FORCE, "Destroys what the device holds")
         .requires_arg(DEVICE)?
-        .conflicts_with(FILE)?
-        .help("Destroys what the device holds");
+        .conflicts_with(FILE)?;
     let blocks = blocks_arg(
         alloc,
         "How many blocks of 4096 bytes the disk has, 532 to 1099511627776",
     );
-    let allocate = Arg::new(alloc, ALLOCATE)
-        .long(ALLOCATE)
-        .action(ArgAction::SetTrue)
-        .conflicts_with(DEVICE)?
-        .help("Writes zeros to every block, so that each has its room in the file system");
-    Command::new(alloc, "create")
-        .about("Makes an empty disk with a sealed log in a new file, or on a block device")
-        .after_help(
-            "Give FILE and --blocks, or --device.\n\nRefused where FILE is there. Where it is refused later, as for want of room, no FILE is left. When it is done, FILE's name and the room of the log are stable, and its owner alone may use it. The other blocks take room once they are written, where there may be none, or at once with --allocate. FILE keeps N and the regions in a label, and serve takes them from it. Without --region a disk of at most 33299 blocks has the regions 513:block 514:bit 515:record128 531:block, and a larger one is served with --region alone.\n\nOn a block device the disk has all whole blocks of the device, and they become zeros; a line after each tenth says how far it is. Refused, unless --force is given, where the device holds a disk of jnl, a file system, a partition table, another known content, or other bytes than zeros where the log is to be. It is not seen whether the device is mounted: see that before --force. Where it is stopped, no program uses the device as a disk; call it again with --force.\n\nWith --zeroed the blocks are zeros already, as after blkdiscard -z PATH. Then 1024 of them are read, and the others are trusted: an object has at first what its block has.",
-        )
-        .arg(or_device(file_arg(alloc, "The file to make"))?)?
-        .arg(or_device(blocks)?)?
-        .arg(device_arg(
-            alloc,
-            "The block device to make a disk of, in place of FILE",
-        ))?
-        .arg(zeroed_arg(alloc)?)?
-        .arg(force)?
-        .arg(region_arg(alloc))?
-        .arg(allocate)
+    let allocate = flag_arg(
+        alloc,
+        ALLOCATE,
+        "Writes zeros to every block, so that each has its room in the file system",
+    )
+    .conflicts_with(DEVICE)?;
+    subcommand(
+        alloc,
+        "create",
+        "Makes an empty disk with a sealed log in a new file, or on a block device",
+        "Give FILE and --blocks, or --device.\n\nRefused where FILE is there. Where it is refused later, as for want of room, no FILE is left. When it is done, FILE's name and the room of the log are stable, and its owner alone may use it. The other blocks take room once they are written, where there may be none, or at once with --allocate. FILE keeps N and the regions in a label, and serve takes them from it. Without --region a disk of at most 33299 blocks has the regions 513:block 514:bit 515:record128 531:block, and a larger one is served with --region alone.\n\nOn a block device the disk has all whole blocks of the device, and they become zeros; a line after each tenth says how far it is. Refused, unless --force is given, where the device holds a disk of jnl, a file system, a partition table, another known content, or other bytes than zeros where the log is to be. It is not seen whether the device is mounted: see that before --force. Where it is stopped, no program uses the device as a disk; call it again with --force.\n\nWith --zeroed the blocks are zeros already, as after blkdiscard -z PATH. Then 1024 of them are read, and the others are trusted: an object has at first what its block has.",
+    )
+    .arg(or_device(file_arg(alloc, "The file to make"))?)?
+    .arg(or_device(blocks)?)?
+    .arg(device_arg(
+        alloc,
+        "The block device to make a disk of, in place of FILE",
+    ))?
+    .arg(zeroed_arg(alloc)?)?
+    .arg(force)?
+    .arg(region_arg(alloc))?
+    .arg(allocate)
 }
 
 fn label_command<'w>(alloc: Global) -> Result<Command<'w>, AllocError> {
-    let again = Arg::new(alloc, AGAIN)
-        .long(AGAIN)
-        .action(ArgAction::SetTrue)
-        .help("Writes another label where the disk has one");
-    Command::new(alloc, "label")
-        .about(
-            "Gives a disk that an older program made a label: its number of blocks and its regions",
-        )
-        .after_help(
-            "Refused while a program has FILE, and where the disk has a label, unless --again is given. Without --region the label has the regions of the label before it, or those that create gives. Name those by which the disk was served: by other regions the same bytes are other objects.",
-        )
-        .arg(file_arg(alloc, "The file of the disk"))?
-        .arg(region_arg(alloc))?
-        .arg(again)
+    let again = flag_arg(alloc, AGAIN, "Writes another label where the disk has one");
+    subcommand(
+        alloc,
+        "label",
+        "Gives a disk that an older program made a label: its number of blocks and its regions",
+        "Refused while a program has FILE, and where the disk has a label, unless --again is given. Without --region the label has the regions of the label before it, or those that create gives. Name those by which the disk was served: by other regions the same bytes are other objects.",
+    )
+    .arg(file_arg(alloc, "The file of the disk"))?
+    .arg(region_arg(alloc))?
+    .arg(again)
 }
 
 fn grow_command<'w>(alloc: Global) -> Result<Command<'w>, AllocError> {
-    Command::new(alloc, "grow")
-        .about("Gives a disk more blocks, which are zeros")
-        .after_help(
-            "Give FILE and --blocks, or --device.\n\nRefused while a program has FILE, where the disk has more blocks, where it is one of the file service, and above 33299 blocks where its label has no regions. The last region takes the new blocks. Where it was stopped, the disk has its old number of blocks or the new one; call it again.\n\nA disk on a block device takes all blocks of the device. It must have a label. The new blocks become zeros; a line after each tenth says how far it is. With --zeroed they are zeros already: 1024 of them are read, and the others are trusted.",
-        )
-        .arg(or_device(file_arg(alloc, "The file of the disk"))?)?
-        .arg(or_device(blocks_arg(alloc, "How many blocks of 4096 bytes the disk has then"))?)?
-        .arg(device_arg(
-            alloc,
-            "The block device of the disk, which has become longer, in place of FILE",
-        ))?
-        .arg(zeroed_arg(alloc)?)
+    subcommand(
+        alloc,
+        "grow",
+        "Gives a disk more blocks, which are zeros",
+        "Give FILE and --blocks, or --device.\n\nRefused while a program has FILE, where the disk has more blocks, where it is one of the file service, and above 33299 blocks where its label has no regions. The last region takes the new blocks. Where it was stopped, the disk has its old number of blocks or the new one; call it again.\n\nA disk on a block device takes all blocks of the device. It must have a label. The new blocks become zeros; a line after each tenth says how far it is. With --zeroed they are zeros already: 1024 of them are read, and the others are trusted.",
+    )
+    .arg(or_device(file_arg(alloc, "The file of the disk"))?)?
+    .arg(or_device(blocks_arg(alloc, "How many blocks of 4096 bytes the disk has then"))?)?
+    .arg(device_arg(
+        alloc,
+        "The block device of the disk, which has become longer, in place of FILE",
+    ))?
+    .arg(zeroed_arg(alloc)?)
 }
 
 fn info_command<'w>(alloc: Global) -> Result<Command<'w>, AllocError> {
-    Command::new(alloc, "info")
-        .about(
-            "Prints the number of blocks of a disk, the form of its log, whether it has files, and its label",
-        )
-        .after_help("Nothing is written to FILE.")
-        .arg(file_arg(alloc, "The file of the disk"))
+    subcommand(
+        alloc,
+        "info",
+        "Prints the number of blocks of a disk, the form of its log, whether it has files, and its label",
+        "Nothing is written to FILE.",
+    )
+    .arg(file_arg(alloc, "The file of the disk"))
 }
 
 fn check_command<'w>(alloc: Global) -> Result<Command<'w>, AllocError> {
-    Command::new(alloc, "check")
-        .about(
-            "Checks that the log of a disk is well formed, and says whether it has files, which jnlfs check checks",
-        )
-        .after_help(
-            "Nothing is written to FILE. A plain copy of a disk that was served meanwhile may pass, though it is torn.",
-        )
-        .arg(file_arg(alloc, "The file of the disk"))
+    subcommand(
+        alloc,
+        "check",
+        "Checks that the log of a disk is well formed, and says whether it has files, which jnlfs check checks",
+        "Nothing is written to FILE. A plain copy of a disk that was served meanwhile may pass, though it is torn.",
+    )
+    .arg(file_arg(alloc, "The file of the disk"))
 }
 
 fn backup_command<'w>(alloc: Global) -> Result<Command<'w>, AllocError> {
     let copy = Arg::new(alloc, COPY)
         .required(true)
         .help("The file to make");
-    let replace = Arg::new(alloc, REPLACE)
-        .long(REPLACE)
-        .action(ArgAction::SetTrue)
-        .help("Lets COPY take the place of a file that is there");
-    Command::new(alloc, "backup")
-        .about("Copies a disk that no program writes to another file")
-        .after_help(
-            "Refused while a program has FILE that may write it, where its log is not well formed, and where COPY is there. COPY gets its name once it is whole and stable, and its owner alone may use it. Blocks of zeros take no room there. It is made as COPY.part, which a run that is killed leaves.",
-        )
-        .arg(file_arg(alloc, "The file of the disk"))?
-        .arg(copy)?
-        .arg(replace)
+    let replace = flag_arg(
+        alloc,
+        REPLACE,
+        "Lets COPY take the place of a file that is there",
+    );
+    subcommand(
+        alloc,
+        "backup",
+        "Copies a disk that no program writes to another file",
+        "Refused while a program has FILE that may write it, where its log is not well formed, and where COPY is there. COPY gets its name once it is whole and stable, and its owner alone may use it. Blocks of zeros take no room there. It is made as COPY.part, which a run that is killed leaves.",
+    )
+    .arg(file_arg(alloc, "The file of the disk"))?
+    .arg(copy)?
+    .arg(replace)
 }
 
 fn seal_command<'w>(alloc: Global) -> Result<Command<'w>, AllocError> {
-    let undo = Arg::new(alloc, UNDO)
-        .long(UNDO)
-        .action(ArgAction::SetTrue)
-        .help("Gives the log the plain form again, before an older program is to open the disk");
-    Command::new(alloc, "seal")
-        .about(
-            "Gives the log of a disk the sealed form: one barrier a group of commits, where the plain form takes two",
-        )
-        .after_help(
-            "All commits stay, also where the program is killed or the power fails. A program that knows the plain form alone answers J7 BadLog to a sealed log.",
-        )
-        .arg(file_arg(alloc, "The file of the disk"))?
-        .arg(undo)
+    let undo = flag_arg(
+        alloc,
+        UNDO,
+        "Gives the log the plain form again, before an older program is to open the disk",
+    );
+    subcommand(
+        alloc,
+        "seal",
+        "Gives the log of a disk the sealed form: one barrier a group of commits, where the plain form takes two",
+        "All commits stay, also where the program is killed or the power fails. A program that knows the plain form alone answers J7 BadLog to a sealed log.",
+    )
+    .arg(file_arg(alloc, "The file of the disk"))?
+    .arg(undo)
 }
 
 fn serve_command<'w>(alloc: Global) -> Result<Command<'w>, AllocError> {
-    let port = Arg::new(alloc, TCP)
-        .long(TCP)
-        .value_name("PORT")
-        .value_parser(value_parser!(u16))
-        .help("Listens on this port of 127.0.0.1 too, or on one that is free for 0");
-    let connections = Arg::new(alloc, CONNECTIONS)
-        .long(CONNECTIONS)
-        .value_name("N")
-        .value_parser(value_parser!(u64).range(1..=1024))
-        .default_value("1024")
-        .help(
-            "How many connections are open at once, 1 to 1024; one more is a visitor, and further ones wait",
-        );
-    let slots = Arg::new(alloc, SLOTS_WORD)
-        .long(SLOTS_WORD)
-        .value_name("S")
-        .value_parser(value_parser!(u16).range(1..=65521))
-        .default_value("257")
-        .help("How many locks the objects share, an odd number up to 65521");
-    let read_only = Arg::new(alloc, READ_ONLY)
-        .long(READ_ONLY)
-        .action(ArgAction::SetTrue)
-        .help(
-            "Opens FILE to read it alone, and refuses each transaction that writes, by status 71",
-        );
-    Command::new(alloc, "serve")
-        .about("Serves a disk to programs in any language, by the protocol of docs/PROTOCOL.md")
-        .after_help(SERVE_NOTES)
-        .arg(file_arg(alloc, "The file of the disk"))?
-        .arg(socket_arg(alloc, "The socket to make"))?
-        .arg(port)?
-        .arg(connections)?
-        .arg(region_arg(alloc))?
-        .arg(slots)?
-        .arg(read_only)
+    let read_only = flag_arg(
+        alloc,
+        READ_ONLY,
+        "Opens FILE to read it alone, and refuses each transaction that writes, by status 71",
+    );
+    subcommand(
+        alloc,
+        "serve",
+        "Serves a disk to programs in any language, by the protocol of docs/PROTOCOL.md",
+        SERVE_NOTES,
+    )
+    .arg(file_arg(alloc, "The file of the disk"))?
+    .arg(socket_arg(alloc, "The socket to make"))?
+    .arg(tcp_arg(alloc))?
+    .arg(connections_arg(alloc))?
+    .arg(region_arg(alloc))?
+    .arg(slots_arg(alloc))?
+    .arg(read_only)
 }
 
 fn stat_command<'w>(alloc: Global) -> Result<Command<'w>, AllocError> {
-    let prometheus = Arg::new(alloc, PROMETHEUS)
-        .long(PROMETHEUS)
-        .action(ArgAction::SetTrue)
-        .help("Prints the text that Prometheus reads");
-    Command::new(alloc, "stat")
-        .about("Prints what the service at a socket has counted since it opened its disk")
-        .after_help(
-            "Each line has a counter and its value. docs/OPERATING.md says what each counts, and what to do when it grows. The first line has the number of the opening: another number says that the service was started again, and that all counters began anew.",
-        )
-        .arg(socket_arg(alloc, "The socket of the service"))?
-        .arg(prometheus)
+    let prometheus = flag_arg(alloc, PROMETHEUS, "Prints the text that Prometheus reads");
+    subcommand(
+        alloc,
+        "stat",
+        "Prints what the service at a socket has counted since it opened its disk",
+        "Each line has a counter and its value. docs/OPERATING.md says what each counts, and what to do when it grows. The first line has the number of the opening: another number says that the service was started again, and that all counters began anew.",
+    )
+    .arg(socket_arg(alloc, "The socket of the service"))?
+    .arg(prometheus)
 }
 
 fn stop_command<'w>(alloc: Global) -> Result<Command<'w>, AllocError> {
@@ -448,20 +428,14 @@ fn stop_command<'w>(alloc: Global) -> Result<Command<'w>, AllocError> {
 
 // The number of blocks of a disk.
 fn blocks_arg<'w>(alloc: Global, help: &'w str) -> Arg<'w> {
-    Arg::new(alloc, BLOCKS)
-        .long(BLOCKS)
-        .value_name("N")
+    option_arg(alloc, BLOCKS, "N", help)
         .required(true)
         .value_parser(value_parser!(u64).range(532..=1099511627776))
-        .help(help)
 }
 
 // A block device, in place of a file.
 fn device_arg<'w>(alloc: Global, help: &'w str) -> Arg<'w> {
-    Arg::new(alloc, DEVICE)
-        .long(DEVICE)
-        .value_name("PATH")
-        .help(help)
+    option_arg(alloc, DEVICE, "PATH", help)
 }
 
 // The same argument, which is required where no block device is named, and goes with none.
@@ -473,28 +447,62 @@ fn or_device<'w>(arg: Arg<'w>) -> Result<Arg<'w>, AllocError> {
 
 // That the blocks of a device are zeros.
 fn zeroed_arg<'w>(alloc: Global) -> Result<Arg<'w>, AllocError> {
-    Arg::new(alloc, ZEROED)
-        .long(ZEROED)
-        .action(ArgAction::SetTrue)
-        .help("The blocks are zeros already, as after blkdiscard -z: only samples are read")
-        .requires_arg(DEVICE)?
-        .conflicts_with(FILE)
+    flag_arg(
+        alloc,
+        ZEROED,
+        "The blocks are zeros already, as after blkdiscard -z: only samples are read",
+    )
+    .requires_arg(DEVICE)?
+    .conflicts_with(FILE)
 }
 
 // The regions of a disk.
 fn region_arg<'w>(alloc: Global) -> Arg<'w> {
-    Arg::new(alloc, REGION)
-        .long(REGION)
-        .value_name("FIRST:KIND")
-        .action(ArgAction::Append)
-        .help("The kind of the objects from block FIRST on; up to eight times, the first from 513")
+    option_arg(
+        alloc,
+        REGION,
+        "FIRST:KIND",
+        "The kind of the objects from block FIRST on; up to eight times, the first from 513",
+    )
+    .action(ArgAction::Append)
 }
 
 // The socket that a subcommand is for.
 fn socket_arg<'w>(alloc: Global, help: &'w str) -> Arg<'w> {
-    Arg::new(alloc, SOCKET)
-        .long(SOCKET)
-        .value_name("PATH")
-        .required(true)
-        .help(help)
+    option_arg(alloc, SOCKET, "PATH", help).required(true)
+}
+
+// A port to listen on besides.
+fn tcp_arg<'w>(alloc: Global) -> Arg<'w> {
+    option_arg(
+        alloc,
+        TCP,
+        "PORT",
+        "Listens on this port of 127.0.0.1 too, or on one that is free for 0",
+    )
+    .value_parser(value_parser!(u16))
+}
+
+// The most connections.
+fn connections_arg<'w>(alloc: Global) -> Arg<'w> {
+    option_arg(
+        alloc,
+        CONNECTIONS,
+        "N",
+        "How many connections are open at once, 1 to 1024; one more is a visitor, and further ones wait",
+    )
+    .value_parser(value_parser!(u64).range(1..=1024))
+    .default_value("1024")
+}
+
+// The number of slots.
+fn slots_arg<'w>(alloc: Global) -> Arg<'w> {
+    option_arg(
+        alloc,
+        SLOTS_WORD,
+        "S",
+        "How many locks the objects share, an odd number up to 65521",
+    )
+    .value_parser(value_parser!(u16).range(1..=65521))
+    .default_value("257")
 }

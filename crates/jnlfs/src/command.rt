@@ -1,8 +1,10 @@
 // The command line.
 
 use crate::serving::Service;
-use clap::{Arg, ArgAction, ArgMatches, Command, value_parser};
-use journal_commands::{FILE, Fault, JNLFS_VERSIONS, file_arg, program_command, word};
+use clap::{Arg, ArgMatches, Command, value_parser};
+use journal_commands::{
+    FILE, Fault, JNLFS_VERSIONS, file_arg, flag_arg, option_arg, program_command, subcommand, word,
+};
 use journal_program::Room;
 use journal_service::{Endpoint, Reads};
 use std::alloc::{AllocError, Global};
@@ -141,90 +143,113 @@ fn command<'w>(alloc: Global) -> Result<Command<'w>, AllocError> {
 }
 
 fn make_command<'w>(alloc: Global) -> Result<Command<'w>, AllocError> {
-    let blocks = Arg::new(alloc, BLOCKS)
-        .long(BLOCKS)
-        .value_name("N")
-        .required(true)
-        .value_parser(value_parser!(u64).range(532..=33299))
-        .help("How many blocks of 4096 bytes the disk has, 532 to 33299");
-    let allocate = Arg::new(alloc, ALLOCATE)
-        .long(ALLOCATE)
-        .action(ArgAction::SetTrue)
-        .help("Writes zeros to every block, so that each has its room in the file system");
-    Command::new(alloc, "make")
-        .about("Makes a disk of version 2 without files, with a sealed log, in a new file")
-        .after_help(
-            "Refused where FILE is there. Where it is refused later, as for want of room, no FILE is left. When it is done, FILE's name and the room of the log are stable, and its owner alone may use it. The other blocks take room once they are written, where there may be none, or at once with --allocate. N - 531 blocks are for files, of which there are at most 510, of at most 49152 bytes each. The disk cannot grow later.",
-        )
-        .arg(file_arg(alloc, "The file to make"))?
-        .arg(blocks)?
-        .arg(allocate)
+    let allocate = flag_arg(
+        alloc,
+        ALLOCATE,
+        "Writes zeros to every block, so that each has its room in the file system",
+    );
+    subcommand(
+        alloc,
+        "make",
+        "Makes a disk of version 2 without files, with a sealed log, in a new file",
+        "Refused where FILE is there. Where it is refused later, as for want of room, no FILE is left. When it is done, FILE's name and the room of the log are stable, and its owner alone may use it. The other blocks take room once they are written, where there may be none, or at once with --allocate. N - 531 blocks are for files, of which there are at most 510, of at most 49152 bytes each. The disk cannot grow later.",
+    )
+    .arg(file_arg(alloc, "The file to make"))?
+    .arg(blocks_arg(alloc))?
+    .arg(allocate)
 }
 
 fn check_command<'w>(alloc: Global) -> Result<Command<'w>, AllocError> {
-    Command::new(alloc, "check")
-        .about("Checks that the files of a disk are sound, and prints its version and their number")
-        .after_help("Nothing is written to FILE.")
-        .arg(file_arg(alloc, "The file of the disk"))
+    subcommand(
+        alloc,
+        "check",
+        "Checks that the files of a disk are sound, and prints its version and their number",
+        "Nothing is written to FILE.",
+    )
+    .arg(file_arg(alloc, "The file of the disk"))
 }
 
 fn migrate_command<'w>(alloc: Global) -> Result<Command<'w>, AllocError> {
-    Command::new(alloc, "migrate")
-        .about("Makes a disk of version 1 one of version 2, with the same files")
-        .after_help(
-            "To a disk of version 2 nothing is done. All files stay, also where the program is killed or the power fails: the disk is then of either version.",
-        )
-        .arg(file_arg(alloc, "The file of the disk"))
+    subcommand(
+        alloc,
+        "migrate",
+        "Makes a disk of version 1 one of version 2, with the same files",
+        "To a disk of version 2 nothing is done. All files stay, also where the program is killed or the power fails: the disk is then of either version.",
+    )
+    .arg(file_arg(alloc, "The file of the disk"))
 }
 
 fn serve_command<'w>(alloc: Global) -> Result<Command<'w>, AllocError> {
-    let port = Arg::new(alloc, PORT)
-        .long(PORT)
-        .value_name("P")
-        .required(true)
-        .value_parser(value_parser!(u16))
-        .help("The port to listen on, or 0 for one that is free");
-    let address = Arg::new(alloc, ADDRESS)
-        .long(ADDRESS)
-        .value_name("A")
-        .default_value("127.0.0.1")
-        .help(
-            "The address of this machine to listen on; whoever reaches it reads and writes all files",
-        );
-    let read_only = Arg::new(alloc, READ_ONLY)
-        .long(READ_ONLY)
-        .action(ArgAction::SetTrue)
-        .help(
-            "Opens FILE to read it alone, and answers each call that changes a file by NFS3ERR_ROFS",
-        );
-    let mirror = Arg::new(alloc, MIRROR)
-        .long(MIRROR)
-        .action(ArgAction::SetTrue)
-        .help("Reads the whole disk into memory at the start, and answers each read from there");
-    Command::new(alloc, "serve")
-        .about("Serves the files of a disk so that a Linux machine mounts them")
-        .after_help(SERVE_NOTES)
-        .arg(file_arg(alloc, "The file of the disk"))?
-        .arg(port)?
-        .arg(address)?
-        .arg(control_arg(alloc, "The socket to make, by which the service is ended"))?
-        .arg(read_only)?
-        .arg(mirror)
+    let read_only = flag_arg(
+        alloc,
+        READ_ONLY,
+        "Opens FILE to read it alone, and answers each call that changes a file by NFS3ERR_ROFS",
+    );
+    let mirror = flag_arg(
+        alloc,
+        MIRROR,
+        "Reads the whole disk into memory at the start, and answers each read from there",
+    );
+    subcommand(
+        alloc,
+        "serve",
+        "Serves the files of a disk so that a Linux machine mounts them",
+        SERVE_NOTES,
+    )
+    .arg(file_arg(alloc, "The file of the disk"))?
+    .arg(port_arg(alloc))?
+    .arg(address_arg(alloc))?
+    .arg(control_arg(alloc, "The socket to make, by which the service is ended"))?
+    .arg(read_only)?
+    .arg(mirror)
 }
 
 fn stop_command<'w>(alloc: Global) -> Result<Command<'w>, AllocError> {
-    Command::new(alloc, "stop")
-        .about("Ends the service at a socket")
-        .after_help(
-            "It returns once all is stable, and the disk is closed and unlocked. Where the device has failed the status is 1.",
-        )
-        .arg(control_arg(alloc, "The socket of the service").required(true))
+    subcommand(
+        alloc,
+        "stop",
+        "Ends the service at a socket",
+        "It returns once all is stable, and the disk is closed and unlocked. Where the device has failed the status is 1.",
+    )
+    .arg(control_arg(alloc, "The socket of the service").required(true))
 }
 
 // The socket by which a service is ended.
 fn control_arg<'w>(alloc: Global, help: &'w str) -> Arg<'w> {
-    Arg::new(alloc, CONTROL)
-        .long(CONTROL)
-        .value_name("PATH")
-        .help(help)
+    option_arg(alloc, CONTROL, "PATH", help)
+}
+
+// The number of blocks of a disk.
+fn blocks_arg<'w>(alloc: Global) -> Arg<'w> {
+    option_arg(
+        alloc,
+        BLOCKS,
+        "N",
+        "How many blocks of 4096 bytes the disk has, 532 to 33299",
+    )
+    .required(true)
+    .value_parser(value_parser!(u64).range(532..=33299))
+}
+
+// The port to listen on.
+fn port_arg<'w>(alloc: Global) -> Arg<'w> {
+    option_arg(
+        alloc,
+        PORT,
+        "P",
+        "The port to listen on, or 0 for one that is free",
+    )
+    .required(true)
+    .value_parser(value_parser!(u16))
+}
+
+// The address to listen on.
+fn address_arg<'w>(alloc: Global) -> Arg<'w> {
+    option_arg(
+        alloc,
+        ADDRESS,
+        "A",
+        "The address of this machine to listen on; whoever reaches it reads and writes all files",
+    )
+    .default_value("127.0.0.1")
 }

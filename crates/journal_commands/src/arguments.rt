@@ -1,7 +1,7 @@
 // What the grammars of both programs have.
 
 use crate::fault::Fault;
-use clap::{Arg, ArgMatches, Command};
+use clap::{Arg, ArgAction, ArgMatches, Command};
 use std::alloc::{AllocError, Global};
 
 const STATUSES: &str =
@@ -18,15 +18,41 @@ pub fn program_command<'w>(
     about: &'w str,
     versions: &'w str,
 ) -> Result<Command<'w>, AllocError> {
-    let command = Command::new(alloc, name)
+    let command = subcommand(alloc, name, about, STATUSES)
         .bin_name(name)?
-        .about(about)
-        .version(versions)
-        .after_help(STATUSES)
+        .version(versions);
+    Ok(with_subcommands(command))
+}
+
+// A grammar that takes a subcommand, and its words without the program's name.
+fn with_subcommands<'w>(command: Command<'w>) -> Command<'w> {
+    command
         .no_binary_name(true)
         .subcommand_required(true)
-        .arg_required_else_help(true);
-    Ok(command)
+        .arg_required_else_help(true)
+}
+
+// What follows has no clauses. The prover takes twice as long with each further call of a builder,
+// so grammars are made of these, and not of long chains.
+/// A subcommand with the line that its help begins with, and the notes at its end.
+pub fn subcommand<'w>(alloc: Global, name: &'w str, about: &'w str, notes: &'w str) -> Command<'w> {
+    Command::new(alloc, name).about(about).after_help(notes)
+}
+
+/// An argument that is given or not, as `--name`.
+pub fn flag_arg<'w>(alloc: Global, name: &'w str, help: &'w str) -> Arg<'w> {
+    Arg::new(alloc, name)
+        .long(name)
+        .action(ArgAction::SetTrue)
+        .help(help)
+}
+
+/// An argument with a value, as `--name VALUE`.
+pub fn option_arg<'w>(alloc: Global, name: &'w str, value_name: &'w str, help: &'w str) -> Arg<'w> {
+    Arg::new(alloc, name)
+        .long(name)
+        .value_name(value_name)
+        .help(help)
 }
 
 /// The file that a subcommand is for, with the text of its help.

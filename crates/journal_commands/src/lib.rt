@@ -17,7 +17,7 @@ mod socket;
 mod starting;
 mod versions;
 
-pub use arguments::{FILE, file_arg, program_command, word};
+pub use arguments::{FILE, file_arg, flag_arg, option_arg, program_command, subcommand, word};
 pub use fault::Fault;
 pub use labels::{label_of, refuse_other_regions, regions_of_files, told};
 pub use opening::{find, open_to_read, print_line, settle};
