@@ -1,14 +1,25 @@
 -- What a file holds, byte by byte.
-use Rattle.std.proofs.Common.{◌≡◌, ℕ, zero, suc, ◌+◌, ◌-◌, ◌*◌, ◌/◌, ◌%◌, ◌<◌, ◌≤◌, ◌++◌, length, get_or, ap, ◌⊎◌, inl, inr, ◌∙◌, arith}
-use Rattle.std.proofs.lemmas.Bool.{cases_lt}
-use Rattle.std.proofs.lemmas.List.{get_or_append_left, get_or-append-add, get_or-take}
-use Rattle.journal_treestore.specs.Views.{Held, View, bytes_in, bytes_of, content}
+use Rattle.std.proofs.Common.{◌≡◌, ◌≢◌, ℕ, zero, suc, ◌+◌, ◌-◌, ◌*◌, ◌/◌, ◌%◌, ◌<◌, ◌≤◌, cond, ◌++◌, length, get_or, ap, ◌⊎◌, inl, inr, ◌∙◌, arith}
+use Rattle.std.proofs.lemmas.Bool.{cases_lt, ne_eqb}
+use Rattle.std.proofs.lemmas.List.{get_or_append_left, get_or-append-add, get_or-take, get_or-replicate}
+use Rattle.journal_treestore.specs.Views.{Held, View, zero_block, bytes_in, bytes_of, content}
 use Rattle.journal_treestore.specs.Sound.{IsSoundInode}
+use Rattle.journal_treestore.proofs.Recording.{zero_block-is}
 use Rattle.journal_treecalls.proofs.Cases.{length-bytes_of}
 
 -- the byte at a place of what the blocks of an inode hold
 abbrev pub byte_at : View → Held → ℕ → ℕ
 byte_at V x i = get_or (bytes_in V (x.blocks (i / 4096))) (i % 4096) 0
+
+pub zero-at : (i : ℕ) → i < 4096 → get_or zero_block i 0 ≡ 0
+zero-at i low = ap (λ v. get_or v i 0) zero_block-is ∙ get_or-replicate {A = ℕ} 4096 i 0 0 low
+
+-- the byte at a place of a block that is there, and of none
+pub in-some : (U : View) (x m : ℕ) → x ≢ 0 → get_or (bytes_in U x) m 0 ≡ get_or (U.block x) m 0
+in-some U x m there = ap (λ t. get_or (cond t zero_block (U.block x)) m 0) (ne_eqb x 0 there)
+
+pub in-none : (U : View) (x m : ℕ) → x ≡ 0 → m < 4096 → get_or (bytes_in U x) m 0 ≡ 0
+in-none U x m none low = ap (λ x. get_or (bytes_in U x) m 0) none ∙ zero-at m low
 
 module _ (V : View) (n : ℕ) (x : Held) (s : IsSoundInode V n x) where
   pub get-bytes : (k i : ℕ) → i < 4096 * k → get_or (bytes_of V x.blocks k) i 0 ≡ byte_at V x i

@@ -21,3 +21,5 @@ pub mod Holding
 pub mod Stepping
 pub mod Resizing
 pub mod Setters
+pub mod Fetching
+pub mod Portioning

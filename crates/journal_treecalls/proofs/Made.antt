@@ -49,7 +49,7 @@ use Rattle.journal_treecalls.specs.Disks.{Write, inode_seen, written, Learns, Do
 use Rattle.journal_treecalls.specs.Disks.Write.{inode_write, owner_write, block_write}
 use Rattle.journal_treecalls.specs.Targets.{held, IsInode}
 use Rattle.journal_treecalls.specs.Names.{moved, IsNamed, IsNameFor}
-use Rattle.journal_treecalls.specs.Rooms.{IsFreeNumber, if_young, IsYoung, IsEmptyIn, IsPlaceIn, IsPlaceOf, HasFreeNumber, HasFreeBlock, IsFreeBlock, if_nobodys, has_at, IsHad, IsPlaceFor, IsFitPlace, HasRoomFor, IsRoomFor, IsFitRoom, room_of, owner_of, with_further, new_head, with_new, with_new_block, making_call, mkdir_plan, create_plan, plan_for, Plants, IsMakingNode, MakesNode, MakesPlanned, IsMaking, Makes}
+use Rattle.journal_treecalls.specs.Rooms.{IsFreeNumber, if_young, IsYoung, IsEmptyIn, IsPlaceIn, IsPlaceOf, HasFreeNumber, HasFreeBlock, IsFreeBlock, IsThis, if_nobodys, has_at, IsHad, IsPlaceFor, IsFitPlace, HasRoomFor, IsRoomFor, IsFitRoom, room_of, owner_of, with_further, new_head, with_new, with_new_block, making_call, mkdir_plan, create_plan, plan_for, Plants, IsMakingNode, MakesNode, MakesPlanned, IsMaking, Makes}
 use Rattle.journal_treecalls.specs.Rooms.IsMakingNode.{full, makes}
 use Rattle.journal_treecalls.specs.Rooms.IsMakingPlanned.{kept, tried}
 use Rattle.journal_treecalls.specs.Rooms.IsMaking.{there, missing}
@@ -141,6 +141,13 @@ block-free old new b begin count index owner had o l sound begins counts is from
     by : (V : View) → new V → (had : Bool) → (V.owner b ≡ owner) × IsHad V b owner had → IsFreeBlock V (if_nobodys b had)
     by V m true k = tt
     by V m false k = free V m k
+
+pub this-block : (b : ℕ) (had : Bool) (o : Option ℕ) → o ≡ if_nobodys b had → IsThis b o
+this-block b had o is = subst (IsThis b) (sym is) (by had)
+  where
+    by : (had : Bool) → IsThis b (if_nobodys b had)
+    by true = tt
+    by false = refl
 
 pub place-further : (old new : View → Type 0) (h : Head) (j b : ℕ) (o : Option ℕ) → Learns old new (λ V. IsFreeBlock V o) → o ≡ Some b → j ≡ h.size / 4096 → j < MOST_BLOCKS → length h.blocks ≡ DIRECT_BLOCKS
     → Learns old new (λ V. IsPlaceFor V h (Some (Further (record { block = b; j = j }))))

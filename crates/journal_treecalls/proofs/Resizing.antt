@@ -15,10 +15,9 @@ use Rattle.journal_tree.specs.Attributes.{resized, resized_body, set_attributes,
 use Rattle.journal_tree.specs.Calls.{kind_of}
 use Rattle.journal_treestore.specs.declared.inode.Head.{Head}
 use Rattle.journal_treestore.specs.Inodes.{name_from}
-use Rattle.journal_treestore.specs.Views.{Held, View, with_block, held_of, zero_block, bytes_in, content, body_of, node_of, entry_in, entry_by, entry_of}
+use Rattle.journal_treestore.specs.Views.{Held, View, with_block, held_of, bytes_in, content, body_of, node_of, entry_in, entry_by, entry_of}
 use Rattle.journal_treestore.specs.Views.Seen.{used}
 use Rattle.journal_treestore.specs.Sound.{IsSoundInode, IsSoundView}
-use Rattle.journal_treestore.proofs.Recording.{zero_block-is}
 use Rattle.journal_treestore.proofs.Viewing.{inode-node}
 use Rattle.journal_treestore.proofs.Changing.{one_owner, inode-same, inode-other}
 use Rattle.journal_treecalls.specs.declared.node.Record.{Record}
@@ -26,25 +25,22 @@ use Rattle.journal_treecalls.specs.declared.setting.Tail.{Tail}
 use Rattle.journal_treecalls.specs.Targets.{held}
 use Rattle.journal_treecalls.specs.Sizes.{IsSetHead, tail_of, cleared, with_head, with_cleared, with_set}
 use Rattle.journal_treecalls.proofs.Cases.{length-content}
-use Rattle.journal_treecalls.proofs.Holding.{byte_at, content-at}
+use Rattle.journal_treecalls.proofs.Holding.{byte_at, zero-at, in-some, in-none, content-at}
 use Rattle.journal_treecalls.proofs.Stepping.{IsNodeStep}
 
 -- ── bytes ──
 
-zero-at : (i : ℕ) → i < 4096 → get_or zero_block i 0 ≡ 0
-zero-at i low = ap (λ v. get_or v i 0) zero_block-is ∙ get_or-replicate {A = ℕ} 4096 i 0 0 low
-
-cleared-long : (v : List ℕ) (from : ℕ) → length v ≡ 4096 → from ≤ 4096 → length (cleared v from) ≡ 4096
+pub cleared-long : (v : List ℕ) (from : ℕ) → length v ≡ 4096 → from ≤ 4096 → length (cleared v from) ≡ 4096
 cleared-long v from long low =
     length-append (take from v) (replicate (length v - from) 0)
     ∙ (let a = length-take-le from v (omega (arith, long, low)) in let b = length-replicate {A = ℕ} (length v - from) 0 in omega (arith, a, b, long, low))
 
-cleared-front : (v : List ℕ) (from i : ℕ) → length v ≡ 4096 → from ≤ 4096 → i < from → get_or (cleared v from) i 0 ≡ get_or v i 0
+pub cleared-front : (v : List ℕ) (from i : ℕ) → length v ≡ 4096 → from ≤ 4096 → i < from → get_or (cleared v from) i 0 ≡ get_or v i 0
 cleared-front v from i long fits low =
     get_or_append_left (take from v) (replicate (length v - from) 0) 0 i (let a = length-take-le from v (omega (arith, long, fits)) in omega (arith, a, low))
     ∙ get_or-take from v i 0 low
 
-cleared-back : (v : List ℕ) (from i : ℕ) → length v ≡ 4096 → from ≤ 4096 → from ≤ i → i < 4096 → get_or (cleared v from) i 0 ≡ 0
+pub cleared-back : (v : List ℕ) (from i : ℕ) → length v ≡ 4096 → from ≤ 4096 → from ≤ i → i < 4096 → get_or (cleared v from) i 0 ≡ 0
 cleared-back v from i long fits past low =
     ap (λ k. get_or (cleared v from) k 0) split
     ∙ get_or-append-add (take from v) (replicate (length v - from) 0) (i - from) 0
@@ -321,12 +317,6 @@ module _ (V : View) (n : ℕ) (r : Record) (k : Head) (c : Caller) (s : Settings
       generation = set.generation;
       entries = λ place. ap (λ kind. entry_by (with_cleared V n r k T) kind K place) (set.kind ∙ a_file) ∙ sym (ap (λ kind. entry_by V kind H place) a_file);
     }
-
-    in-some : (U : View) (x m : ℕ) → x ≢ 0 → get_or (bytes_in U x) m 0 ≡ get_or (U.block x) m 0
-    in-some U x m there = ap (λ t. get_or (cond t zero_block (U.block x)) m 0) (ne_eqb x 0 there)
-
-    in-none : (U : View) (x m : ℕ) → x ≡ 0 → m < 4096 → get_or (bytes_in U x) m 0 ≡ 0
-    in-none U x m none low = ap (λ x. get_or (bytes_in U x) m 0) none ∙ zero-at m low
 
     first : (i : ℕ) → i < k.size → byte_at (with_cleared V n r k T) K i ≡ get_or (bytes_in V1 (get_or r.head.blocks (i / 4096) 0)) (i % 4096) 0
     first i low = ap (λ b. get_or (bytes_in V1 b) (i % 4096) 0) (kept-before (i / 4096) (omega (arith, low)))

@@ -7,3 +7,5 @@ pub mod Directories
 pub mod Facts
 pub mod Refusals
 pub mod Sizes
+pub mod Fetches
+pub mod Portions

@@ -93,6 +93,11 @@ abbrev pub IsFreeBlock : View → Option ℕ → Type 0
 IsFreeBlock V None = Unit {0}
 IsFreeBlock V (Some b) = HasFreeBlock V b
 
+-- if there is a block, it is this one
+abbrev pub IsThis : ℕ → Option ℕ → Type 0
+IsThis b None = Unit {0}
+IsThis b (Some f) = f ≡ b
+
 -- the block, if nobody has it
 abbrev pub if_nobodys : ℕ → Bool → Option ℕ
 if_nobodys b true = None

@@ -1,7 +1,8 @@
 // The bytes that calls write.
-ghost use Rattle.std.specs.Prelude.{◌≡◌, ◌<◌, ◌≤◌, length};
+ghost use Rattle.std.specs.Prelude.{◌≡◌, ◌<◌, ◌≤◌, ◌+◌, length};
 ghost use Rattle.journal_tree.specs.declared.limits.TheConstants.{MOST_NAME};
 ghost use Rattle.journal_tree.specs.Times.{IsTime};
+ghost use Rattle.journal_treestore.specs.Bytes.{with_piece};
 ghost use Rattle.journal_treestore.specs.Entries.{with_entry};
 ghost use Rattle.journal_treestore.specs.Inodes.{name_from};
 ghost use Rattle.journal_treestore.specs.Views.{held_of};
@@ -13,6 +14,14 @@ use crate::node::Record;
 use journal_tree::{Attributes, NANOS, Time};
 use journal_treestore::{Entry, Head, INODE_BYTES, Inode, PLACES, name_in};
 use journal_world::Value;
+
+// Puts a piece over the bytes from a place on.
+pub(crate) fn put(bytes: &mut [u8], at: usize, piece: &[u8])
+    requires { at + length piece.now ≤ length bytes.old }
+    ensures { bytes.new ≡ with_piece bytes.old at piece.now }
+{
+    bytes[at..at + piece.len()].copy_from_slice(piece);
+}
 
 // A block with an entry put at a place.
 pub(crate) fn put_entry(block: Value, at: usize, entry: Entry) -> Value

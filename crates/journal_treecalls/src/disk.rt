@@ -1,5 +1,5 @@
 // The reads and writes of a call on a disk with a tree.
-ghost use Rattle.std.specs.Prelude.{ℕ, ◌≡◌, ◌<◌, ◌≤◌, List, [], ◌∷◌, IfOk, length};
+ghost use Rattle.std.specs.Prelude.{ℕ, ◌≡◌, ◌<◌, ◌≤◌, List, [], ◌∷◌, IfOk, length, replicate};
 ghost use Rattle.journal_treestore.specs.declared.place.TheConstants.{MOST_DISK_BLOCKS};
 ghost use Rattle.journal_treestore.specs.Owners.{owner_from};
 ghost use Rattle.journal_treestore.specs.Views.{View, zero_block};
@@ -47,6 +47,13 @@ pub trait TreeDisk {
     fn zero_block(&self) -> Result<Value, Self::Fault>
         ensures zeros { IfOk result (λ value. value ≡ zero_block) }
         ensures whole { IfOk result (λ value. length value ≡ 4096) };
+
+    /// So many zeros, in memory that is taken for them.
+    ///
+    /// # Errors
+    /// - The memory is refused.
+    fn zeros(&self, count: usize) -> Result<Vec<u8>, Self::Fault>
+        ensures { IfOk result (λ bytes. bytes.items ≡ replicate count 0) };
 
     /// The bytes of an inode.
     ///

@@ -1,7 +1,7 @@
 // Room for a new node: a number that is free, and a place in its directory.
 ghost use Rattle.std.specs.Prelude.{◌≡◌, ◌<◌, [], IfOk, length};
 ghost use Rattle.journal_treecalls.specs.Disks.{Learns};
-ghost use Rattle.journal_treecalls.specs.Rooms.{if_young, IsFreeNumber, IsYoung, IsEmptyIn, IsPlaceIn, IsPlaceOf, IsPlaceInside, IsFreeBlock, if_nobodys, IsHad, has_at, room_of, IsPlaceFor, IsFitPlace, IsRoomFor, IsFitRoom};
+ghost use Rattle.journal_treecalls.specs.Rooms.{if_young, IsFreeNumber, IsYoung, IsEmptyIn, IsPlaceIn, IsPlaceOf, IsPlaceInside, IsFreeBlock, IsThis, if_nobodys, IsHad, has_at, room_of, IsPlaceFor, IsFitPlace, IsRoomFor, IsFitRoom};
 
 use crate::TreeDisk;
 use crate::node::inode_of;
@@ -253,9 +253,10 @@ fn find_block<T: TreeDisk>(disk: &mut T, blocks: &[u32]) -> Result<Option<u32>, 
 }
 
 // The block, if it is one of data and nobody has it.
-fn free_block<T: TreeDisk>(disk: &mut T, block: u32) -> Result<Option<u32>, T::Fault>
+pub(crate) fn free_block<T: TreeDisk>(disk: &mut T, block: u32) -> Result<Option<u32>, T::Fault>
     requires first { T.writes disk.old ≡ [] }
     ensures learns { IfOk result (λ found. Learns (T.may_be disk.old) (T.may_be disk.new) (λ V. IsFreeBlock V found)) }
+    ensures same { IfOk result (IsThis block) }
     ensures first { T.writes disk.new ≡ [] }
 {
     let begin = disk.first_data();

@@ -158,7 +158,7 @@ fn set_allowed<T: TreeDisk>(
 }
 
 // The fields of a node once this is set.
-fn set_head(caller: &Caller, settings: &Settings, head: &Head, now: Time) -> Head
+pub(crate) fn set_head(caller: &Caller, settings: &Settings, head: &Head, now: Time) -> Head
     requires { IsTime now }
     ensures { IsSetHead caller.now settings.now now head.now result }
 {
@@ -201,7 +201,7 @@ fn cut_one(block: u32, size: u64, j: usize) -> u32
 
 // The inode is written, and before it the last block, if there may be other bytes than zeros where
 // the file grows.
-fn put_head<T: TreeDisk>(
+pub(crate) fn put_head<T: TreeDisk>(
     disk: &mut T,
     number: u32,
     target: &Record,
@@ -217,7 +217,7 @@ fn put_head<T: TreeDisk>(
 }
 
 // The block to clear before a file has this size. A block after the file's end is none.
-fn tail_of(head: &Head, size: u64) -> Option<Tail>
+pub(crate) fn tail_of(head: &Head, size: u64) -> Option<Tail>
     ensures { result ≡ tail_of head.now size }
 {
     let j = (head.size / BLOCK_BYTES) as usize;
@@ -269,7 +269,7 @@ fn put_cleared<T: TreeDisk>(
 }
 
 // A node before and after.
-fn changed(number: u32, before: &Head, after: &Head) -> Changed
+pub(crate) fn changed(number: u32, before: &Head, after: &Head) -> Changed
     ensures { result ≡ changed_told number before.now after.now }
 {
     Changed {
@@ -279,7 +279,7 @@ fn changed(number: u32, before: &Head, after: &Head) -> Changed
 }
 
 // The block, with zeros from a place on.
-fn clear_from(block: Value, from: usize) -> Value
+pub(crate) fn clear_from(block: Value, from: usize) -> Value
     requires whole { length block ≡ 4096 }
     requires inside { from ≤ 4096 }
     ensures is { result ≡ cleared block from }
@@ -291,7 +291,7 @@ fn clear_from(block: Value, from: usize) -> Value
 }
 
 // Makes bytes zero, from a place on.
-fn cut_off(bytes: &mut Vec<u8>, from: usize)
+pub(crate) fn cut_off(bytes: &mut Vec<u8>, from: usize)
     requires { from ≤ length bytes.old.items }
     ensures { bytes.new.items ≡ cleared bytes.old.items from }
 {
