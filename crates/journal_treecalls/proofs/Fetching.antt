@@ -1,5 +1,5 @@
 -- Bytes of a file are put, block by block.
-use Rattle.std.proofs.Common.{◌≡◌, ◌≢◌, ℕ, zero, suc, ◌+◌, ◌-◌, ◌*◌, ◌/◌, ◌%◌, ◌<◌, ◌≤◌, max, min, Bool, true, false, not, cond, List, ◌++◌, length, take, drop, get_or, replicate, refl, sym, ap, subst, ◌⊎◌, inl, inr, ◌∙◌, arith, length-append}
+use Rattle.std.proofs.Common.{◌≡◌, ◌≢◌, ℕ, ◌+◌, ◌-◌, ◌*◌, ◌/◌, ◌%◌, ◌<◌, ◌≤◌, max, min, Bool, true, false, not, List, ◌++◌, length, take, drop, get_or, replicate, refl, sym, ap, ◌⊎◌, inl, inr, ◌∙◌, arith, length-append}
 use Rattle.std.specs.Prelude.{nat_lt, slice_range}
 use Rattle.std.proofs.lemmas.Bool.{cases_eq, cases_lt, lt-ltb, ltb-true, and_from, and_parts, not_from_false, false≢true}
 use Rattle.std.proofs.lemmas.List.{length-take-le, length-drop, get_or_append_left, get_or-append_right, get_or-take, get_or-drop}

@@ -48,6 +48,10 @@ pub IfOk-like : {A B : Type 0} (r : Result A B) (P Q : A → Type 0) → ((x : A
 IfOk-like (Ok x) P Q f p = f x p
 IfOk-like (Err e) P Q f p = p
 
+pub IfOk-both : {A B : Type 0} (r : Result A B) (P Q R : A → Type 0) → ((x : A) → P x → Q x → R x) → IfOk r P → IfOk r Q → IfOk r R
+IfOk-both (Ok x) P Q R f p q = f x p q
+IfOk-both (Err e) P Q R f p q = p
+
 module _ (old new : View → Type 0) where
   -- ── an inode ──
 

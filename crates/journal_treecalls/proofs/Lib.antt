@@ -23,3 +23,8 @@ pub mod Resizing
 pub mod Setters
 pub mod Fetching
 pub mod Portioning
+pub mod Imaging
+pub mod Taking
+pub mod Laying
+pub mod Overlaying
+pub mod Writes

@@ -67,7 +67,7 @@ resized-back bytes (Some m) i low past =
     ∙ get_or-replicate {A = ℕ} m (i - length bytes) 0 0 (omega (arith, low, past))
 
 -- where a file does not have its last block, there is nothing to clear
-no-tail : (h : Head) (size : ℕ) → h.size ≤ 196608 → tail_of h size ≡ None → h.size < size → (4096 * (h.size / 4096) < h.size) → get_or h.blocks (h.size / 4096) 0 ≡ 0
+pub no-tail : (h : Head) (size : ℕ) → h.size ≤ 196608 → tail_of h size ≡ None → h.size < size → (4096 * (h.size / 4096) < h.size) → get_or h.blocks (h.size / 4096) 0 ≡ 0
 no-tail h size fits is grows inside = by (nat_le size h.size) (nat_le 48 (h.size / 4096)) (eqb (get_or h.blocks (h.size / 4096) 0) 0) refl refl refl is
   where
     by : (a b e : Bool) → nat_le size h.size ≡ a → nat_le 48 (h.size / 4096) ≡ b → eqb (get_or h.blocks (h.size / 4096) 0) 0 ≡ e

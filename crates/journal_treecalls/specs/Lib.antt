@@ -9,3 +9,4 @@ pub mod Refusals
 pub mod Sizes
 pub mod Fetches
 pub mod Portions
+pub mod Overlays

@@ -11,6 +11,7 @@
 #![tactic(auto)]
 
 mod attributes;
+mod blocks;
 mod bytes;
 mod contents;
 mod creation;
@@ -20,10 +21,12 @@ mod entries;
 mod facts;
 mod fetch;
 mod growth;
+mod image;
 mod lookups;
 mod name;
 mod named;
 mod node;
+mod overlay;
 mod portion;
 mod refusals;
 mod removal;
@@ -38,6 +41,7 @@ pub use directories::rmdir;
 pub use disk::TreeDisk;
 pub use facts::{FactsReply, NameFactsReply, fsinfo, fsstat, pathconf};
 pub use lookups::lookup;
+pub use overlay::{WriteData, write};
 pub use portion::{ReadReply, read};
 pub use refusals::{create_exclusive, mknod, readlink, symlink};
 pub use removal::remove;
