@@ -28,3 +28,4 @@ pub mod Taking
 pub mod Laying
 pub mod Overlaying
 pub mod Writes
+pub mod Takeovers

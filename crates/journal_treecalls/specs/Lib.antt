@@ -10,3 +10,4 @@ pub mod Sizes
 pub mod Fetches
 pub mod Portions
 pub mod Overlays
+pub mod Takings

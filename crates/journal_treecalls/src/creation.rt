@@ -208,7 +208,12 @@ fn mkdir_plan(caller: &Caller, settings: &Settings, within: &Attributes, now: Ti
 }
 
 // The file that CREATE makes there.
-fn create_plan(caller: &Caller, settings: &Settings, within: &Attributes, now: Time) -> Plan
+pub(crate) fn create_plan(
+    caller: &Caller,
+    settings: &Settings,
+    within: &Attributes,
+    now: Time,
+) -> Plan
     ensures { result ≡ create_plan caller.now settings.now within.now now }
 {
     Plan {
@@ -285,7 +290,7 @@ fn make_found<T: TreeDisk>(
 }
 
 // A node is made if the plan has no refusal.
-fn make_planned<T: TreeDisk>(
+pub(crate) fn make_planned<T: TreeDisk>(
     disk: &mut T,
     number: u32,
     directory: &Record,

@@ -33,6 +33,7 @@ mod removal;
 mod room;
 mod search;
 mod setting;
+mod unchecked;
 
 pub use attributes::{AccessReply, access, getattr};
 pub use contents::commit;
@@ -47,3 +48,4 @@ pub use refusals::{create_exclusive, mknod, readlink, symlink};
 pub use removal::remove;
 pub use room::Spare;
 pub use setting::setattr;
+pub use unchecked::create_unchecked;

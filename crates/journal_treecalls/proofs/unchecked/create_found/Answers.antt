@@ -1,0 +1,9 @@
+use Rattle.journal_treecalls.proofs.Learned.{IfOk-like}
+use Rattle.journal_treecalls.proofs.Takeovers.{creates-there, creates-missing}
+use Rattle.journal_treecalls.proofs.unchecked.create_found.Goals as goal
+
+pub returns-in-None : goal.returns-in-None
+returns-in-None g c = IfOk-like c.make_planned.result _ _ (λ reply k. creates-missing _ _ _ c.args.caller.now c.args.wanted.now.directory c.args.found.now c.args.name.now c.args.wanted.now.plan c.args.wanted.now.size c.args.now reply c.in-None.is k) c.make_planned.ensures
+
+pub returns-in-Some : goal.returns-in-Some
+returns-in-Some g c = IfOk-like c.take_over.result _ _ (λ reply k. creates-there _ _ _ c.args.caller.now c.args.wanted.now.directory c.args.found.now c.args.name.now c.args.wanted.now.plan c.args.wanted.now.size c.args.now c.in-Some.hit c.told-directory.result reply c.in-Some.is c.told-directory.ensures k) c.take_over.ensures
