@@ -28,7 +28,7 @@ is-name LongName a b is = absurd (cc (is))
 is-name Name a b is = refl
 
 module _ {A : Type 0} (V : View) where
-  refused-name : (k : NameKind) (a b status : Status) (o : Outcome A) → name_status k a b ≡ Some status → with_name (tree_of V) k a b o ≡ refused status (tree_of V)
+  pub refused-name : (k : NameKind) (a b status : Status) (o : Outcome A) → name_status k a b ≡ Some status → with_name (tree_of V) k a b o ≡ refused status (tree_of V)
   refused-name Dot a b status o is = ap (λ s. refused s (tree_of V)) (cc)
   refused-name DotDot a b status o is = ap (λ s. refused s (tree_of V)) (cc)
   refused-name NoName a b status o is = ap (λ s. refused s (tree_of V)) (cc)

@@ -82,7 +82,7 @@ module _ (old new : View → Type 0) where
 
   -- ── a directory that is searched ──
 
-  directory-for : (V : View) (c : Caller) (h : Handle) (r : Record) → IsNode V h r → (k : Kind) (b : Bool) → r.head.kind ≡ k → may_search c r.head.attributes ≡ b → IsDirectoryFor V c h (directory_by k b r)
+  pub directory-for : (V : View) (c : Caller) (h : Handle) (r : Record) → IsNode V h r → (k : Kind) (b : Bool) → r.head.kind ≡ k → may_search c r.head.attributes ≡ b → IsDirectoryFor V c h (directory_by k b r)
   directory-for V c h r n File b kind may = other_kind r n kind
   directory-for V c h r n Directory true kind may = record { node = n; kind = kind; may = may }
   directory-for V c h r n Directory false kind may = no_right r n kind may

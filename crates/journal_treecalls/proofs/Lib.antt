@@ -29,3 +29,4 @@ pub mod Laying
 pub mod Overlaying
 pub mod Writes
 pub mod Takeovers
+pub mod Renames

@@ -6,23 +6,27 @@ use Rattle.journal_tree.specs.declared.reply.Handle.{Handle}
 use Rattle.journal_tree.specs.declared.settings.CreateMode.TheVariants.{Exclusive}
 use Rattle.journal_tree.specs.declared.caller.Caller.{Caller}
 use Rattle.journal_tree.specs.declared.status.Status.{Status}
-use Rattle.journal_tree.specs.declared.status.Status.TheVariants.{Exists, NoAccess, NotSupported}
+use Rattle.journal_tree.specs.declared.status.Status.TheVariants.{Exists, NoAccess, NotSupported, Stale}
 use Rattle.journal_tree.specs.Trees.{Node}
 use Rattle.journal_tree.specs.Rights.{may_rename}
 use Rattle.journal_tree.specs.Calls.{Outcome, refused, target, allowed, named as named_case}
-use Rattle.journal_tree.specs.Op.Call.{create, symlink, mknod}
+use Rattle.journal_tree.specs.Names.{make_other_case}
+use Rattle.journal_tree.specs.Op.Call.{create, symlink, mknod, link}
 use Rattle.journal_tree.specs.Op.Reply.{made, not_done}
-use Rattle.journal_tree.specs.Op.Op.{answers_create, answers_symlink, answers_mknod}
+use Rattle.journal_tree.specs.Op.Op.{answers_create, answers_symlink, answers_mknod, answers_link}
 use Rattle.journal_treestore.specs.Views.{View, tree_of}
 use Rattle.journal_treestore.specs.Sound.{IsSoundView}
+use Rattle.journal_treecalls.specs.declared.node.Record.{Record}
 use Rattle.journal_treecalls.specs.declared.search.Hit.{Hit}
 use Rattle.journal_treecalls.specs.declared.named.Named.{Named}
 use Rattle.journal_treecalls.specs.Disks.{Write, Learns, Does}
+use Rattle.journal_treecalls.specs.Targets.{IsTarget}
 use Rattle.journal_treecalls.specs.Names.{IsNameFor}
 use Rattle.journal_treecalls.specs.Refusals.{status_by, status_of_making, IsRefused}
 use Rattle.journal_treecalls.specs.Refusals.IsRefused.{unnamed, named}
 use Rattle.journal_treecalls.proofs.Learning.{learns-as, does-reads}
 use Rattle.journal_treecalls.proofs.Learned.{AreSound}
+use Rattle.journal_treecalls.proofs.Cases.{at-gone, at-node}
 use Rattle.journal_treecalls.proofs.ByName.{at-unnamed, at-missed, at-hit}
 
 module _ {A : Type 0} (V : View) (h : Handle) (c : Caller) (name : List ℕ) (sound : IsSoundView V) where
@@ -74,3 +78,15 @@ module _ (old new : View → Type 0) (ws : List Write) (none : ws ≡ []) (sound
   pub mknod-does : Does new ws (mknod h name) c now (not_done (Err status))
   mknod-does = does-reads new ws (mknod h name) c now (not_done (Err status)) none sound (λ V m.
       answers_mknod h name c now (tree_of V) (tree_of V) (Err status) (sym (making-refused V h c name (sound V m) status (l.now V m))))
+
+-- LINK, of a node to a name in a directory
+module _ (first old new : View → Type 0) (ws : List Write) (none : ws ≡ []) (sound : AreSound new) (c : Caller) (h d : Handle) (name : List ℕ) (now : Time) (found : Option Record) (l : Learns first old (λ V. IsTarget V h found)) where
+  pub link-none : found ≡ None → ((V : View) → new V → old V) → Does new ws (link h d name) c now (not_done (Err Stale))
+  link-none is same = does-reads new ws (link h d name) c now (not_done (Err Stale)) none sound (λ V m.
+      answers_link h d name c now (tree_of V) (tree_of V) (Err Stale) (sym (at-gone V h _ (subst (IsTarget V h) is (l.now V (same V m))))))
+
+  pub link-some : (r : Record) (status : Status) → found ≡ Some r → Learns old new (λ V. IsRefused V c d name status) → Does new ws (link h d name) c now (not_done (Err status))
+  link-some r status is k = does-reads new ws (link h d name) c now (not_done (Err status)) none sound (λ V m.
+      answers_link h d name c now (tree_of V) (tree_of V) (Err status) (sym (
+      at-node V h (λ n x. make_other_case c name (tree_of V) (target (tree_of V) d)) r (subst (IsTarget V h) is (l.now V (k.before V m)))
+      ∙ making-refused V d c name (sound V m) status (k.now V m))))

@@ -11,3 +11,4 @@ pub mod Fetches
 pub mod Portions
 pub mod Overlays
 pub mod Takings
+pub mod Renamings

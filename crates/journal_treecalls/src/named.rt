@@ -61,7 +61,7 @@ fn find_in<T: TreeDisk>(
 }
 
 // The answer to a name that is none.
-fn name_status(kind: NameKind, at_dot: Status, at_dot_dot: Status) -> Option<Status>
+pub(crate) fn name_status(kind: NameKind, at_dot: Status, at_dot_dot: Status) -> Option<Status>
     ensures { result ≡ name_status kind at_dot at_dot_dot }
 {
     match kind {

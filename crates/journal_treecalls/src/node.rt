@@ -70,7 +70,7 @@ pub(crate) fn searched<T: TreeDisk>(
 }
 
 // The inode, if it is that of a directory that the caller may search.
-fn directory_for(caller: &Caller, found: Record) -> Result<Record, Status>
+pub(crate) fn directory_for(caller: &Caller, found: Record) -> Result<Record, Status>
     ensures { result ≡ directory_of caller.now found }
 {
     let may = caller.may_search(&found.head.attributes);

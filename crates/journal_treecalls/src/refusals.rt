@@ -3,7 +3,7 @@ ghost use Rattle.std.specs.Prelude.{◌≡◌, [], IfOk, Err};
 ghost use Rattle.journal_tree.specs.declared.time.Time.{Time};
 ghost use Rattle.journal_tree.specs.declared.caller.Caller.{Caller};
 ghost use Rattle.journal_tree.specs.declared.settings.CreateMode.TheVariants.{Exclusive};
-ghost use Rattle.journal_tree.specs.Op.Call.{readlink as readlink_call, create as create_call, symlink as symlink_call, mknod as mknod_call};
+ghost use Rattle.journal_tree.specs.Op.Call.{readlink as readlink_call, create as create_call, symlink as symlink_call, mknod as mknod_call, link as link_call};
 ghost use Rattle.journal_tree.specs.Op.Reply.{made, not_done};
 ghost use Rattle.journal_treecalls.specs.Disks.{Learns, Does};
 ghost use Rattle.journal_treecalls.specs.Refusals.{status_of_making, IsRefused};
@@ -88,6 +88,30 @@ pub fn mknod<T: TreeDisk>(
     ensures { IfOk result (λ status. (now : Time) → Does (T.may_be disk.new) (T.writes disk.new) (mknod_call directory name.now) caller.now now (not_done (Err status))) }
 {
     refuse_making(disk, caller, directory, name)
+}
+
+/// LINK (RFC 1813, 3.3.15): a node has one name.
+///
+/// # Errors
+/// - The call is given up.
+///
+/// The answers. The first that holds:
+/// - `Stale`: the handle's node was removed.
+/// - Those of `create_exclusive`, of the directory and the name.
+pub fn link<T: TreeDisk>(
+    disk: &mut T,
+    caller: &Caller,
+    handle: Handle,
+    directory: Handle,
+    name: &[u8],
+) -> Result<Status, T::Fault>
+    requires first { T.writes disk.old ≡ [] }
+    ensures { IfOk result (λ status. (now : Time) → Does (T.may_be disk.new) (T.writes disk.new) (link_call handle directory name.now) caller.now now (not_done (Err status))) }
+{
+    match node(disk, handle)? {
+        None => Ok(Status::Stale),
+        Some(_target) => refuse_making(disk, caller, directory, name),
+    }
 }
 
 // The reason not to make a node of a name, where none of its kind is made.
