@@ -30,3 +30,7 @@ pub mod Overlaying
 pub mod Writes
 pub mod Takeovers
 pub mod Renames
+pub mod Walking
+pub mod Showing
+pub mod Lining
+pub mod Directing

@@ -12,3 +12,6 @@ pub mod Portions
 pub mod Overlays
 pub mod Takings
 pub mod Renamings
+pub mod Lines
+pub mod Walks
+pub mod Listings

@@ -1,4 +1,4 @@
--- What READ tells.
+-- The reply of READ.
 use Rattle.std.specs.Prelude.{ℕ, ◌≡◌, ◌+◌, ◌-◌, max, min, Bool, nat_le, if◌then◌else◌, length, Option, Some, None, Result, Ok, Err}
 use Rattle.journal_tree.specs.declared.limits.TheConstants.{TRANSFER_BYTES}
 use Rattle.journal_tree.specs.declared.reply.Kind.{Kind}

@@ -1,5 +1,5 @@
 // The reads and writes of a call on a disk with a tree.
-ghost use Rattle.std.specs.Prelude.{ℕ, ◌≡◌, ◌<◌, ◌≤◌, List, [], ◌∷◌, IfOk, length, replicate};
+ghost use Rattle.std.specs.Prelude.{ℕ, ◌≡◌, ◌<◌, ◌≤◌, List, [], ◌∷◌, ◌++◌, IfOk, length, replicate};
 ghost use Rattle.journal_treestore.specs.declared.place.TheConstants.{MOST_DISK_BLOCKS};
 ghost use Rattle.journal_treestore.specs.Owners.{owner_from};
 ghost use Rattle.journal_treestore.specs.Views.{View, zero_block};
@@ -7,6 +7,7 @@ ghost use Rattle.journal_treestore.specs.Sound.{IsSoundView};
 ghost use Rattle.journal_treecalls.specs.Disks.{Write, inode_seen, Learns};
 ghost use Rattle.journal_treecalls.specs.Disks.Write.{inode_write, owner_write, block_write};
 
+use crate::lines::Line;
 use journal_treestore::{INODE_BYTES, OWNER_BYTES};
 use journal_world::Value;
 
@@ -54,6 +55,17 @@ pub trait TreeDisk {
     /// - The memory is refused.
     fn zeros(&self, count: usize) -> Result<Vec<u8>, Self::Fault>
         ensures { IfOk result (λ bytes. bytes.items ≡ replicate count 0) };
+
+    /// A list without lines.
+    fn lines(&self) -> Vec<Line>
+        ensures { result.items ≡ [] };
+
+    /// Adds a line, in memory that is taken for it.
+    ///
+    /// # Errors
+    /// - The memory is refused.
+    fn add_line(&self, lines: &mut Vec<Line>, line: Line) -> Result<(), Self::Fault>
+        ensures { IfOk result (λ _. lines.new.items ≡ lines.old.items ++ line ∷ []) };
 
     /// The bytes of an inode.
     ///

@@ -96,7 +96,7 @@ fn lookup_name<T: TreeDisk>(
 }
 
 // The number of the directory above. The root is above itself.
-fn number_above(number: u32, directory: &Record) -> u32
+pub(crate) fn number_above(number: u32, directory: &Record) -> u32
     ensures { result ≡ number_above number directory.now }
 {
     if number == ROOT {

@@ -1,0 +1,135 @@
+// The entries of a directory, from a place on.
+ghost use Rattle.std.specs.Prelude.{◌≡◌, ◌+◌, ◌<◌, ◌≤◌, [], IfOk, get_or, length};
+ghost use Rattle.journal_tree.specs.declared.limits.TheConstants.{MOST_BLOCKS, MOST_NAME, MOST_PLACES};
+ghost use Rattle.journal_treestore.specs.Entries.{entry_from};
+ghost use Rattle.journal_treecalls.specs.Disks.{Learns};
+ghost use Rattle.journal_treecalls.specs.Walks.{IsNodeLine, ShowsEntry, ShowsPlace, ShowsBytes, ShowsBlock, ShowsBlocks};
+
+use crate::TreeDisk;
+use crate::lines::{Line, Page, add, named_line};
+use crate::node::told;
+use journal_tree::BLOCK_PLACES;
+use journal_treestore::{DIRECT_BLOCKS, Entry, Head, Inode, PLACES, name_in};
+
+// The lines of the entries of a directory of these blocks come onto the page, from a place on.
+pub(crate) fn show_blocks<T: TreeDisk>(
+    disk: &mut T,
+    blocks: &[u32; DIRECT_BLOCKS],
+    begin: u64,
+    page: &mut Page,
+) -> Result<(), T::Fault>
+    requires first { T.writes disk.old ≡ [] }
+    ensures learns { IfOk result (λ _. Learns (T.may_be disk.old) (T.may_be disk.new) (λ V. ShowsBlocks V begin blocks.now DIRECT_BLOCKS page.old page.new)) }
+    ensures first { T.writes disk.new ≡ [] }
+{
+    for j in 0..DIRECT_BLOCKS {
+        show_block(disk, blocks[j], j as u64, begin, page)?;
+    }
+    Ok(())
+}
+
+// So do those of block j, which has this number. Block 0 is none.
+fn show_block<T: TreeDisk>(
+    disk: &mut T,
+    number: u32,
+    j: u64,
+    begin: u64,
+    page: &mut Page,
+) -> Result<(), T::Fault>
+    requires first { T.writes disk.old ≡ [] }
+    requires low { j < MOST_BLOCKS }
+    ensures learns { IfOk result (λ _. Learns (T.may_be disk.old) (T.may_be disk.new) (λ V. ShowsBlock V begin number j page.old page.new)) }
+    ensures first { T.writes disk.new ≡ [] }
+{
+    if number == 0 {
+        return Ok(());
+    }
+    if BLOCK_PLACES * (j + 1) <= begin {
+        return Ok(());
+    }
+    let block = disk.block(number)?;
+    show_bytes(disk, block.bytes(), j, begin, page)
+}
+
+// So do those of the bytes of a block.
+fn show_bytes<T: TreeDisk>(
+    disk: &mut T,
+    block: &[u8],
+    j: u64,
+    begin: u64,
+    page: &mut Page,
+) -> Result<(), T::Fault>
+    requires first { T.writes disk.old ≡ [] }
+    requires low { j < MOST_BLOCKS }
+    requires whole { length block.now ≡ 4096 }
+    ensures learns { IfOk result (λ _. Learns (T.may_be disk.old) (T.may_be disk.new) (λ V. ShowsBytes V begin block.now j PLACES page.old page.new)) }
+    ensures first { T.writes disk.new ≡ [] }
+{
+    for at in 0..PLACES {
+        let place = BLOCK_PLACES * j + at as u64;
+        show_place(disk, Entry::read(block, at), place, begin, page)?;
+    }
+    Ok(())
+}
+
+// So does that of a place, if the place is not before the first.
+fn show_place<T: TreeDisk>(
+    disk: &mut T,
+    entry: Entry,
+    place: u64,
+    begin: u64,
+    page: &mut Page,
+) -> Result<(), T::Fault>
+    requires first { T.writes disk.old ≡ [] }
+    requires low { place < MOST_PLACES }
+    ensures learns { IfOk result (λ _. Learns (T.may_be disk.old) (T.may_be disk.new) (λ V. ShowsPlace V begin place entry page.old page.new)) }
+    ensures first { T.writes disk.new ≡ [] }
+{
+    if place < begin {
+        return Ok(());
+    }
+    if entry.number == 0 {
+        return Ok(());
+    }
+    match page.room {
+        None => Ok(()),
+        Some(_room) => show_entry(disk, entry.number, place, page),
+    }
+}
+
+// So does that of an entry.
+fn show_entry<T: TreeDisk>(
+    disk: &mut T,
+    number: u32,
+    place: u64,
+    page: &mut Page,
+) -> Result<(), T::Fault>
+    requires first { T.writes disk.old ≡ [] }
+    requires low { place < MOST_PLACES }
+    ensures learns { IfOk result (λ _. Learns (T.may_be disk.old) (T.may_be disk.new) (λ V. ShowsEntry V place number page.old page.new)) }
+    ensures first { T.writes disk.new ≡ [] }
+{
+    let bytes = disk.inode(number)?;
+    match Inode::read(&bytes) {
+        Inode::Used(head) => {
+            let shown = line_of(place, number, &head, name_in(&bytes));
+            add(disk, page, shown)
+        }
+        Inode::Free(_) => Ok(()),
+    }
+}
+
+// The line of an entry.
+fn line_of(place: u64, number: u32, head: &Head, name: &[u8]) -> Line
+    requires low { place < MOST_PLACES }
+    requires named { length name.now ≤ MOST_NAME }
+    ensures { IsNodeLine result (place + 3) number head.now name.now }
+{
+    named_line(
+        place + 3,
+        number,
+        name,
+        head.generation,
+        Some(told(number, head)),
+    )
+}
