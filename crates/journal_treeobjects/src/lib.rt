@@ -1,0 +1,35 @@
+//! The calls on a disk with a tree, through a transaction on the objects of a map.
+//!
+//! A map of objects is a disk with a tree (`specs/Maps.antt`): `view_of` is that disk, and
+//! `HasSoundTree` the rule of a mount. `TreeTransaction` is the `TreeDisk` of `journal_treecalls`
+//! over a transaction that reads and overwrites objects by their addresses. It keeps what it reads,
+//! so that it reads each object once, and gives its writes to the transaction at the end. A call
+//! that was done on it was then done on each map with a sound tree that agrees with the
+//! transaction's reads (`DoesOnMaps`).
+//!
+//! `TreeOperation` is a call as one transaction does it. Each call of `journal_treecalls` that does
+//! something is one.
+//!
+//! Nothing here needs the journal: an `ObjectTransaction` is all that is asked of it. No program
+//! uses this crate yet.
+#![tactic(auto)]
+
+mod fault;
+mod law;
+mod object_transaction;
+mod operation;
+mod requests;
+mod tree_disk;
+mod tree_transaction;
+
+pub use fault::TreeFault;
+pub use law::{
+    one_layout_is_cut_in_one_way, the_rule_is_of_values, writes_show_the_disk_after_them,
+};
+pub use object_transaction::ObjectTransaction;
+pub use operation::TreeOperation;
+pub use requests::{
+    Access, Asking, Commit, CreateGuarded, FsInfo, FsStat, GetAttr, Lookup, MkDir, PathConf,
+    Remove, RmDir, SetAttr,
+};
+pub use tree_transaction::{Finished, TreeTransaction};

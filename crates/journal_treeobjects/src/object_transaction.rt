@@ -1,0 +1,43 @@
+// A transaction on the objects of a map.
+ghost use Rattle.std.specs.Prelude.{◌≡◌, ◌∷◌, None, List, IsTrue, IfOk, OnOk, OnErr};
+ghost use Rattle.journal_world.specs.Addresses.{Shape};
+ghost use Rattle.journal_world.specs.Maps.{Pair, SamePairs, value_among, is_object};
+
+use journal_world::{Addr, Value};
+
+/// A transaction on the objects of a disk: what it reads is of one map, and what it overwrites is
+/// overwritten, all of it, if it is committed.
+pub trait ObjectTransaction {
+    /// Why a read or an overwrite is refused.
+    type Fault;
+
+    /// The layout of the disk.
+    ghost layout: { Self → Shape };
+
+    /// The objects that it has read, by address.
+    ghost reads: { Self → List Pair };
+
+    /// The objects that it has overwritten.
+    ghost writes: { Self → List Pair };
+
+    /// Reads an object that it has not overwritten.
+    ///
+    /// # Errors
+    /// - The transaction refuses. It has read what it had.
+    fn read(&mut self, addr: Addr) -> Result<Value, Self::Fault>
+        requires unwritten { value_among (writes self.old) addr ≡ None }
+        ensures reads { IfOk result (λ value. SamePairs (reads self.new) ((addr, value) ∷ reads self.old)) }
+        ensures object { IfOk result (λ value. IsTrue (is_object (layout self.old) (addr, value))) }
+        ensures same { OnErr result (reads self.new ≡ reads self.old) }
+        ensures same_layout { layout self.new ≡ layout self.old }
+        ensures same_writes { writes self.new ≡ writes self.old };
+
+    /// Overwrites an object.
+    ///
+    /// # Errors
+    /// - The transaction refuses.
+    fn overwrite(&mut self, addr: Addr, bytes: &[u8]) -> Result<(), Self::Fault>
+        ensures writes { OnOk result (SamePairs (writes self.new) ((addr, bytes.now) ∷ writes self.old)) }
+        ensures same_layout { layout self.new ≡ layout self.old }
+        ensures same_reads { reads self.new ≡ reads self.old };
+}
