@@ -1,0 +1,20 @@
+//! The calls on a tree of files, each one transaction of a journal.
+//!
+//! A `TreeStore` is a journal over a disk that is cut for a tree, under a rule that admits a map
+//! only where it has a sound tree. A `TreeOperation` is a call over a `TreeDisk`: it reads what it
+//! needs, writes what changes, and is committed with its answer. So the history has each call, and
+//! at its commit's place the call is the definition's, from the tree of the map before to the tree
+//! of the map after, whatever other threads commit meanwhile (`specs/Calls.antt`).
+//!
+//! No program uses this crate yet.
+#![tactic(auto)]
+
+mod fault;
+mod rule;
+mod store;
+mod transaction;
+
+pub use fault::AttemptFault;
+pub use rule::TreeRule;
+pub use store::{Committed, TreeStore};
+pub use transaction::JournalTransaction;
