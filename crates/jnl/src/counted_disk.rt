@@ -3,8 +3,8 @@ ghost use Rattle.std.specs.Prelude.{◌≡◌};
 
 use crate::counts::{DiskCounts, micros};
 use journal_block::Block;
-use journal_circ::FIRST_HOME;
 use journal_disk::{BlockDisk, DiskFault};
+use journal_world::FIRST_HOME;
 use std::time::Clock;
 
 // The block that is written last of each group of the log, and once.

@@ -1,12 +1,12 @@
 // What a service counts.
 
 use crate::working::OpenDisk;
-use journal_circ::LOG_POSITIONS;
 use journal_connections::{Count, LaneCount, Load};
 use journal_disk::BlockDisk;
 use journal_history::Naming;
 use journal_port::Counting;
 use journal_records::{Answer, Counter, Refused};
+use journal_world::LOG_POSITIONS;
 use std::alloc::{AllocError, Global};
 use std::sync::Wait;
 use std::sync::atomic::{AtomicBool, Ordering};

@@ -5,7 +5,7 @@ use Rattle.journal_block.specs.declared.update.Update.{Update}
 use Rattle.journal_block.specs.Block.{Bytes, with_bytes, u64_bytes, u64_at}
 use Rattle.journal_block.specs.Updates.{Content}
 use Rattle.journal_disk.specs.Disks.{block_at}
-use Rattle.journal_circ.specs.declared.layout.TheConstants.{FIRST_HOME, LOG_POSITIONS}
+use Rattle.journal_world.specs.declared.layout.TheConstants.{FIRST_HOME, LOG_POSITIONS}
 
 -- the block that has the content of a position: 2 + p mod 511
 abbrev pub log_block : ℕ → ℕ

@@ -5,7 +5,7 @@ use Rattle.journal_block.specs.Block.{Bytes}
 use Rattle.journal_disk.specs.Disks.{Past, block_at, read_of}
 use Rattle.journal_disk.specs.Images.{EveryImage, reading}
 use Rattle.journal_circ.specs.Log.{home_by, start_in, end_in}
-use Rattle.journal_circ.specs.declared.layout.TheConstants.{FIRST_HOME}
+use Rattle.journal_world.specs.declared.layout.TheConstants.{FIRST_HOME}
 
 -- the log of the image has no update of this home block
 abbrev pub LeavesOut : List Bytes → ℕ → Type 0

@@ -11,7 +11,7 @@ use Rattle.journal_disk.specs.Moments.{LeavesOnly}
 use Rattle.journal_circ.specs.declared.extent.Extent.{Extent}
 use Rattle.journal_circ.specs.Log.{updates_from, is_sealed, tag_in, tag_at, tag_of, other_tag, with_tag, with_address, word_of, HasLabel, IsWellFormed}
 use Rattle.journal_circ.specs.StandsFor.{StandsFor}
-use Rattle.journal_circ.specs.declared.layout.TheConstants.{FIRST_HOME, LOG_POSITIONS}
+use Rattle.journal_world.specs.declared.layout.TheConstants.{FIRST_HOME, LOG_POSITIONS}
 
 -- The state of a `Circ` that contracts see
 pub record Ring : Type 0 where

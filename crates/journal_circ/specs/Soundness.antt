@@ -2,7 +2,7 @@
 -- an honest disk.
 use Rattle.std.specs.Prelude.{ℕ, ◌≡◌, ◌≢◌, ◌⊎◌, true, length, ◌<◌, ◌≤◌, ◌+◌, ◌-◌, ◌^◌, false, IsTrue, List}
 use Rattle.journal_block.specs.declared.update.Update.{Update}
-use Rattle.journal_world.specs.declared.layout.TheConstants.{BLOCK_BYTES}
+use Rattle.journal_world.specs.declared.layout.TheConstants.{BLOCK_BYTES, FIRST_HOME, LOG_POSITIONS}
 use Rattle.journal_block.specs.Block.{Bytes, u64_at}
 use Rattle.journal_block.specs.Updates.{updated}
 use Rattle.journal_disk.specs.Disks.{Past, LostNone, block_at, read_of}
@@ -10,7 +10,7 @@ use Rattle.journal_disk.specs.Images.{EveryImage}
 use Rattle.journal_circ.specs.declared.extent.Extent.{Extent}
 use Rattle.journal_circ.specs.Log.{log_block, address, is_sealed, begin_of, tag_in, tag_of, tag_at, home_by, end_by, end_in, start_in, updates_from, HasLabel}
 use Rattle.journal_circ.specs.Ring.{Ring}
-use Rattle.journal_circ.specs.declared.layout.TheConstants.{FIRST_HOME, LOG_POSITIONS, MAX_GROUP}
+use Rattle.journal_circ.specs.declared.layout.TheConstants.{MAX_GROUP}
 
 -- the updates from one position to another, as the disk reads
 abbrev pub updates_between : Past → Bytes → ℕ → ℕ → List Update

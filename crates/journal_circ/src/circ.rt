@@ -1,6 +1,6 @@
 // A circular log on its disk.
 ghost use Rattle.std.specs.Prelude.{ℕ, ◌≡◌, ◌<◌, ◌≤◌, ◌+◌, ◌-◌, ◌^◌, slice_get, Some, true, IsTrue, OnOk, OnErr, IfOk, IfErr, IsErr};
-ghost use Rattle.journal_circ.specs.declared.layout.TheConstants.{FIRST_HOME, LOG_POSITIONS};
+ghost use Rattle.journal_world.specs.declared.layout.TheConstants.{FIRST_HOME, LOG_POSITIONS};
 ghost use Rattle.journal_disk.specs.Disks.{Keeps};
 ghost use Rattle.journal_circ.specs.Ring.{log_of, home_of, IsFault};
 ghost use Rattle.journal_circ.specs.Mending.{IsMendable};

@@ -31,11 +31,8 @@ ghost use Rattle.journal_block.specs.Block.{u64_at};
 ghost use Rattle.journal_circ.specs.Log.{log_block, address_at, is_sealed, home_by, start_block, label_of};
 
 use journal_block::Block;
+use journal_world::LOG_POSITIONS;
 
-/// The number of positions of the log.
-pub const LOG_POSITIONS: u64 = 511;
-/// The first block after the log.
-pub const FIRST_HOME: u64 = 513;
 /// The most positions of a group of a sealed log, so that two groups share no log block.
 pub const MAX_GROUP: u64 = 255;
 // A word has 5 bytes for the home block. A sealed log on a larger disk is J7, and `Circ::seal`

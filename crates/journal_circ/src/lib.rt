@@ -68,4 +68,4 @@ pub use circ::installer::{Freed, HomesPut, HomesSynced, StartPut};
 pub use circ::logger::{EndPut, LogBlocksPut, LogBlocksSynced};
 pub use circ::{Circ, Opened};
 pub use law::prove_mending_law;
-pub use layout::{FIRST_HOME, LOG_POSITIONS, MAX_GROUP, MAX_SEALED_BLOCKS};
+pub use layout::{MAX_GROUP, MAX_SEALED_BLOCKS};

@@ -1,12 +1,12 @@
 // The tags of a sealed log.
 ghost use Rattle.std.specs.Prelude.{ℕ, ◌≡◌, ◌≢◌, ◌<◌, ◌≤◌, ◌+◌, ◌-◌, ◌*◌, ◌/◌, ◌%◌, ◌^◌, [], ◌∷◌, length, slice_index_or, true, IsTrue};
 ghost use Rattle.journal_block.specs.Block.{u64_at, with_bytes};
-ghost use Rattle.journal_world.specs.declared.layout.TheConstants.{BLOCK_BYTES};
+ghost use Rattle.journal_world.specs.declared.layout.TheConstants.{BLOCK_BYTES, LOG_POSITIONS};
 ghost use Rattle.journal_circ.specs.Log.{address_at, address, is_sealed, begin_of, home_in, count_in, tag_in, first_in, tag_at, tag_of, with_tag, other_tag, word_of, with_group, are_there, end_of, bytes_by};
-ghost use Rattle.journal_circ.specs.declared.layout.TheConstants.{LOG_POSITIONS};
 
-use crate::layout::{BOUND_AT, LOG_POSITIONS, SEALED, address_at, is_sealed};
+use crate::layout::{BOUND_AT, SEALED, address_at, is_sealed};
 use journal_block::Block;
+use journal_world::LOG_POSITIONS;
 
 // One of three small numbers, chosen by the tags that the disk has, and not counted up. So nothing
 // has to be zeroed, and no number comes to an end.

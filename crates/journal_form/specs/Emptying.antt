@@ -8,7 +8,7 @@ use Rattle.journal_disk.specs.Moments.{LeavesOnly}
 use Rattle.journal_circ.specs.Log.{is_sealed, HasLabel}
 use Rattle.journal_circ.specs.StandsFor.{StandsFor}
 use Rattle.journal_circ.specs.Ring.{Ring, log_of, home_of, blocks_to, SameHomeBut}
-use Rattle.journal_circ.specs.declared.layout.TheConstants.{FIRST_HOME}
+use Rattle.journal_world.specs.declared.layout.TheConstants.{FIRST_HOME}
 
 -- Neither cycle of the log is under way, no call failed, and each image stands for the blocks of
 -- the log and has the label

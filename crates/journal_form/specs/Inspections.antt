@@ -4,7 +4,7 @@ use Rattle.journal_block.specs.Updates.{Content}
 use Rattle.journal_disk.specs.Disks.{Past}
 use Rattle.journal_disk.specs.Images.{EveryImage}
 use Rattle.journal_circ.specs.StandsFor.{StandsFor}
-use Rattle.journal_circ.specs.declared.layout.TheConstants.{FIRST_HOME}
+use Rattle.journal_world.specs.declared.layout.TheConstants.{FIRST_HOME}
 use Rattle.journal_form.specs.declared.inspecting.TheConstants.{FILES_MAGIC}
 
 -- Whatever blocks the images stand for, the first home block begins with the format's name exactly

@@ -11,10 +11,9 @@ ghost use Rattle.journal_form.specs.Inspections.{TellsFiles};
 
 use crate::form::LogForm;
 use journal_block::Block;
-use journal_circ::FIRST_HOME;
 use journal_disk::BlockDisk;
 use journal_wal::Wal;
-use journal_world::{Refusal, Refused};
+use journal_world::{FIRST_HOME, Refusal, Refused};
 use std::alloc::Global;
 
 /// The first bytes of the first home block of a disk of the file service, in each version of its

@@ -8,7 +8,7 @@ use Rattle.journal_world.specs.Addresses.{Shape}
 use Rattle.journal_world.specs.Histories.{Entry, opened, is_trusted, count, floor, latest}
 use Rattle.journal_block.specs.declared.update.Update.{Update}
 use Rattle.journal_memlog.specs.Logs.{next_position, tail_of}
-use Rattle.journal_circ.specs.declared.layout.TheConstants.{LOG_POSITIONS}
+use Rattle.journal_world.specs.declared.layout.TheConstants.{LOG_POSITIONS}
 use Rattle.journal_tail.specs.Tails.{TailState, cut_points, known_blocks, updates_from}
 use Rattle.journal_tail.specs.declared.tail.CutPoint.{CutPoint}
 use Rattle.journal_tail.specs.ObjectTails.{blocks_of}

@@ -1,11 +1,11 @@
 // The blocks of the log, in memory while a disk is opened.
 ghost use Rattle.std.specs.Prelude.{◌≡◌, ◌⊎◌, ◌≤◌, [], length, set, true, false, Some, None};
 ghost use Rattle.std.specs.Option.{option_copied};
-ghost use Rattle.journal_circ.specs.declared.layout.TheConstants.{FIRST_HOME};
+ghost use Rattle.journal_world.specs.declared.layout.TheConstants.{FIRST_HOME};
 ghost use Rattle.journal_program.specs.Held.{held_at, HoldsNothing};
 
 use journal_block::Block;
-use journal_circ::FIRST_HOME;
+use journal_world::FIRST_HOME;
 use std::alloc::Global;
 
 /// Blocks 0 to 512 of a disk, each as it was read or written last, or not held.

@@ -3,7 +3,7 @@ use Rattle.std.specs.Prelude.{ℕ, ◌≡◌, ◌<◌, ◌≤◌, List}
 use Rattle.std.specs.List.{All}
 use Rattle.journal_block.specs.declared.update.Update.{Update}
 use Rattle.journal_block.specs.Updates.{Content}
-use Rattle.journal_circ.specs.declared.layout.TheConstants.{FIRST_HOME}
+use Rattle.journal_world.specs.declared.layout.TheConstants.{FIRST_HOME}
 
 -- each of the updates is of a block that holds objects
 abbrev pub AreHomes : ℕ → List Update → Type 0

@@ -13,7 +13,7 @@ use Rattle.journal_wal.specs.declared.disk_log.Installer.{Installer}
 use Rattle.journal_wal.specs.declared.disk_log.Installer.TheVariants.{Resting, Homes, Synced as HomesSynced, StartPut, Spent as InstallerSpent}
 use Rattle.journal_tail.specs.Homes.{AreHomes}
 use Rattle.journal_wal.specs.Wal.{planned, IsLast, Logging, log_blocks, log_end, log_sync, log_spent, Installing, install_none, install_homes, install_start, install_sync, install_spent, WalState, MayStandFor}
-use Rattle.journal_circ.specs.declared.layout.TheConstants.{FIRST_HOME, LOG_POSITIONS}
+use Rattle.journal_world.specs.declared.layout.TheConstants.{FIRST_HOME, LOG_POSITIONS}
 use Rattle.journal_tail.specs.declared.limits.TheConstants.{MAX_TAIL}
 
 -- the meaning of the logger's state, and of the installer's

@@ -18,7 +18,7 @@ use Rattle.journal_circ.specs.StandsFor.{StandsFor}
 use Rattle.journal_circ.specs.Log.{log_block, with_end, with_group, start_block, start_in, end_in}
 use Rattle.journal_circ.specs.Ring.{Ring, home_of, bytes_put, KeepsLabel, MakesCall, TriesCall}
 use Rattle.journal_memlog.specs.Logs.{LogState, next_position, tail_of, trimmed}
-use Rattle.journal_circ.specs.declared.layout.TheConstants.{LOG_POSITIONS}
+use Rattle.journal_world.specs.declared.layout.TheConstants.{LOG_POSITIONS}
 use Rattle.journal_wal.specs.declared.step.GroupStep.{GroupStep}
 use Rattle.journal_wal.specs.declared.step.GroupStep.TheVariants.{Idle, Put, Logged}
 use Rattle.journal_wal.specs.declared.step.InstallStep.{InstallStep}

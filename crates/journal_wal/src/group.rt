@@ -8,10 +8,9 @@ ghost use Rattle.journal_tail.specs.declared.limits.TheConstants.{MAX_TAIL};
 
 use crate::wal::Wal;
 use journal_block::Update;
-use journal_circ::LOG_POSITIONS;
 use journal_disk::BlockDisk;
 use journal_tail::MAX_POSITION;
-use journal_world::Refusal;
+use journal_world::{LOG_POSITIONS, Refusal};
 
 impl<D: BlockDisk> Wal<D> {
     /// Makes room for a group of `blocks` blocks, so that `take_reserved` takes it, if no other

@@ -1,6 +1,6 @@
 // Recovery: the log on the disk is read into memory, and nothing is written.
 ghost use Rattle.std.specs.Prelude.{ℕ, ◌≡◌, ◌≤◌, ◌<◌, ◌+◌, ◌-◌, ◌^◌, ◌∷◌, ◌++◌, [], false, IsTrue, OnOk, OnErr, IfOk, IfErr, MatchResult, slice_get, Some};
-ghost use Rattle.journal_world.specs.declared.layout.TheConstants.{MIN_BLOCKS};
+ghost use Rattle.journal_world.specs.declared.layout.TheConstants.{MIN_BLOCKS, LOG_POSITIONS};
 ghost use Rattle.journal_disk.specs.Disks.{Keeps, IsSettled, read_of};
 ghost use Rattle.journal_disk.specs.Images.{EveryImage, reading};
 ghost use Rattle.journal_circ.specs.Log.{is_sealed, label_of, HasLabel, IsWellFormed};
@@ -9,7 +9,6 @@ ghost use Rattle.journal_circ.specs.Ring.{IsOpenRefusal, log_of};
 ghost use Rattle.journal_tail.specs.Homes.{AreHomes};
 ghost use Rattle.journal_wal.specs.Wal.{IsAtRest, HasBoundsIn, size_of, blocks_now};
 ghost use Rattle.journal_wal.specs.Recovery.{OnlyReadsRing, IsRecovered};
-ghost use Rattle.journal_circ.specs.declared.layout.TheConstants.{LOG_POSITIONS};
 
 use crate::disk_log::{DiskLog, Installer, Logger};
 use crate::wal::Wal;

@@ -10,6 +10,10 @@ pub const MIN_BLOCKS: u64 = 532;
 pub const MAX_BLOCKS: u64 = 33299;
 /// The most blocks of a disk of any layout.
 pub const MAX_LAYOUT_BLOCKS: u64 = 1 << 40;
+/// The number of positions of the log.
+pub const LOG_POSITIONS: u64 = 511;
+/// The first block after the log.
+pub const FIRST_HOME: u64 = 513;
 /// The first block that has objects, the superblock. The log is below it.
 pub const SUPERBLOCK: u64 = 513;
 /// The block whose objects are bits, where the layout is that of files.

@@ -17,8 +17,9 @@ mod value;
 pub use address::{Addr, Kind, RecordSize};
 pub use commit_count::CommitCount;
 pub use layout::{
-    BITMAP, BLOCK_BITS, BLOCK_BYTES, FIRST_DATA, FIRST_INODES, Layout, MAX_BLOCKS,
-    MAX_LAYOUT_BLOCKS, MAX_SLOTS, MIN_BLOCKS, REGIONS, Region, SLOTS, SUPERBLOCK, UNUSED,
+    BITMAP, BLOCK_BITS, BLOCK_BYTES, FIRST_DATA, FIRST_HOME, FIRST_INODES, LOG_POSITIONS, Layout,
+    MAX_BLOCKS, MAX_LAYOUT_BLOCKS, MAX_SLOTS, MIN_BLOCKS, REGIONS, Region, SLOTS, SUPERBLOCK,
+    UNUSED,
 };
 pub use moment::{MAX_NANOS, Moment};
 pub use objects::Objects;

@@ -4,7 +4,8 @@ ghost use Rattle.journal_block.specs.Block.{with_bytes};
 ghost use Rattle.journal_disk.specs.Disks.{write, barrier};
 ghost use Rattle.journal_circ.specs.Log.{log_block, tag_of, with_tag, word_of, with_address, with_end, with_group};
 ghost use Rattle.journal_circ.specs.Ring.{log_of, next_tag, bytes_put, header_put, tags_put, Crashes, Steps, KeepsLog, SameHome};
-ghost use Rattle.journal_circ.specs.declared.layout.TheConstants.{FIRST_HOME, LOG_POSITIONS, MAX_GROUP};
+ghost use Rattle.journal_world.specs.declared.layout.TheConstants.{FIRST_HOME, LOG_POSITIONS};
+ghost use Rattle.journal_circ.specs.declared.layout.TheConstants.{MAX_GROUP};
 
 use crate::Circ;
 use crate::layout::{BOUND_AT, HEADER, address_at, log_block};

@@ -10,10 +10,10 @@ ghost use Rattle.journal_circ.specs.Mending.{IsMendable, IsLogOf};
 use crate::Circ;
 use crate::circ::opening::{Headers, read_headers};
 use crate::fail_stop::FailStop;
-use crate::layout::{FIRST_HOME, home_at};
+use crate::layout::home_at;
 use journal_block::Block;
 use journal_disk::{BlockDisk, DiskFault, rewrite, rewrite_first};
-use journal_world::{Refusal, Refused};
+use journal_world::{FIRST_HOME, Refusal, Refused};
 use std::alloc::Global;
 
 impl<D: BlockDisk> Circ<D> {

@@ -1,13 +1,12 @@
 // How the log of a disk is opened.
 ghost use Rattle.std.specs.Prelude.{ℕ, ◌≡◌, ◌<◌, ◌≤◌, ◌^◌, ◌↔◌, false, true, length, IsTrue, IfOk, IfErr, MatchResult};
-ghost use Rattle.journal_world.specs.declared.layout.TheConstants.{MIN_BLOCKS, BLOCK_BYTES};
+ghost use Rattle.journal_world.specs.declared.layout.TheConstants.{MIN_BLOCKS, BLOCK_BYTES, FIRST_HOME, LOG_POSITIONS};
 ghost use Rattle.journal_block.specs.Block.{u64_at};
 ghost use Rattle.journal_disk.specs.Disks.{Keeps, IsSettled, read_of};
 ghost use Rattle.journal_disk.specs.Images.{EveryImage, reading};
 ghost use Rattle.journal_circ.specs.Log.{log_block, is_sealed, tag_at, tag_of, home_by, end_by, start_in, end_in, label_of, HasLabel, DescribesLog, IsWellFormed};
 ghost use Rattle.journal_circ.specs.StandsFor.{StandsFor};
 ghost use Rattle.journal_circ.specs.Ring.{blocks_to, IsFault, IsOpenRefusal, at_rest};
-ghost use Rattle.journal_circ.specs.declared.layout.TheConstants.{FIRST_HOME, LOG_POSITIONS};
 
 use crate::Circ;
 use crate::circ::installer::HomesPut;
@@ -15,13 +14,12 @@ use crate::circ::logger::LogBlocksPut;
 use crate::extent::Extent;
 use crate::fail_stop::FailStop;
 use crate::layout::{
-    BOUND_AT, FIRST_HOME, HEADER, LOG_POSITIONS, MAX_SEALED_BLOCKS, START_BLOCK, home_at,
-    is_sealed, log_block,
+    BOUND_AT, HEADER, MAX_SEALED_BLOCKS, START_BLOCK, home_at, is_sealed, log_block,
 };
 use crate::tag::{end_of, put_tag_at, tag_of};
 use journal_block::Block;
 use journal_disk::BlockDisk;
-use journal_world::{Refusal, Refused};
+use journal_world::{FIRST_HOME, LOG_POSITIONS, Refusal, Refused};
 use std::alloc::Global;
 
 /// A log as it is opened, with the first states of its two cycles. Only an opening makes these.

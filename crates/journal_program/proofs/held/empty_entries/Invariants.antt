@@ -1,5 +1,5 @@
 use Rattle.std.proofs.Common.{◌≡◌, ◌≤◌, length, vec_len, vec_capacity}
-use Rattle.journal_circ.specs.declared.layout.TheConstants.{FIRST_HOME}
+use Rattle.journal_world.specs.declared.layout.TheConstants.{FIRST_HOME}
 use Rattle.journal_program.specs.Held.{HoldsNothing}
 use Rattle.journal_program.proofs.held.empty_entries.Given as goal
 
