@@ -8,8 +8,8 @@ ghost use Rattle.journal_core.specs.FenceSteps.{SetsFence, IsFenceRefusal, Answe
 use crate::state::Core;
 use journal_disk::BlockDisk;
 use journal_history::{Naming, Session};
-use journal_memory::{Cause, SessionNumber};
-use journal_world::{MapRule, Refusal};
+use journal_memory::Cause;
+use journal_world::{MapRule, Refusal, SessionNumber};
 use std::sync::Wait;
 
 impl<'b, D: BlockDisk, R: MapRule, J: Naming> Core<'b, D, R, J> {

@@ -2,7 +2,7 @@
 ghost use Rattle.std.specs.Prelude.{◌≡◌, ◌<◌, ◌≤◌, ◌^◌, [], OnOk};
 ghost use Rattle.journal_memory.specs.Sessions.{is_in_run, is_in_runs, HasSpareRun, TakesBelow, TakesAbove, NotesFence};
 
-use crate::session_number::SessionNumber;
+use journal_world::SessionNumber;
 use std::alloc::{AllocError, Global};
 use std::marker::Model;
 

@@ -8,14 +8,12 @@ ghost use Rattle.journal_memory.specs.SlotCounts.{AgreeWith};
 
 use crate::cause::Cause;
 use crate::fenced_sessions::FencedSessions;
-use crate::history_length::HistoryLength;
 use crate::marked_lengths::MarkedLengths;
 use crate::refusal_number::RefusalNumber;
-use crate::session_number::SessionNumber;
 use crate::transaction::Transaction;
 use journal_history::{Front, Naming, SessionCounts, Writer};
 use journal_lockmap::{Held, SlotCounts};
-use journal_world::{CommitCount, MapRule, Refusal};
+use journal_world::{CommitCount, HistoryLength, MapRule, Refusal, SessionNumber};
 use std::alloc::Global;
 use std::marker::Model;
 use std::sync::Wait;

@@ -11,15 +11,13 @@ ghost use Rattle.journal_memory.specs.SlotCounts.{AgreeWith};
 ghost use Rattle.journal_memory.specs.Transactions.{AreUnmoved};
 
 use crate::cause::Cause;
-use crate::history_length::HistoryLength;
 use crate::ledger::Ledger;
 use crate::limits::MAX_HISTORY_LENGTH;
 use crate::refusal_number::RefusalNumber;
-use crate::session_number::SessionNumber;
 use crate::transaction::Transaction;
 use journal_history::{Naming, Receipt, Session};
 use journal_lockmap::Held;
-use journal_world::{CommitCount, MapRule, Refusal};
+use journal_world::{CommitCount, HistoryLength, MapRule, Refusal, SessionNumber};
 use std::sync::Wait;
 
 impl<'b, R: MapRule, J: Naming> Ledger<'b, R, J> {

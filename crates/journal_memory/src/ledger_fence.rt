@@ -6,13 +6,11 @@ ghost use Rattle.journal_memory.specs.Ledgers.{IsAddingRefusal};
 ghost use Rattle.journal_memory.specs.Fences.{AddsFence, SetsFence, IsFencingRefusal};
 
 use crate::cause::Cause;
-use crate::history_length::HistoryLength;
 use crate::ledger::Ledger;
 use crate::limits::MAX_HISTORY_LENGTH;
 use crate::refusal_number::RefusalNumber;
-use crate::session_number::SessionNumber;
 use journal_history::{Naming, Session};
-use journal_world::{MapRule, Refusal};
+use journal_world::{HistoryLength, MapRule, Refusal, SessionNumber};
 use std::sync::Wait;
 
 impl<'b, R: MapRule, J: Naming> Ledger<'b, R, J> {

@@ -4,10 +4,9 @@ ghost use mathlib.Core.List.{IsPrefix};
 ghost use Rattle.journal_world.specs.Histories.{commits_of, count, floor};
 ghost use Rattle.journal_history.specs.Tokens.{made, IsExact, OnlyExtends};
 
-use crate::history_length::HistoryLength;
 use crate::ledger::Ledger;
 use journal_history::{Naming, Session};
-use journal_world::MapRule;
+use journal_world::{HistoryLength, MapRule};
 
 impl<'b, R: MapRule, J: Naming> Ledger<'b, R, J> {
     /// True if all commits that the session has seen are marked. The session has seen no more than

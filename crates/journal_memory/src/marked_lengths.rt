@@ -2,7 +2,7 @@
 ghost use Rattle.std.specs.Prelude.{◌<◌, ◌^◌, ◌≡◌};
 ghost use Rattle.journal_memory.specs.MarkedLengths.{with_non_commit};
 
-use crate::history_length::HistoryLength;
+use journal_world::HistoryLength;
 
 // A session does not know how many commits it has seen, but how many entries. So a flush compares
 // two lengths, and a commit, a cut, a mark and a flush cost the same however long the history is.

@@ -16,8 +16,7 @@ use crate::log_key::LogKey;
 use crate::volatile::Volatile;
 use journal_block::Update;
 use journal_history::Naming;
-use journal_tail::Position;
-use journal_world::{CommitCount, MapRule, Refusal};
+use journal_world::{CommitCount, MapRule, Position, Refusal};
 
 impl<'b, R: MapRule, J: Naming> Volatile<'b, R, J> {
     /// Part of a hold of both: cuts. It hands out a copy of all blocks that commits wrote since the

@@ -7,10 +7,9 @@ ghost use Rattle.journal_memory.specs.Volatiles.{outset_of};
 ghost use Rattle.journal_memory.specs.VolatileHolds.{AnswersFence};
 
 use crate::cause::Cause;
-use crate::session_number::SessionNumber;
 use crate::volatile::Volatile;
 use journal_history::{Naming, Session};
-use journal_world::{MapRule, Refusal};
+use journal_world::{MapRule, Refusal, SessionNumber};
 use std::sync::Wait;
 
 impl<'b, R: MapRule, J: Naming> Volatile<'b, R, J> {

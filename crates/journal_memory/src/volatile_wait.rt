@@ -12,8 +12,7 @@ ghost use Rattle.journal_memory.specs.VolatileHolds.{AnswersWait, AnswersFlush, 
 use crate::cause::Cause;
 use crate::volatile::Volatile;
 use journal_history::{Naming, Session};
-use journal_tail::Position;
-use journal_world::{CommitCount, LOG_POSITIONS, MapRule, Refusal};
+use journal_world::{CommitCount, LOG_POSITIONS, MapRule, Position, Refusal};
 use std::sync::Wait;
 
 impl<'b, R: MapRule, J: Naming> Volatile<'b, R, J> {

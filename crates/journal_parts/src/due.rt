@@ -4,8 +4,7 @@ ghost use Rattle.std.specs.Prelude.{◌≡◌};
 
 use journal_history::Naming;
 use journal_memory::Cause;
-use journal_tail::Position;
-use journal_world::{MapRule, Refusal};
+use journal_world::{MapRule, Position, Refusal};
 use std::marker::Model;
 
 /// A device call failed, and memory does not know it yet. Only `Durable::note_fault` notes it there

@@ -13,8 +13,7 @@ use journal_disk::{BlockDisk, MemDisk};
 use journal_history::{Front, Naming};
 use journal_memory::LogKey;
 use journal_objlog::ObjectLog;
-use journal_tail::Position;
-use journal_world::{CommitCount, MapRule};
+use journal_world::{CommitCount, MapRule, Position};
 use std::marker::Model;
 
 // Its history is a front of its own, and its three counts are of that front. So its invariant says

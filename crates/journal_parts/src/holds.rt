@@ -24,9 +24,8 @@ use journal_block::Update;
 use journal_disk::BlockDisk;
 use journal_history::{Naming, Session};
 use journal_memory::{Cause, Fetched, Volatile};
-use journal_tail::Position;
 use journal_wal::{GroupStep, InstallStep};
-use journal_world::{MapRule, Refusal};
+use journal_world::{MapRule, Position, Refusal};
 
 impl<'b, D: BlockDisk, R: MapRule, J: Naming> Durable<'b, D, R, J> {
     /// A hold of the disk alone: makes the device call of the group in flight that is due. If no

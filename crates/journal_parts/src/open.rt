@@ -20,8 +20,8 @@ use journal_history::{Book, Naming, Opened, SessionCounts, Writer};
 use journal_lockmap::{SlotCell, SlotCounts, Slots};
 use journal_memory::{Cause, Ledger, LogKey, RefusalNumber, Volatile};
 use journal_objlog::ObjectLog;
-use journal_tail::{ObjectTail, Position};
-use journal_world::{Layout, MapRule, Refusal, Refused};
+use journal_tail::ObjectTail;
+use journal_world::{Layout, MapRule, Position, Refusal, Refused};
 use std::alloc::Global;
 
 // The map that an object log has now, by a layout.

@@ -16,8 +16,7 @@ use crate::step::LogStep;
 use journal_disk::BlockDisk;
 use journal_history::Naming;
 use journal_memory::{Cause, RefusalNumber, Volatile};
-use journal_tail::Position;
-use journal_world::{MapRule, Refusal};
+use journal_world::{MapRule, Position, Refusal};
 
 impl<'b, D: BlockDisk, R: MapRule, J: Naming> Durable<'b, D, R, J> {
     /// The disk, lent, if all marks of the whole history are its own. Each image that a crash may

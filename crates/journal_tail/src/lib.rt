@@ -19,7 +19,6 @@ mod block_cache;
 mod limits;
 mod object_cut;
 mod object_tail;
-mod position;
 mod prepare;
 mod spares;
 mod stage;
@@ -29,7 +28,6 @@ mod writes;
 
 pub use limits::{MAX_POSITION, MAX_TAIL, MAX_UPDATES};
 pub use object_tail::ObjectTail;
-pub use position::Position;
 pub use prepare::{Preparation, Prepared};
 pub use spares::Spares;
 pub use tail::{CutPoint, Tail};

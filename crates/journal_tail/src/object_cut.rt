@@ -9,10 +9,9 @@ ghost use Rattle.journal_tail.specs.declared.limits.TheConstants.{MAX_TAIL};
 ghost use Rattle.journal_tail.specs.ObjectTails.{blocks_of};
 
 use crate::object_tail::ObjectTail;
-use crate::position::Position;
 use journal_block::Update;
 use journal_memlog::Bounds;
-use journal_world::{CommitCount, Refusal};
+use journal_world::{CommitCount, Position, Refusal};
 
 impl ObjectTail {
     /// The positions that bound the parts of the log in memory.

@@ -9,11 +9,10 @@ ghost use Rattle.journal_object.specs.Objects.{size_at};
 ghost use Rattle.journal_tail.specs.Tails.{empty_tail};
 ghost use Rattle.journal_tail.specs.ObjectTails.{known_updates, known_at};
 
-use crate::position::Position;
 use crate::tail::Tail;
 use journal_block::{Block, Update};
 use journal_object::load_valid;
-use journal_world::{Addr, Layout, Refusal};
+use journal_world::{Addr, Layout, Position, Refusal};
 use std::alloc::Global;
 use std::marker::Model;
 

@@ -14,10 +14,9 @@ ghost use Rattle.journal_tail.specs.declared.limits.TheConstants.{MAX_TAIL};
 
 use crate::block_cache::BlockCache;
 use crate::limits::{MAX_POSITION, MAX_TAIL, MAX_UPDATES};
-use crate::position::Position;
 use journal_block::{Block, Update};
 use journal_memlog::{Bounds, MemLog};
-use journal_world::{CommitCount, Refusal};
+use journal_world::{CommitCount, Position, Refusal};
 use std::alloc::Global;
 use std::collections::VecDeque;
 use std::marker::Model;

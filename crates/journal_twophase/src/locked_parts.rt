@@ -27,10 +27,11 @@ use crate::waiters::MarkWaiters;
 use journal_disk::BlockDisk;
 use journal_history::{Book, Front, Naming, Receipt, Session};
 use journal_lockmap::{Held, SlotCell, Slots};
-use journal_memory::{Cause, Fetched, ReadResult, SessionNumber, Spares, Transaction, Volatile};
+use journal_memory::{Cause, Fetched, ReadResult, Spares, Transaction, Volatile};
 use journal_parts::{Durable, open_parts};
-use journal_tail::Position;
-use journal_world::{Addr, CommitCount, Layout, MapRule, Refusal, Refused};
+use journal_world::{
+    Addr, CommitCount, Layout, MapRule, Position, Refusal, Refused, SessionNumber,
+};
 use std::alloc::Global;
 use std::hint::spin_loop;
 use std::rt::Clock;

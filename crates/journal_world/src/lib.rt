@@ -4,8 +4,7 @@
 #![tactic(auto)]
 
 mod address;
-mod commit_count;
-mod kinds;
+mod counts;
 mod layout;
 mod moment;
 mod objects;
@@ -15,7 +14,7 @@ mod step;
 mod value;
 
 pub use address::{Addr, Kind, RecordSize};
-pub use commit_count::CommitCount;
+pub use counts::{CommitCount, HistoryLength, Position, SessionNumber};
 pub use layout::{
     BITMAP, BLOCK_BITS, BLOCK_BYTES, FIRST_DATA, FIRST_HOME, FIRST_INODES, LOG_POSITIONS, Layout,
     MAX_BLOCKS, MAX_LAYOUT_BLOCKS, MAX_SLOTS, MIN_BLOCKS, REGIONS, Region, SLOTS, SUPERBLOCK,

@@ -1,4 +1,4 @@
-use Rattle.std.proofs.Common.{rules, ◌≡◌, ◌<◌, ◌-◌, ◌∙◌, ℕ, suc, Option, length, drop, nat_le, nat_lt, cond, true, ◌&&◌, None, arith, ap, sym, subst}
+use Rattle.std.proofs.Common.{rules, ◌≡◌, ◌-◌, ◌∙◌, ℕ, suc, Option, length, drop, nat_le, nat_lt, cond, true, ◌&&◌, None, arith, ap, sym, subst}
 use Rattle.std.proofs.lemmas.Bool.Decides.{nat_tests}
 use Rattle.journal_world.specs.declared.address.Kind.{Kind}
 use Rattle.journal_world.specs.declared.address.Kind.TheVariants.{Bit}

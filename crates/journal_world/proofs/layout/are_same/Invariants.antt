@@ -1,5 +1,5 @@
 use Rattle.std.proofs.Common.{◌≡◌, drop}
-use Rattle.journal_world.proofs.kinds.are_same.Given as goal
+use Rattle.journal_world.proofs.layout.are_same.Given as goal
 
 -- all are the same where those that are left are
 abbrev pub invariant-loop-index : goal.invariant-loop-index
