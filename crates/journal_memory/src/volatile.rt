@@ -20,7 +20,7 @@ use crate::named_layout::NamedLayout;
 use crate::refusal_number::RefusalNumber;
 use journal_history::{Front, Naming, Session};
 use journal_lockmap::Held;
-use journal_tail::ObjectTail;
+use journal_tail::Tail;
 use journal_world::{CommitCount, Layout, MapRule, Refusal};
 use std::marker::Model;
 use std::sync::Wait;
@@ -36,7 +36,7 @@ use std::sync::Wait;
 pub struct Volatile<'b, R: MapRule, J: Naming> {
     pub(crate) layout: NamedLayout<J>,
     pub(crate) ledger: Ledger<'b, R, J>,
-    pub(crate) tail: ObjectTail,
+    pub(crate) tail: Tail,
     // A device call failed.
     pub(crate) faulted: bool,
 }
@@ -54,7 +54,7 @@ impl<'b, R: MapRule, J: Naming> Model for Volatile<'b, R, J> {
 impl<'b, R: MapRule, J: Naming> Volatile<'b, R, J> {
     /// The volatile part of a mount that begins, over a disk whose log ends at a position: no
     /// commit was made, and no block is known.
-    pub fn new(layout: Layout, ledger: Ledger<'b, R, J>, tail: ObjectTail) -> Volatile<'b, R, J>
+    pub fn new(layout: Layout, ledger: Ledger<'b, R, J>, tail: Tail) -> Volatile<'b, R, J>
         requires layout { shape layout ≡ J.layout }
         requires begun { ledger.cut ≡ 0 }
         requires none { count ledger.history ≡ 0 }

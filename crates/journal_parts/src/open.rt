@@ -20,7 +20,7 @@ use journal_history::{Book, Naming, Opened, SessionCounts, Writer};
 use journal_lockmap::{SlotCell, SlotCounts, Slots};
 use journal_memory::{Cause, Ledger, LogKey, RefusalNumber, Volatile};
 use journal_objlog::ObjectLog;
-use journal_tail::ObjectTail;
+use journal_tail::Tail;
 use journal_world::{Layout, MapRule, Position, Refusal, Refused};
 use std::alloc::Global;
 
@@ -101,7 +101,7 @@ pub fn open_parts<'b, D: BlockDisk, R: MapRule, J: Naming>(
         }
     };
     let end = Position::new(objects.log_range().1);
-    let tail = match ObjectTail::new(alloc, layout.blocks, end, copies) {
+    let tail = match Tail::new(alloc, layout.blocks, end, copies) {
         Ok(tail) => tail,
         Err(refusal) => {
             return Err(Refused {
@@ -128,7 +128,7 @@ fn begun<'b, D: BlockDisk, R: MapRule, J: Naming>(
     layout: Layout,
     objects: ObjectLog<D>,
     ledger: Ledger<'b, R, J>,
-    tail: ObjectTail,
+    tail: Tail,
     slots: Slots<J>,
     key: LogKey<J>,
 ) -> (Durable<'b, D, R, J>, Volatile<'b, R, J>, Slots<J>)

@@ -1,5 +1,5 @@
 -- The last of some updates that is of a block, and what memory knows by it.
-use Rattle.std.proofs.Common.{◌≡◌, ◌==◌, ◌||◌, ℕ, Bool, true, false, cond, List, [], ◌∷◌, ◌++◌, length, refl, sym, ap, ◌∙◌, append_assoc, arith}
+use Rattle.std.proofs.Common.{◌≡◌, ◌==◌, ◌||◌, ℕ, Bool, true, false, cond, List, [], ◌∷◌, ◌++◌, length, refl, ap, ◌∙◌, append_assoc, arith}
 use Rattle.std.proofs.lemmas.Bool.{eq-eqb, eqb-true, cond-true}
 use Rattle.journal_block.specs.declared.update.Update.{Update}
 use Rattle.journal_block.specs.Block.{Bytes}
@@ -48,21 +48,15 @@ module _ (us left done : List Update) (b : ℕ) (split : us ≡ left ++ done) (u
   none_named none = ap (λ (ws : List Update). updates_block ws b) (split ∙ ap (λ (ws : List Update). ws ++ done) (none_of left none)) ∙ unnamed
 
 -- what memory knows of a block: as the updates have it, or as what was fetched before them has it
-module _ (fetched us vs : List Update) (b : ℕ) (same : us ≡ vs) where
-  named_before : updates_block (fetched ++ vs) b ≡ (updates_block fetched b || updates_block us b)
-  named_before = updates_block-append fetched vs b ∙ ap (λ (ws : List Update). updates_block fetched b || updates_block ws b) (sym same)
+module _ (fetched us : List Update) (b : ℕ) where
+  pub known_later : updates_block us b ≡ true → updates_block (fetched ++ us) b ≡ true
+  known_later named = updates_block-append fetched us b ∙ or_right (updates_block fetched b) (updates_block us b) named
 
-  pub known_later : updates_block us b ≡ true → updates_block (fetched ++ vs) b ≡ true
-  known_later named = named_before ∙ or_right (updates_block fetched b) (updates_block us b) named
+  pub known_later_bytes : (bytes : Bytes) → ((x : Bytes) → updated us b x ≡ bytes) → updated (fetched ++ us) b [] ≡ bytes
+  known_later_bytes bytes is = updated-append fetched us b [] ∙ is (updated fetched b [])
 
-  pub known_later_bytes : (bytes : Bytes) → ((x : Bytes) → updated us b x ≡ bytes) → updated (fetched ++ vs) b [] ≡ bytes
-  known_later_bytes bytes is = updated-append fetched vs b [] ∙ ap (λ (ws : List Update). updated ws b (updated fetched b [])) (sym same) ∙ is (updated fetched b [])
+  pub known_before : updates_block us b ≡ false → updates_block (fetched ++ us) b ≡ updates_block fetched b
+  known_before unnamed = updates_block-append fetched us b ∙ or_left (updates_block fetched b) (updates_block us b) unnamed
 
-  pub known_before : updates_block us b ≡ false → updates_block (fetched ++ vs) b ≡ updates_block fetched b
-  known_before unnamed = named_before ∙ or_left (updates_block fetched b) (updates_block us b) unnamed
-
-  pub known_before_bytes : updates_block us b ≡ false → updated (fetched ++ vs) b [] ≡ updated fetched b []
-  known_before_bytes unnamed =
-      updated-append fetched vs b []
-      ∙ ap (λ (ws : List Update). updated ws b (updated fetched b [])) (sym same)
-      ∙ updated-unnamed us b (updated fetched b []) unnamed
+  pub known_before_bytes : updates_block us b ≡ false → updated (fetched ++ us) b [] ≡ updated fetched b []
+  known_before_bytes unnamed = updated-append fetched us b [] ∙ updated-unnamed us b (updated fetched b []) unnamed

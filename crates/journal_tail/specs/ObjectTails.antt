@@ -1,4 +1,4 @@
--- An object tail as contracts see it: memory's knowledge of a block and of an address, from its
+-- A tail's objects as contracts see them: memory's knowledge of a block and of an address, from its
 -- updates and the fetched blocks.
 use Rattle.std.specs.Prelude.{ℕ, ◌≡◌, ◌⊎◌, Bool, true, false, not, ◌&&◌, IsTrue, if◌then◌else◌, List, [], ◌∷◌, ◌++◌, Option, Some, None}
 use Rattle.journal_world.specs.declared.address.Addr.{Addr}

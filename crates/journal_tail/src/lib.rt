@@ -2,9 +2,9 @@
 //! yet home, and copies of blocks that are. No function here calls a device.
 //!
 //!   Tail         updates of blocks, absorbed. A cut hands out a copy of them as a group. They stay
-//!                until a trim, once they are home
+//!                until a trim, once they are home. Its calls read and overwrite objects: bits,
+//!                records and blocks, of which many share a block
 //!   BlockCache   copies of blocks that are home, so that blocks that are read often are in memory
-//!   ObjectTail   both in terms of objects: bits, records and blocks, of which many share a block
 //!
 //! To overwrite objects, `prepare` copies those of their blocks that are not in the tail, each
 //! once, and stores the objects there. `apply` stores the others in the tail's blocks in place, and
@@ -17,9 +17,8 @@
 
 mod block_cache;
 mod limits;
-mod object_cut;
-mod object_tail;
 mod prepare;
+mod read;
 mod spares;
 mod stage;
 mod staged_updates;
@@ -27,7 +26,6 @@ mod tail;
 mod writes;
 
 pub use limits::{MAX_POSITION, MAX_TAIL, MAX_UPDATES};
-pub use object_tail::ObjectTail;
 pub use prepare::{Preparation, Prepared};
 pub use spares::Spares;
 pub use tail::{CutPoint, Tail};

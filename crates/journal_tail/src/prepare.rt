@@ -12,8 +12,8 @@ ghost use Rattle.journal_tail.specs.Applying.{stored_log};
 ghost use Rattle.journal_tail.specs.Places.{places_of};
 ghost use Rattle.journal_tail.specs.Writes.{written_blocks, fresh_among, AreBelow, CanPrepare, IsPrepared, IsWriteRefusal};
 
-use crate::object_tail::ObjectTail;
 use crate::spares::Spares;
+use crate::tail::Tail;
 use crate::writes::{Places, check_writes, is_block};
 use journal_block::Update;
 use journal_object::store_valid;
@@ -22,7 +22,7 @@ use std::marker::Model;
 
 // It holds the new blocks, and `apply` moves them. So nothing is copied twice, and no memory is
 // asked for once the history may have the commit.
-/// Overwrites that are ready to be applied, made by [`ObjectTail::prepare`].
+/// Overwrites that are ready to be applied, made by [`Tail::prepare`].
 #[derive(Drop)]
 pub struct Prepared {
     // One for each written block that is not in the tail, blocks ascending, with its objects
@@ -39,7 +39,7 @@ impl Model for Prepared {
     ghost view = { λ prepared. prepared.updates.items };
 }
 
-/// The answer of `ObjectTail::prepare`.
+/// The answer of `Tail::prepare`.
 #[derive(Drop)]
 pub enum Preparation {
     /// The overwrites, ready to be applied.
@@ -48,7 +48,7 @@ pub enum Preparation {
     Missing(Vec<u64>),
 }
 
-impl ObjectTail {
+impl Tail {
     /// Makes the overwriting of objects by these values ready for `apply`, with all the memory that
     /// it takes. It takes the spares' memory first. Blocks in the tail are not copied: `apply`
     /// overwrites them there. Another block that is written in part has to be in memory or among
@@ -87,9 +87,9 @@ impl ObjectTail {
         if !self.are_in_tail(layout, writes) {
             return self.make_ready(layout, writes, spares, fetched);
         }
-        self.tail.reserve(0)?;
+        self.reserve(0)?;
         Ok(Preparation::Ready(Prepared {
-            updates: Vec::new(self.alloc),
+            updates: Vec::new(self.alloc()),
         }))
     }
 
@@ -121,7 +121,7 @@ impl ObjectTail {
             return Ok(Preparation::Missing(missing));
         }
         let updates = self.stage(layout, writes, spares, fetched)?;
-        self.tail.reserve(places.fresh)?;
+        self.reserve(places.fresh)?;
         Ok(Preparation::Ready(Prepared { updates }))
     }
 
@@ -140,7 +140,7 @@ impl ObjectTail {
             ≡ known_object (shape layout.now) (known_updates fetched self.old ++ updates_with (shape layout.now) self.old writes.now prepared) a }
     {
         self.store_standing(layout, writes);
-        self.tail.append_reserved(prepared.updates);
+        self.append_reserved(prepared.updates);
     }
 
     // Overwrites the objects whose blocks are in the tail. Of two values of one address the first
@@ -151,7 +151,7 @@ impl ObjectTail {
         ensures sound { IsMemLog self.old.log }
     {
         // Called for its contract: the log is sound.
-        let _bounds = self.tail.bounds();
+        let _bounds = self.bounds();
         for (addr, value) in writes.iter().rev() {
             self.store_in_tail(layout, *addr, value);
         }
@@ -162,8 +162,8 @@ impl ObjectTail {
         requires { IsTrue (is_object (shape layout.now) (addr, value.now)) }
         ensures { self.new ≡ record self.old { log = stored_log (shape layout.now) ((addr, value.now) ∷ []) self.old.log } }
     {
-        if let Some(position) = self.tail.place_in_tail(addr.block) {
-            let block = self.tail.tail_block(position);
+        if let Some(position) = self.place_in_tail(addr.block) {
+            let block = self.tail_block(position);
             store_valid(layout, block, addr, value.bytes());
         }
     }
@@ -183,7 +183,7 @@ impl ObjectTail {
             return Err(Refusal::BadSize);
         }
         let places = self.count_blocks(writes);
-        self.tail.check_room(places.blocks, places.fresh)?;
+        self.check_room(places.blocks, places.fresh)?;
         Ok(places)
     }
 
@@ -203,7 +203,7 @@ impl ObjectTail {
             }
             last = Some(addr.block);
             blocks += 1;
-            fresh += usize::from(!self.tail.is_in_tail(addr.block));
+            fresh += usize::from(!self.is_in_tail(addr.block));
         }
         Places { blocks, fresh }
     }

@@ -13,14 +13,14 @@ ghost use Rattle.journal_tail.specs.Staging.{IsAboveNone, IsStaged, IsOpen, Stan
 ghost use Rattle.journal_tail.specs.Applying.{fresh_writes};
 
 use crate::limits::MAX_UPDATES;
-use crate::object_tail::ObjectTail;
 use crate::spares::Spares;
 use crate::staged_updates::StagedUpdates;
+use crate::tail::Tail;
 use crate::writes::{is_admitted, is_block};
 use journal_block::{Block, Update};
 use journal_world::{Addr, Kind, Layout, Objects, Refusal, Value};
 
-impl ObjectTail {
+impl Tail {
     /// The blocks that have to be fetched before the writes can be prepared, each once, in the
     /// writes' order.
     pub(crate) fn missing(
@@ -33,7 +33,7 @@ impl ObjectTail {
             blocks.items ≡ missing_blocks (shape layout.now) (known_updates fetched.now self.now) writes.now) }
         ensures refusal { IsOkUnless result Refusal.NoMemory }
     {
-        let mut blocks = Vec::new(self.alloc);
+        let mut blocks = Vec::new(self.alloc());
         let mut last = None;
         for (addr, _) in writes.iter().rev() {
             if is_block(last, addr.block) {
@@ -67,8 +67,8 @@ impl ObjectTail {
         ensures sound { IsMemLog self.now.log }
     {
         // Called for their contracts: the log is sound, and the tail short.
-        let _bounds = self.tail.bounds();
-        let _len = self.tail.tail_len();
+        let _bounds = self.bounds();
+        let _len = self.tail_len();
         let mut passed = 0;
         for (addr, value) in writes.iter() {
             if passed == MAX_UPDATES || !self.is_object_in_tail(layout, *addr, value) {
@@ -105,7 +105,7 @@ impl ObjectTail {
         ensures standing { OnOk result (StandsWhole (tail_of self.now.log) writes.now) }
         ensures refusal { IsOkUnless result Refusal.NoMemory }
     {
-        let mut updates = StagedUpdates::new(self.alloc, spares);
+        let mut updates = StagedUpdates::new(self.alloc(), spares);
         // From the last on, because of two values of one address the first would count.
         for (addr, value) in writes.iter().rev() {
             if self.has_tail_block(addr.block) {
@@ -158,9 +158,9 @@ impl ObjectTail {
         ensures refusal { IsOkUnless result Refusal.NoMemory }
     {
         if layout.kind(block) == Some(Kind::Block) {
-            return spares.take(self.alloc);
+            return spares.take(self.alloc());
         }
-        Block::copied_from(self.alloc, self.get(fetched, block).unwrap())
+        Block::copied_from(self.alloc(), self.get(fetched, block).unwrap())
     }
 
     // True if the block is in the tail, where `apply` then overwrites it.
@@ -168,7 +168,7 @@ impl ObjectTail {
         ensures stands { result ≡ updates_block (tail_of self.now.log) block }
         ensures value { IsTrue result → IsTrue (is_value_of Kind.Block (updated (tail_of self.now.log) block [])) }
     {
-        let Some(found) = self.tail.in_tail(block) else {
+        let Some(found) = self.in_tail(block) else {
             return false;
         };
         // Called for its contract: the block has 4096 bytes.

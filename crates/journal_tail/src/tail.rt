@@ -1,5 +1,5 @@
 // The updates in memory apart from the log on the disk, and where they were cut.
-ghost use Rattle.std.specs.Prelude.{ℕ, ◌≡◌, ◌≤◌, ◌<◌, ◌+◌, ◌-◌, ◌^◌, ◌↔◌, ◌∷◌, ◌++◌, List, length, false, is_some, IsTrue, IsOkUnless, OnOk, OnErr, IfOk, IfErr, IfSome};
+ghost use Rattle.std.specs.Prelude.{ℕ, ◌≡◌, ◌≤◌, ◌<◌, ◌+◌, ◌-◌, ◌^◌, ◌∷◌, ◌++◌, List, length, false, is_some, IsTrue, IsOkUnless, OnOk, OnErr, IfOk, IfErr, IfSome};
 ghost use Rattle.std.specs.Borrow.{sem};
 ghost use Rattle.std.specs.List.{All};
 ghost use Rattle.journal_block.specs.declared.update.Update.{Update};
@@ -32,10 +32,15 @@ pub struct CutPoint {
 
 /// The updates in memory, for a lock of their own. It knows no disk, and no call of it blocks.
 ///
+/// It has all overwrites since a cut that is at home, and copies of blocks that are at home. A call
+/// that needs another block says so. The caller fetches it, and makes the call again with that
+/// block. A fetched block may be kept as a copy.
+///
+/// It has blocks, and knows no layout: each call that cuts them into objects is given it.
+///
 /// A cut hands out a copy of the tail, which the log on the disk takes as its group. The updates
 /// stay here until a trim, once they are at home. So all writes of commits after the last trimmed
-/// cut are found here. Copies of blocks that were fetched from the disk's part are here too. A trim
-/// overwrites them by the updates that it drops.
+/// cut are found here. A trim overwrites the copies by the updates that it drops.
 #[derive(Drop)]
 pub struct Tail {
     alloc: Global,
@@ -83,6 +88,11 @@ impl Tail {
         })
     }
 
+    // The allocator of all that a call makes.
+    pub(crate) fn alloc(&self) -> Global {
+        self.alloc
+    }
+
     /// The positions that bound the parts of the log in memory.
     pub fn bounds(&self) -> Bounds
         ensures bounds { result ≡ bounds_of self.now.log }
@@ -109,7 +119,7 @@ impl Tail {
 
     /// The block, lent, if memory knows it: with all its updates, or if it has none as its copy has
     /// it.
-    pub fn get(&self, block: u64) -> Option<&Block>
+    pub fn known_block(&self, block: u64) -> Option<&Block>
         ensures found { is_some result ≡ updates_block (known_blocks self.now) block }
         ensures content { IfSome result (λ found.
             (before : Bytes) → updated (known_blocks self.now) block before ≡ found.now) }

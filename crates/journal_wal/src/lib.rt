@@ -27,6 +27,5 @@ mod plan;
 mod step;
 mod wal;
 
-pub use journal_tail::{CutPoint, MAX_TAIL, MAX_UPDATES, Tail};
 pub use step::{GroupStep, InstallStep};
 pub use wal::Wal;
