@@ -25,6 +25,10 @@ next_position log = log.start + length log.updates
 abbrev pub bounds_of : LogState → Bounds
 bounds_of log = record { start = log.start; logged = log.logged; cut = log.cut; next = next_position log }
 
+-- the updates that the disk's log has
+abbrev pub logged_of : LogState → List Update
+logged_of log = take (log.logged - log.start) log.updates
+
 -- the updates that were cut, and those that were not
 abbrev pub head_of : LogState → List Update
 head_of log = take (log.cut - log.start) log.updates

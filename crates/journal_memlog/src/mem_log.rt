@@ -3,7 +3,7 @@ ghost use Rattle.std.specs.Prelude.{ℕ, ◌≡◌, ◌+◌, ◌-◌, ◌<◌, �
 ghost use Rattle.std.specs.Borrow.{sem};
 ghost use Rattle.journal_block.specs.Block.{Bytes};
 ghost use Rattle.journal_block.specs.Updates.{updated, updates_block};
-ghost use Rattle.journal_memlog.specs.Logs.{LogState, IsMemLog, HasDistinctBlocks, bounds_of, next_position, head_of, tail_of, empty_log, with_logged, appended, trimmed, CanTake};
+ghost use Rattle.journal_memlog.specs.Logs.{LogState, IsMemLog, HasDistinctBlocks, bounds_of, next_position, head_of, tail_of, logged_of, empty_log, with_logged, appended, trimmed, CanTake};
 ghost use Rattle.journal_memlog.specs.Buckets.{updates_from, update_at, IsLastOf};
 ghost use Rattle.journal_memlog.specs.Lending.{LendsBlock};
 
@@ -173,6 +173,23 @@ impl MemLog {
             Some(position) => Some(&self.at(position).bytes),
             None => None,
         }
+    }
+
+    /// The content of the block's last update that the disk's log has, or `None` where it has none.
+    pub fn latest_logged(&self, block: u64) -> Option<&Block>
+        ensures found { is_some result ≡ updates_block (logged_of self.now) block }
+        ensures content { IfSome result (λ found.
+            (before : Bytes) → updated (logged_of self.now) block before ≡ found.now) }
+    {
+        let mut place = self.heads[bucket_of(block)];
+        while place > self.start {
+            let entry = &self.entries[(place - 1 - self.start) as usize];
+            if place <= self.logged && entry.update.block == block {
+                return Some(&entry.update.bytes);
+            }
+            place = entry.earlier;
+        }
+        None
     }
 
     /// Adds a position that the disk's log has already, for a recovery: the log has neither tail

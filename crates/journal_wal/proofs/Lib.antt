@@ -10,4 +10,3 @@ pub mod Planned
 pub mod Opening
 pub mod Reading
 pub mod Grouping
-pub mod Scanning

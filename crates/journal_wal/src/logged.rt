@@ -1,15 +1,11 @@
 // The logged content of a block.
-ghost use Rattle.std.specs.Prelude.{ℕ, ◌≡◌, ◌<◌, is_some, IsTrue, IsErr, OnOk, OnErr, IfErr, IfSome, false, true};
-ghost use Rattle.journal_block.specs.Block.{Bytes};
-ghost use Rattle.journal_block.specs.Updates.{updated, updates_block};
+ghost use Rattle.std.specs.Prelude.{◌≡◌, ◌<◌, IsTrue, IsErr, OnOk, OnErr, IfErr, false, true};
 ghost use Rattle.journal_circ.specs.Ring.{IsFault};
 ghost use Rattle.journal_wal.specs.Wal.{OnlyReads, Crashes, size_of, blocks_logged};
-ghost use Rattle.journal_wal.specs.States.{updates_to};
 
 use crate::wal::Wal;
 use journal_block::Block;
 use journal_disk::BlockDisk;
-use journal_memlog::MemLog;
 use journal_world::Refusal;
 
 impl<D: BlockDisk> Wal<D> {
@@ -32,28 +28,10 @@ impl<D: BlockDisk> Wal<D> {
         if self.on_disk.circ.is_faulted() {
             return Err(Refusal::DeviceFailed(()));
         }
-        if let Some(found) = logged_block(&self.memory, block) {
+        if let Some(found) = self.memory.latest_logged(block) {
             into.copy_from(found);
             return Ok(());
         }
         self.on_disk.circ.read(block, into)
     }
-}
-
-// The content of the block's last logged update, or `None` where it has none.
-fn logged_block(memory: &MemLog, block: u64) -> Option<&Block>
-    ensures found { is_some result ≡ updates_block (updates_to memory.now memory.now.logged) block }
-    ensures content { IfSome result (λ found.
-        (before : Bytes) → updated (updates_to memory.now memory.now.logged) block before ≡ found.now) }
-{
-    let bounds = memory.bounds();
-    let mut position = bounds.logged;
-    while bounds.start < position {
-        position -= 1;
-        let update = memory.at(position);
-        if update.block == block {
-            return Some(&update.bytes);
-        }
-    }
-    None
 }
