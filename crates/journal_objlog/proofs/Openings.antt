@@ -11,12 +11,11 @@ use Rattle.journal_disk.specs.Moments.{LeavesOnly}
 use Rattle.journal_disk.specs.Laws.{leaves_none, leaves_also}
 use Rattle.journal_circ.specs.StandsFor.{StandsFor}
 use Rattle.journal_tail.specs.Homes.{SameBlocks}
-use Rattle.journal_wal.specs.Wal.{WalState, size_of, blocks_now, blocks_cut, blocks_logged, MayStandFor, Crashes, KeepsBlocks, OnlyReads as LogOnlyReads}
+use Rattle.journal_wal.specs.Wal.{WalState, size_of, blocks_now, blocks_cut, blocks_logged, MayStandFor, KeepsBlocks}
 use Rattle.journal_tail.specs.Maps.{map_of}
 use Rattle.journal_objlog.specs.Maps.{OpensAs}
 use Rattle.journal_objlog.specs.ObjectLogs.{EachLayout, map_cut, map_logged, MayOpenAs, KeepsMaps, Crashes as MapCrashes, OnlyReads, disk_of}
 use Rattle.journal_objlog.specs.ReadLaws.{now_read}
-use Rattle.journal_objlog.specs.Soundness.{IsObjectLog}
 use Rattle.journal_tail.proofs.MapsOfBlocks.{law_of, HasObjects-map_of, map_of-same, SameMap-path}
 
 -- what stands for blocks opens as their map
@@ -40,14 +39,6 @@ keeps_maps old new keeps = record {
   now = same_maps (size_of old) (blocks_now new) (blocks_now old) keeps.now;
   cut = same_maps (size_of old) (blocks_cut new) (blocks_cut old) keeps.cut;
   logged = same_maps (size_of old) (blocks_logged new) (blocks_logged old) keeps.logged;
-}
-
-pub may_crash : (old new : WalState) → Crashes old new → MapCrashes old new
-may_crash old new crash = record {
-  keeps = crash.keeps;
-  moments = λ honest layout size. leaves_also (disk_of old).past (disk_of new).past (MayStandFor old) (MayOpenAs layout old) (crash.moments honest)
-      (λ image. opens_crash old layout size image);
-  images = λ honest layout size image is. opens_crash new layout size image (crash.images honest image is);
 }
 
 -- nothing changed but what no map shows
@@ -122,8 +113,8 @@ OnlyReads-trans a b c first second = record {
 }
 
 -- reads leave what a crash left before
-pub crash_read : (old new : WalState) → IsObjectLog old → OnlyReads old new → MapCrashes old new
-crash_read old new sound reads = record {
+pub crash_read : (old new : WalState) → (IsTrue (disk_of old).honest → EveryImage (disk_of old).past (MayStandFor old)) → OnlyReads old new → MapCrashes old new
+crash_read old new left reads = record {
   keeps = reads.keeps;
   moments = λ honest layout size.
       leaves_none (disk_of old).past (disk_of new).past (MayOpenAs layout old) (reads.past honest) (images honest layout size);
@@ -134,7 +125,7 @@ crash_read old new sound reads = record {
 }
   where
     images : IsTrue (disk_of old).honest → EachLayout (size_of old) (λ layout. EveryImage (disk_of old).past (MayOpenAs layout old))
-    images honest layout size image is = opens_crash old layout size image (sound.images honest image is)
+    images honest layout size image is = opens_crash old layout size image (left honest image is)
 
 -- what a call says of images after reads
 pub crash_after : (a b c : WalState) → OnlyReads a b → MapCrashes b c → MapCrashes a c
@@ -150,17 +141,4 @@ crash_after a b c reads crash = record {
       (crash.moments (subst IsTrue (sym reads.keeps.honest) honest) layout (size ∙ sym reads.keeps.size))
       (opens_read a b reads honest layout));
   images = crash.images;
-}
-
--- a read of the log's is one
-pub OnlyReads-from : (old new : WalState) → LogOnlyReads old new → OnlyReads old new
-OnlyReads-from old new reads = record {
-  same = reads.same ∙ (λ i. record old {
-    ring = record old.ring { disk = new.ring.disk; faulted = sym (ap (λ (w : WalState). w.ring.faulted) reads.same) i };
-    log = record old.log { room = sym (ap (λ (w : WalState). w.log.room) reads.same) i };
-  });
-  keeps = reads.keeps;
-  past = reads.past;
-  fault = reads.fault;
-  stays = reads.stays;
 }

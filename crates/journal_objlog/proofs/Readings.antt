@@ -11,22 +11,22 @@ use Rattle.journal_world.specs.Maps.{value_at, is_value_at, AreBitsFrom}
 use Rattle.journal_block.specs.Block.{Bytes, bit_of}
 use Rattle.journal_object.specs.Objects.{object_of}
 use Rattle.journal_object.proofs.MapOfBlocks.{valid_block}
-use Rattle.journal_wal.specs.Wal.{WalState, size_of}
+use Rattle.journal_disk.specs.Images.{EveryImage}
+use Rattle.journal_wal.specs.Wal.{WalState, size_of, MayStandFor}
 use Rattle.journal_tail.specs.Maps.{map_of}
 use Rattle.journal_objlog.specs.ObjectLogs.{map_now, KeepsMaps, Crashes, OnlyReads, disk_of}
 use Rattle.journal_objlog.specs.ReadLaws.{block_read}
 use Rattle.journal_objlog.specs.Reading.{OnlyReadSince, IsBlockOf}
-use Rattle.journal_objlog.specs.Soundness.{IsObjectLog}
 use Rattle.journal_objlog.proofs.Openings.{crash_after, OnlyReads-refl, OnlyReads-trans}
 use Rattle.journal_objlog.proofs.Refusing.{keeps_trans, still}
 use Rattle.journal_objlog.proofs.StepsOfMaps.{KeepsMaps-refl, read_value}
 
 -- nothing was read yet
-pub read_nothing : (inside now : WalState) → IsObjectLog inside → inside ≡ now → OnlyReadSince now now
-read_nothing inside now sound is = record {
-  only = OnlyReads-refl now;
-  maps = λ honest. KeepsMaps-refl now;
-  crash = still inside now sound is;
+pub read_nothing : (w : WalState) → (IsTrue (disk_of w).honest → EveryImage (disk_of w).past (MayStandFor w)) → OnlyReadSince w w
+read_nothing w left = record {
+  only = OnlyReads-refl w;
+  maps = λ honest. KeepsMaps-refl w;
+  crash = still w left;
 }
 
 -- a further read

@@ -1,8 +1,8 @@
 -- What refusals are, and leave.
-use Rattle.std.proofs.Common.{◌≡◌, ◌∙◌, sym, subst}
-use Rattle.journal_wal.specs.Wal.{WalState, size_of}
-use Rattle.journal_objlog.specs.ObjectLogs.{map_now, map_cut, map_logged, KeepsMaps, Crashes as MapCrashes}
-use Rattle.journal_objlog.specs.Soundness.{IsObjectLog}
+use Rattle.std.proofs.Common.{◌≡◌, ◌∙◌, IsTrue, sym}
+use Rattle.journal_disk.specs.Images.{EveryImage}
+use Rattle.journal_wal.specs.Wal.{WalState, size_of, MayStandFor}
+use Rattle.journal_objlog.specs.ObjectLogs.{map_now, map_cut, map_logged, KeepsMaps, Crashes as MapCrashes, disk_of}
 use Rattle.journal_world.proofs.SameMaps.{SameMap-trans}
 use Rattle.journal_objlog.proofs.Openings.{crash_read, OnlyReads-refl}
 
@@ -14,5 +14,5 @@ keeps_trans a b c size first second = record {
 }
 
 -- nothing was done
-pub still : (inside now : WalState) → IsObjectLog inside → inside ≡ now → MapCrashes now now
-still inside now sound is = subst (λ (w : WalState). MapCrashes w w) is (crash_read inside inside sound (OnlyReads-refl inside))
+pub still : (w : WalState) → (IsTrue (disk_of w).honest → EveryImage (disk_of w).past (MayStandFor w)) → MapCrashes w w
+still w left = crash_read w w left (OnlyReads-refl w)

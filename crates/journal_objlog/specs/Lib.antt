@@ -3,5 +3,5 @@ pub mod ObjectLogs
 pub mod ReadLaws
 pub mod CutLaws
 pub mod Reading
-pub mod Soundness
+pub mod StepLaws
 pub mod Groups

@@ -7,9 +7,7 @@
 //! words.
 #![tactic(auto)]
 
-mod group;
 mod object_log;
 mod rules;
-mod steps;
 
 pub use object_log::ObjectLog;

@@ -45,7 +45,7 @@ impl Opening for Brand {
 // log could not say what it did to it.
 struct MapReader<D: BlockDisk, O: Opening> {
     layout: Layout,
-    log: ObjectLog<D>,
+    objects: ObjectLog<D>,
     kept: Option<u64>,
     block: Block,
     whole: Block,
@@ -60,10 +60,10 @@ impl<D: BlockDisk, O: Opening> Model for MapReader<D, O> {
 
     ghost Value = { WalState };
 
-    ghost view = { λ r. r.log };
+    ghost view = { λ r. r.objects.log };
 
     ghost invariant = { λ r. (shape r.layout ≡ O.layout) × (O.layout.blocks ≡ size_of O.log)
-        × OnlyReadSince O.log r.log × IfSome r.kept (IsBlockOf r.log r.block) };
+        × OnlyReadSince O.log r.objects.log × IfSome r.kept (IsBlockOf r.objects.log r.block) };
 }
 
 impl<D: BlockDisk, O: Opening> ObjectReader for MapReader<D, O> {
@@ -84,28 +84,28 @@ impl<D: BlockDisk, O: Opening> ObjectReader for MapReader<D, O> {
     fn read(&mut self, addr: Addr) -> Result<Value, Refusal<()>> {
         let MapReader {
             layout,
-            log,
+            objects,
             kept,
             block,
             whole,
             ..
         } = self;
         if let Some(Kind::Block) = layout.kind(addr.block) {
-            log.read_block(addr.block, whole)?;
-            return log.value_in(layout, whole, addr);
+            objects.read_block(addr.block, whole)?;
+            return objects.value_in(layout, whole, addr);
         }
-        keep_block::<O, D>(log, kept, block, addr.block)?;
-        log.value_in(layout, block, addr)
+        keep_block::<O, D>(objects, kept, block, addr.block)?;
+        objects.value_in(layout, block, addr)
     }
 
     fn read_bits(&mut self, addr: Addr) -> Result<u64, Refusal<()>> {
         let MapReader {
-            log,
+            objects,
             kept,
             block,
             ..
         } = self;
-        keep_block::<O, D>(log, kept, block, addr.block)?;
+        keep_block::<O, D>(objects, kept, block, addr.block)?;
         Ok(block.bits_from(addr.off as usize))
     }
 }
@@ -113,25 +113,25 @@ impl<D: BlockDisk, O: Opening> ObjectReader for MapReader<D, O> {
 // Reads a block into the one that is kept, unless it is that one already. After a refusal its
 // content is not specified, so none is kept then.
 fn keep_block<O: Opening, D: BlockDisk>(
-    log: &mut ObjectLog<D>,
+    objects: &mut ObjectLog<D>,
     kept: &mut Option<u64>,
     block: &mut Block,
     number: u64,
 ) -> Result<(), Refusal<()>>
-    requires read { OnlyReadSince O.log log.old }
-    requires held { IfSome kept.old (IsBlockOf log.old block.old) }
-    requires inside { number < size_of log.old }
-    ensures read { OnlyReadSince O.log log.new }
-    ensures held { IfSome kept.new (IsBlockOf log.new block.new) }
-    ensures block { OnOk result (IsBlockOf log.new block.new number) }
-    ensures refusal { IfErr result (IsReadingRefusal (is_faulted log.new)) }
-    ensures stays_faulted { IsTrue (is_faulted log.old) → IsTrue (is_faulted log.new) }
+    requires read { OnlyReadSince O.log objects.old.log }
+    requires held { IfSome kept.old (IsBlockOf objects.old.log block.old) }
+    requires inside { number < size_of objects.old.log }
+    ensures read { OnlyReadSince O.log objects.new.log }
+    ensures held { IfSome kept.new (IsBlockOf objects.new.log block.new) }
+    ensures block { OnOk result (IsBlockOf objects.new.log block.new number) }
+    ensures refusal { IfErr result (IsReadingRefusal (is_faulted objects.new.log)) }
+    ensures stays_faulted { IsTrue (is_faulted objects.old.log) → IsTrue (is_faulted objects.new.log) }
 {
     if *kept == Some(number) {
         return Ok(());
     }
     *kept = None;
-    log.read_block(number, block)?;
+    objects.read_block(number, block)?;
     *kept = Some(number);
     Ok(())
 }
@@ -149,45 +149,45 @@ impl<D: BlockDisk> ObjectLog<D> {
         layout: Layout,
         rule: &R,
     ) -> (ObjectLog<D>, Result<bool, Refusal<()>>)
-        requires { layout.blocks ≡ size_of self }
-        ensures admitted { IsTrue (disk_of self).honest →
-            IfOk result.1 (λ admitted. IsTrue admitted ↔ R.statement (map_now (shape layout) self)) }
-        ensures refusal { IfErr result.1 (IsReadingRefusal (is_faulted result.0)) }
-        ensures faulted { IsTrue (is_faulted self) → IsErr result.1 × (result.0 ≡ self) }
-        ensures fine { OnOk result.1 ((is_faulted self ≡ false) × (is_faulted result.0 ≡ false)) }
-        ensures reads { OnlyReads self result.0 }
-        ensures left { IfErr result.1 (IsLeft result.0) }
-        ensures maps { IsTrue (disk_of self).honest → KeepsMaps self result.0 }
-        ensures crash { Crashes self result.0 }
+        requires { layout.blocks ≡ size_of self.log }
+        ensures admitted { IsTrue (disk_of self.log).honest →
+            IfOk result.1 (λ admitted. IsTrue admitted ↔ R.statement (map_now (shape layout) self.log)) }
+        ensures refusal { IfErr result.1 (IsReadingRefusal (is_faulted result.0.log)) }
+        ensures faulted { IsTrue (is_faulted self.log) → IsErr result.1 × (result.0.log ≡ self.log) }
+        ensures fine { OnOk result.1 ((is_faulted self.log ≡ false) × (is_faulted result.0.log ≡ false)) }
+        ensures reads { OnlyReads self.log result.0.log }
+        ensures left { IfErr result.1 (IsLeft result.0.log) }
+        ensures maps { IsTrue (disk_of self.log).honest → KeepsMaps self.log result.0.log }
+        ensures crash { Crashes self.log result.0.log }
     {
-        if self.wal.is_faulted() {
+        if self.log.is_faulted() {
             return (self, Err(Refusal::DeviceFailed(())));
         }
-        let (log, admitted) = read_by::<Brand, D, R>(self, layout, rule);
-        if log.is_faulted() {
-            return (log, Err(Refusal::DeviceFailed(())));
+        let (objects, admitted) = read_by::<Brand, D, R>(self, layout, rule);
+        if objects.log.is_faulted() {
+            return (objects, Err(Refusal::DeviceFailed(())));
         }
-        (log, admitted)
+        (objects, admitted)
     }
 
     // Reads the block, with all overwrites. After a refusal its content is not specified.
     fn read_block(&mut self, number: u64, into: &mut Block) -> Result<(), Refusal<()>>
-        requires { number < size_of self.old }
-        ensures block { OnOk result (IsBlockOf self.new into.new number) }
-        ensures refusal { IfErr result (IsReadingRefusal (is_faulted self.new)) }
-        ensures reads { OnlyReads self.old self.new }
-        ensures maps { IsTrue (disk_of self.old).honest → KeepsMaps self.old self.new }
-        ensures crash { Crashes self.old self.new }
+        requires { number < size_of self.old.log }
+        ensures block { OnOk result (IsBlockOf self.new.log into.new number) }
+        ensures refusal { IfErr result (IsReadingRefusal (is_faulted self.new.log)) }
+        ensures reads { OnlyReads self.old.log self.new.log }
+        ensures maps { IsTrue (disk_of self.old.log).honest → KeepsMaps self.old.log self.new.log }
+        ensures crash { Crashes self.old.log self.new.log }
     {
-        self.wal.read(number, into)
+        self.log.read(number, into)
     }
 
     // The value that a block of the log has at the address. No device call is made. Only J1 refuses
     // it.
     fn value_in(&self, layout: &Layout, block: &Block, addr: Addr) -> Result<Value, Refusal<()>>
         requires { IsTrue (is_valid (shape layout.now) addr) }
-        ensures value { IsTrue (disk_of self.now).honest → IsBlockOf self.now block.now addr.block
-            → IfOk result (λ value. value ≡ value_at (map_now (shape layout.now) self.now) addr) }
+        ensures value { IsTrue (disk_of self.now.log).honest → IsBlockOf self.now.log block.now addr.block
+            → IfOk result (λ value. value ≡ value_at (map_now (shape layout.now) self.now.log) addr) }
         ensures object { IfOk result (λ value. IsTrue (is_object (shape layout.now) (addr, value))) }
         ensures refusal { IsOkUnless result Refusal.NoMemory }
     {
@@ -200,44 +200,44 @@ impl<D: BlockDisk> ObjectLog<D> {
     fn object_in(&self, layout: &Layout, block: &Block, addr: Addr, into: &mut [u8])
         requires valid { IsTrue (is_valid (shape layout.now) addr) }
         requires size { length into.old ≡ size_at (shape layout.now) addr }
-        ensures value { IsTrue (disk_of self.now).honest → IsBlockOf self.now block.now addr.block
-            → into.new ≡ value_at (map_now (shape layout.now) self.now) addr }
+        ensures value { IsTrue (disk_of self.now.log).honest → IsBlockOf self.now.log block.now addr.block
+            → into.new ≡ value_at (map_now (shape layout.now) self.now.log) addr }
         ensures object { IsTrue (is_object (shape layout.now) (addr, into.new)) }
     {
-        let _ = &self.wal;
         load_valid(layout, block, addr, into);
     }
 
     // A log that was not read since.
     fn prove_unread(&self)
-        ensures { OnlyReadSince self.now self.now }
+        ensures { OnlyReadSince self.now.log self.now.log }
     {
-        let _ = &self.wal;
+        // Called for its contract: a crash leaves what the log says.
+        let _faulted = self.log.is_faulted();
     }
 }
 
 // Lets the rule read the map of the log as it was picked.
 fn read_by<O: Opening, D: BlockDisk, R: MapRule>(
-    log: ObjectLog<D>,
+    objects: ObjectLog<D>,
     layout: Layout,
     rule: &R,
 ) -> (ObjectLog<D>, Result<bool, Refusal<()>>)
-    requires log { log ≡ O.log }
+    requires log { objects.log ≡ O.log }
     requires layout { shape layout ≡ O.layout }
     requires blocks { O.layout.blocks ≡ size_of O.log }
     ensures admitted { IsTrue (disk_of O.log).honest →
         IfOk result.1 (λ admitted. IsTrue admitted ↔ R.statement (map_now O.layout O.log)) }
-    ensures refusal { IfErr result.1 (IsReadingRefusal (is_faulted result.0)) }
-    ensures read { OnlyReadSince O.log result.0 }
+    ensures refusal { IfErr result.1 (IsReadingRefusal (is_faulted result.0.log)) }
+    ensures read { OnlyReadSince O.log result.0.log }
 {
-    log.prove_unread();
-    let (block, whole) = match two_blocks(log.alloc) {
+    objects.prove_unread();
+    let (block, whole) = match two_blocks(objects.alloc) {
         Ok(blocks) => blocks,
-        Err(refusal) => return (log, Err(refusal)),
+        Err(refusal) => return (objects, Err(refusal)),
     };
     let mut reader = MapReader::<D, O> {
         layout,
-        log,
+        objects,
         kept: None,
         block,
         whole,
@@ -246,13 +246,13 @@ fn read_by<O: Opening, D: BlockDisk, R: MapRule>(
     let admitted = rule.admit(&mut reader);
     let MapReader {
         layout: _,
-        log,
+        objects,
         kept: _,
         block: _,
         whole: _,
         opening: _,
     } = reader;
-    (log, admitted)
+    (objects, admitted)
 }
 
 // Zeros in the number of bytes that the address's object has. Only J1 refuses it.

@@ -41,9 +41,9 @@ impl<'b, D: BlockDisk, R: MapRule, J: Naming> Model for Durable<'b, D, R, J> {
 
     ghost Value = { DurableState };
 
-    ghost view = { λ d. record { objects = d.objects; front = d.front; marked = d.marked; logged = d.logged; coming = d.coming } };
+    ghost view = { λ d. record { objects = d.objects.log; front = d.front; marked = d.marked; logged = d.logged; coming = d.coming } };
 
-    ghost invariant = { λ d. IsDurable J.layout (record { objects = d.objects; front = d.front; marked = d.marked; logged = d.logged; coming = d.coming }) };
+    ghost invariant = { λ d. IsDurable J.layout (record { objects = d.objects.log; front = d.front; marked = d.marked; logged = d.logged; coming = d.coming }) };
 }
 
 impl<'b, D: BlockDisk, R: MapRule, J: Naming> Durable<'b, D, R, J> {
@@ -54,11 +54,11 @@ impl<'b, D: BlockDisk, R: MapRule, J: Naming> Durable<'b, D, R, J> {
         front: Front<'b, J, R>,
         key: LogKey<J>,
     ) -> Durable<'b, D, R, J>
-        requires size { size_of objects ≡ J.layout.blocks }
-        requires rest { IsAtRest objects }
-        requires begun { front ≡ opening (map_now J.layout objects) (log_disk objects).honest ∷ [] }
-        requires images { IsTrue (log_disk objects).honest → EveryImage (log_disk objects).past (OpensAs (map_now J.layout objects)) }
-        ensures { result ≡ begun_durable objects front.entry }
+        requires size { size_of objects.log ≡ J.layout.blocks }
+        requires rest { IsAtRest objects.log }
+        requires begun { front ≡ opening (map_now J.layout objects.log) (log_disk objects.log).honest ∷ [] }
+        requires images { IsTrue (log_disk objects.log).honest → EveryImage (log_disk objects.log).past (OpensAs (map_now J.layout objects.log)) }
+        ensures { result ≡ begun_durable objects.log front.entry }
     {
         Durable {
             objects,
@@ -82,7 +82,7 @@ impl<'b, D: BlockDisk, R: MapRule, J: Naming> Durable<'b, D, R, J> {
     pub fn log_range(&self) -> (Position, Position)
         ensures { result ≡ (start_of self.now.objects, end_of self.now.objects) }
     {
-        let (start, end) = self.objects.log_range();
+        let (start, end) = self.objects.log.log_range();
         (Position::new(start), Position::new(end))
     }
 
@@ -95,7 +95,7 @@ impl<'b, D: BlockDisk, R: MapRule, J: Naming> Durable<'b, D, R, J> {
         ensures images { IsTrue (disk_of self.now).honest → EveryImage (disk_of self.now).past (Leaves self.now) }
         ensures rest { IsCutLogged self.now.objects → self.now.logged ≡ self.now.coming }
     {
-        self.objects.disk()
+        self.objects.log.disk()
     }
 
     /// The history as far as this part has seen it. The call takes no memory.
@@ -118,7 +118,8 @@ impl<'b, D: BlockDisk, R: MapRule, J: Naming> Durable<'b, D, R, J> {
         ensures mendable { IsTrue (D.state result).honest → IsMendable (D.state result).past }
     {
         let Durable { objects, .. } = self;
-        objects.into_disk()
+        let ObjectLog { log, .. } = objects;
+        log.into_disk()
     }
 }
 
@@ -127,6 +128,6 @@ impl<'b, R: MapRule, J: Naming> Durable<'b, MemDisk, R, J> {
     pub fn fail_in(&mut self, k: u64)
         ensures { self.new ≡ self.old }
     {
-        self.objects.fail_in(k);
+        self.objects.log.fail_in(k);
     }
 }

@@ -37,7 +37,7 @@ impl<'b, D: BlockDisk, R: MapRule, J: Naming> Durable<'b, D, R, J> {
         ensures same { self.new ≡ record self.old { objects = with_room self.old.objects self.new.objects.log.room } }
         ensures crash { Crashes self.old self.new }
     {
-        self.key.raise(self.objects.reserve_group(blocks))
+        self.key.raise(self.objects.log.reserve_group(blocks))
     }
 
     // A group is taken with the fact that makes it true (`HaveAllSince`): it has all that commits
@@ -58,9 +58,9 @@ impl<'b, D: BlockDisk, R: MapRule, J: Naming> Durable<'b, D, R, J> {
         ensures flies { end_of self.new.objects < self.new.objects.log.cut }
         ensures crash { Crashes self.old self.new }
     {
-        self.objects.take_reserved(group);
+        self.objects.log.take_reserved(group);
         // Called for its contract: the group is in flight.
-        let _flying = self.objects.is_logging();
+        let _flying = self.objects.log.is_logging();
         self.front = front;
         self.coming = commits;
     }

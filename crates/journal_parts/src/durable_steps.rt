@@ -25,7 +25,7 @@ impl<'b, D: BlockDisk, R: MapRule, J: Naming> Durable<'b, D, R, J> {
         ensures tries { OnErr result (TriesDueCall (log_call self.old.objects) (disk_of self.old) (disk_of self.new)) }
         ensures crash { Crashes self.old self.new }
     {
-        let step = self.key.raise(self.objects.log_step())?;
+        let step = self.key.raise(self.objects.log.log_step())?;
         match step {
             GroupStep::Logged => {
                 self.logged = self.coming;
@@ -52,6 +52,6 @@ impl<'b, D: BlockDisk, R: MapRule, J: Naming> Durable<'b, D, R, J> {
         ensures tries { OnErr result (TriesAhead self.old.objects self.new.objects) }
         ensures crash { Crashes self.old self.new }
     {
-        self.key.raise(self.objects.install_step())
+        self.key.raise(self.objects.log.install_step())
     }
 }

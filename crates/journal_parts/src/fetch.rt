@@ -53,7 +53,10 @@ impl<'b, D: BlockDisk, R: MapRule, J: Naming> Durable<'b, D, R, J> {
         ensures others { self.new ≡ record self.old { objects = self.new.objects } }
         ensures crash { Crashes self.old self.new }
     {
-        self.key
-            .raise(self.objects.read_logged(update.block, &mut update.bytes))
+        self.key.raise(
+            self.objects
+                .log
+                .read_logged(update.block, &mut update.bytes),
+        )
     }
 }

@@ -35,9 +35,9 @@ impl<'a, D: BlockDisk> Opened for MapNow<'a, D> {
     ghost use Rattle.journal_world.specs.Files.{shape};
     ghost use Rattle.journal_objlog.specs.ObjectLogs.{map_now, disk_of};
 
-    ghost map = { λ now. map_now (shape now.layout) now.objects.now };
+    ghost map = { λ now. map_now (shape now.layout) now.objects.now.log };
 
-    ghost trusted = { λ now. (disk_of now.objects.now).honest };
+    ghost trusted = { λ now. (disk_of now.objects.now.log).honest };
 }
 
 /// Opens a disk on which nothing is pending, as both parts of a mount and its slots. The book's
@@ -100,13 +100,13 @@ pub fn open_parts<'b, D: BlockDisk, R: MapRule, J: Naming>(
             });
         }
     };
-    let end = Position::new(objects.log_range().1);
+    let end = Position::new(objects.log.log_range().1);
     let tail = match Tail::new(alloc, layout.blocks, end, copies) {
         Ok(tail) => tail,
         Err(refusal) => {
             return Err(Refused {
                 refusal,
-                disk: objects.into_disk(),
+                disk: objects.log.into_disk(),
             });
         }
     };
@@ -118,7 +118,7 @@ pub fn open_parts<'b, D: BlockDisk, R: MapRule, J: Naming>(
         }
         Err(refusal) => Err(Refused {
             refusal,
-            disk: objects.into_disk(),
+            disk: objects.log.into_disk(),
         }),
     }
 }
@@ -133,13 +133,13 @@ fn begun<'b, D: BlockDisk, R: MapRule, J: Naming>(
     key: LogKey<J>,
 ) -> (Durable<'b, D, R, J>, Volatile<'b, R, J>, Slots<J>)
     requires layout { shape layout ≡ J.layout }
-    requires size { size_of objects ≡ J.layout.blocks }
-    requires rest { IsAtRest objects }
-    requires images { IsTrue (disk_of objects).honest → EveryImage (disk_of objects).past (OpensAs (map_now J.layout objects)) }
-    requires begun { ledger ≡ record { history = opening (map_now J.layout objects) (disk_of objects).honest ∷ []; cut = 0; next = 0; closed = false } }
-    requires tail { tail ≡ empty_tail J.layout.blocks (end_of objects) tail.log.room }
+    requires size { size_of objects.log ≡ J.layout.blocks }
+    requires rest { IsAtRest objects.log }
+    requires images { IsTrue (disk_of objects.log).honest → EveryImage (disk_of objects.log).past (OpensAs (map_now J.layout objects.log)) }
+    requires begun { ledger ≡ record { history = opening (map_now J.layout objects.log) (disk_of objects.log).honest ∷ []; cut = 0; next = 0; closed = false } }
+    requires tail { tail ≡ empty_tail J.layout.blocks (end_of objects.log) tail.log.room }
     ensures core { core_of result.1 result.0 ≡ record {
-      objects = record { wal = objects; tail = [] };
+      objects = record { wal = objects.log; tail = [] };
       history = ledger.entry.history;
       cut = 0;
       logged = 0;
@@ -184,11 +184,11 @@ fn begin<'b, D: BlockDisk, R: MapRule, J: Naming>(
 ) -> Result<Writer<'b, J, R>, Refusal<Cause<'b, J, R>>>
     requires book { book.now ≡ J.book }
     requires layout { shape layout ≡ J.layout }
-    requires admitted { IsTrue (disk_of objects.now).honest → IfOk admitted (λ admitted. IsTrue admitted ↔ R.statement (map_now J.layout objects.now)) }
-    ensures begun { IfOk result (λ writer. writer ≡ opening (map_now J.layout objects.now) (disk_of objects.now).honest ∷ []) }
+    requires admitted { IsTrue (disk_of objects.now.log).honest → IfOk admitted (λ admitted. IsTrue admitted ↔ R.statement (map_now J.layout objects.now.log)) }
+    ensures begun { IfOk result (λ writer. writer ≡ opening (map_now J.layout objects.now.log) (disk_of objects.now.log).honest ∷ []) }
     ensures admitted { OnOk result (admitted ≡ Ok true) }
-    ensures ruled { OnOk result (IsTrue (disk_of objects.now).honest → R.statement (map_now J.layout objects.now)) }
-    ensures refusal { IfErr result (IsBeginRefusal R.statement J.layout objects.now admitted) }
+    ensures ruled { OnOk result (IsTrue (disk_of objects.now.log).honest → R.statement (map_now J.layout objects.now.log)) }
+    ensures refusal { IfErr result (IsBeginRefusal R.statement J.layout objects.now.log admitted) }
 {
     if !key.raise(admitted)? {
         return Err(Refusal::BadSuper);

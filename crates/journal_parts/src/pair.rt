@@ -40,7 +40,7 @@ impl<'b, D: BlockDisk, R: MapRule, J: Naming> Durable<'b, D, R, J> {
         if self.marked < volatile.floor() {
             return Err(Refusal::Stale(self.key.cause(RefusalNumber::J9, front)));
         }
-        Ok(self.objects.disk())
+        Ok(self.objects.log.disk())
     }
 
     // Room in the disk's log comes first, then the copy of the tail, and then both change. So want
@@ -192,7 +192,9 @@ impl<'b, D: BlockDisk, R: MapRule, J: Naming> Durable<'b, D, R, J> {
         ensures tail { result ≡ false → tail_of volatile.now.tail.log ≡ [] }
         ensures only { IsTrue result → IsRestDue volatile.now self.now → ⊥ }
     {
-        self.logged < volatile.last_cut() || self.objects.is_logging() || volatile.tail_len() > 0
+        self.logged < volatile.last_cut()
+            || self.objects.log.is_logging()
+            || volatile.tail_len() > 0
     }
 
     /// Drops the updates that are at home from memory: those of each cut that ends at the position

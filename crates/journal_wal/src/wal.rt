@@ -2,7 +2,8 @@
 ghost use Rattle.std.specs.Prelude.{ℕ, ◌≡◌, ◌≤◌, ◌<◌, ◌↔◌, ◌⊎◌, true, false, IsTrue, OnOk, OnErr, IsErr, IfErr};
 ghost use Rattle.journal_circ.specs.Ring.{IsFault};
 ghost use Rattle.journal_circ.specs.Mending.{IsMendable};
-ghost use Rattle.journal_wal.specs.Wal.{OnlyReads, Crashes, size_of, blocks_now, log_steps};
+ghost use Rattle.journal_disk.specs.Images.{EveryImage};
+ghost use Rattle.journal_wal.specs.Wal.{OnlyReads, Crashes, MayStandFor, size_of, blocks_now, log_steps};
 
 use crate::disk_log::DiskLog;
 use journal_block::Block;
@@ -71,9 +72,11 @@ impl<D: BlockDisk> Wal<D> {
         self.on_disk.circ.is_sealed()
     }
 
-    /// True if a device call failed, so that every step, read and group answers J6.
+    /// True if a device call failed, so that every step, read and group answers J6. A crash leaves
+    /// the blocks of the last group whose cycle ended, or those of the last cut.
     pub fn is_faulted(&self) -> bool
-        ensures { result ≡ self.now.ring.faulted }
+        ensures faulted { result ≡ self.now.ring.faulted }
+        ensures images { IsTrue self.now.ring.disk.honest → EveryImage self.now.ring.disk.past (MayStandFor self.now) }
     {
         self.on_disk.circ.is_faulted()
     }

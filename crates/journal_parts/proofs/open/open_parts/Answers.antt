@@ -13,7 +13,7 @@ use Rattle.journal_parts.proofs.open.open_parts.Goals as goal
 pub begun-requires-clause-images : goal.begun-requires-clause-images
 begun-requires-clause-images g c =
     let layout = g.J.Naming.layout in
-    images_now layout (g.D.BlockDisk.state c.args.disk) c.in-Ok.objects c.admitted_by-objects.result.0 c.in-Ok.ensures.keeps c.in-Ok.ensures.same c.in-Ok.ensures.opened
+    images_now layout (g.D.BlockDisk.state c.args.disk) c.in-Ok.objects.log c.admitted_by-objects.result.0.log c.in-Ok.ensures.keeps c.in-Ok.ensures.same c.in-Ok.ensures.opened
     (λ honest. c.in-Ok.ensures.images honest layout (search rules)) c.admitted_by-objects.ensures.reads
 
 pub returns-in-Ok-begin-clause-begun : goal.returns-in-Ok-begin-clause-begun
@@ -22,7 +22,7 @@ returns-in-Ok-begin-clause-begun g c =
     let fine = on_ok c.admitted_by-objects.result.1 true c.in-Ok-begin.ensures.admitted c.admitted_by-objects.ensures.fine in
     let size : HasSize layout (g.D.BlockDisk.state c.args.disk) = search rules in
     subst (λ (x : CoreState). Begins g.R.MapRule.statement layout (g.D.BlockDisk.state c.args.disk) x) (sym c.begun.ensures.core)
-    (begins layout (g.D.BlockDisk.state c.args.disk) c.in-Ok.objects c.admitted_by-objects.result.0 c.in-Ok.ensures.keeps c.in-Ok.ensures.same c.in-Ok.ensures.opened
+    (begins layout (g.D.BlockDisk.state c.args.disk) c.in-Ok.objects.log c.admitted_by-objects.result.0.log c.in-Ok.ensures.keeps c.in-Ok.ensures.same c.in-Ok.ensures.opened
     (λ honest. c.in-Ok.ensures.images honest layout (search rules))
     c.admitted_by-objects.ensures.reads g.R.MapRule.statement fine.1 size
     c.new-ledger.result.history (ap (λ (m : LedgerState). m.history) c.new-ledger.ensures ∙ c.in-Ok-begin.ensures.begun) c.in-Ok-begin.ensures.ruled)
@@ -33,7 +33,7 @@ returns-clause-refusal g c =
     let disk = g.D.BlockDisk.state c.args.disk in
     let size : HasSize layout disk = search rules in
     subst (λ (new : DiskState). IsLayoutRefusal g.R.MapRule.statement layout disk new c.in-Err-begin.refusal) (sym c.into_disk-in-Err-begin.ensures.disk)
-    (refuses_begin layout disk c.in-Ok.objects c.admitted_by-objects.result.0 c.in-Ok.ensures.keeps c.in-Ok.ensures.same c.in-Ok.ensures.opened
+    (refuses_begin layout disk c.in-Ok.objects.log c.admitted_by-objects.result.0.log c.in-Ok.ensures.keeps c.in-Ok.ensures.same c.in-Ok.ensures.opened
     (λ honest. c.in-Ok.ensures.images honest layout (search rules))
     c.admitted_by-objects.ensures.reads g.R.MapRule.statement size c.admitted_by-objects.result.1 c.in-Err-begin.refusal c.admitted_by-objects.ensures.refusal
     c.in-Err-begin.ensures.refusal)

@@ -6,5 +6,5 @@ use Rattle.journal_objlog.proofs.object_log.ObjectLog.open.Goals as goal
 
 pub returns-clause-images : goal.returns-clause-images
 returns-clause-images g c = λ honest layout size image is.
-    opens layout (blocks_now c.in_ok-wal.wal) image
-    (subst (λ (k : ℕ). StandsFor k (blocks_now c.in_ok-wal.wal) image) (sym size) (c.in_ok-wal.ensures.images honest image is))
+    opens layout (blocks_now c.in_ok-log.log) image
+    (subst (λ (k : ℕ). StandsFor k (blocks_now c.in_ok-log.log) image) (sym size) (c.in_ok-log.ensures.images honest image is))

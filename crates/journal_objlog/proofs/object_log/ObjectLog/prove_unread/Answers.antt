@@ -2,4 +2,4 @@ use Rattle.journal_objlog.proofs.Readings.{read_nothing}
 use Rattle.journal_objlog.proofs.object_log.ObjectLog.prove_unread.Goals as goal
 
 pub returns : goal.returns
-returns g c = read_nothing c.self.inside.wal c.args.self.now c.self.invariant c.self.view_is
+returns g c = read_nothing c.args.self.now.log c.is_faulted-faulted.ensures.images

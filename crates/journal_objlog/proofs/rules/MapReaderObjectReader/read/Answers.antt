@@ -10,16 +10,16 @@ pub invariant_of-self : goal.invariant_of-self
 invariant_of-self g c = (
   c.self.invariant.0,
   c.self.invariant.1,
-  read_on g.O.Opening.log c.self.inside.log c.read_block.new.self c.self.invariant.2 c.read_block.ensures.reads c.read_block.ensures.maps c.read_block.ensures.crash,
-  held_read c.self.inside.log c.read_block.new.self c.read_block.ensures.reads c.self.inside.kept c.self.inside.block c.self.invariant.3,
+  read_on g.O.Opening.log c.self.inside.objects.log c.read_block.new.self.log c.self.invariant.2 c.read_block.ensures.reads c.read_block.ensures.maps c.read_block.ensures.crash,
+  held_read c.self.inside.objects.log c.read_block.new.self.log c.read_block.ensures.reads c.self.inside.kept c.self.inside.block c.self.invariant.3,
 )
 
 pub invariant_of-self-in-Some-Block : goal.invariant_of-self-in-Some-Block
 invariant_of-self-in-Some-Block g c = (
   c.self.invariant.0,
   c.self.invariant.1,
-  read_on g.O.Opening.log c.self.inside.log c.read_block.new.self c.self.invariant.2 c.read_block.ensures.reads c.read_block.ensures.maps c.read_block.ensures.crash,
-  held_read c.self.inside.log c.read_block.new.self c.read_block.ensures.reads c.self.inside.kept c.self.inside.block c.self.invariant.3,
+  read_on g.O.Opening.log c.self.inside.objects.log c.read_block.new.self.log c.self.invariant.2 c.read_block.ensures.reads c.read_block.ensures.maps c.read_block.ensures.crash,
+  held_read c.self.inside.objects.log c.read_block.new.self.log c.read_block.ensures.reads c.self.inside.kept c.self.inside.block c.self.invariant.3,
 )
 
 pub value_in-requires : goal.value_in-requires
@@ -32,7 +32,7 @@ value_in-requires-2 g c =
 
 pub keep_block-requires-clause-inside : goal.keep_block-requires-clause-inside
 keep_block-requires-clause-inside g c =
-    inside_read g.O.Opening.layout g.O.Opening.log c.self.inside.log c.self.invariant.1 c.self.invariant.2 c.args.addr
+    inside_read g.O.Opening.layout g.O.Opening.log c.self.inside.objects.log c.self.invariant.1 c.self.invariant.2 c.args.addr
     (subst (λ (n : Shape). IsTrue (is_valid n c.args.addr)) (map_of-layout g.O.Opening.layout (blocks_now g.O.Opening.log)) c.requires.valid)
 
 pub returns-in-Some-Block-clause-object : goal.returns-in-Some-Block-clause-object

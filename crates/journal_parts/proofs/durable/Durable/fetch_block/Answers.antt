@@ -2,6 +2,8 @@ use Rattle.std.proofs.Common.{◌≡◌, Result, Ok, Err, OnOk, IfOk, IsTrue, sy
 use Rattle.journal_world.specs.Histories.{is_trusted}
 use Rattle.journal_parts.specs.Durables.{DurableState}
 use Rattle.journal_memory.specs.Fetches.{IsBlockAfter}
+use Rattle.journal_objlog.specs.ObjectLogs.{OnlyReads}
+use Rattle.journal_objlog.specs.StepLaws.{OnlyReads-from}
 use Rattle.journal_parts.proofs.Enduring.{crashes_read, logged_block}
 use Rattle.journal_parts.proofs.durable.Durable.fetch_block.Goals as goal
 
@@ -19,4 +21,9 @@ returns-clause-after g c = λ trusted.
     (logged_block g.J.Naming.layout _ (record { block = c.args.update.now.block; bytes = c.read_logged.new.into }) c.self.invariant here is))
 
 pub returns-clause-crash : goal.returns-clause-crash
-returns-clause-crash g c = crashes_read g.J.Naming.layout _ _ c.read_logged.new.self c.self.invariant c.self.view_is c.read_logged.ensures.reads
+returns-clause-crash g c = crashes_read g.J.Naming.layout _ _ c.read_logged.new.self c.self.invariant c.self.view_is (OnlyReads-from c.self.inside.objects.log c.read_logged.new.self c.read_logged.ensures.reads)
+
+pub returns-clause-reads : goal.returns-clause-reads
+returns-clause-reads g c =
+    subst (λ (d : DurableState). OnlyReads d.objects c.read_logged.new.self) c.self.view_is
+    (OnlyReads-from c.self.inside.objects.log c.read_logged.new.self c.read_logged.ensures.reads)
