@@ -1,4 +1,5 @@
--- One pass of a cell knows how many commits each session has, and each token that of its own.
+-- One pass of a cell knows the counts of all numbers, and each token that of its own. The numbers
+-- are those of sessions, whose commits are counted, or those of slots, which commits touch.
 use Rattle.std.specs.Prelude.{◌≡◌, ℕ, ◌+◌, ◌-◌, ◌<◌, Bool, true, false, List, [], ◌++◌, length, replicate, slice_index, slice_set}
 use mathlib.Core.Option.{some}
 use lib.ListN.{get_elem?}
@@ -8,8 +9,7 @@ use Rattle.journal_history.specs.declared.count_cell.View.{View}
 abbrev pub view : Bool → List ℕ → Bool → ℕ → ℕ → View
 view keeps counts has number count = record { keeps = keeps; counts = counts; has = has; number = number; count = count }
 
--- the pass that knows all numbers of commits, in the order of the sessions' numbers, all of which
--- were given
+-- the pass that knows the counts of all numbers that were given
 abbrev pub keeper : List ℕ → View
 keeper counts = view true counts false 0 0
 
@@ -17,7 +17,7 @@ keeper counts = view true counts false 0 0
 abbrev pub holder : List ℕ → ℕ → ℕ → View
 holder counts number count = view true counts true number count
 
--- a token: a session's number, and how many commits it has
+-- a token: a number, and its count
 abbrev pub token : ℕ → ℕ → View
 token number count = view false [] true number count
 
@@ -35,8 +35,7 @@ pub record KeepsRule (seat : ℕ) (counts : List ℕ) (by : ℕ) (v : View) : Ty
   pub agrees : v.has ≡ true → v.count ≡ slice_index counts v.number
   pub given : v.has ≡ true → v.number < length counts
 
--- One pass at most knows all numbers, each token agrees with them, and no session's number has two
--- tokens
+-- One pass at most knows all counts, each token agrees with them, and no number has two tokens
 pub record IsKept (seat : ℕ) (counts : List ℕ) (views : List View) : Type 0 where
   pub each : (by : ℕ) (v : View) → get_elem? views by ≡ some v → KeepsRule seat counts by v
   pub once : (by other : ℕ) (v w : View) → get_elem? views by ≡ some v → get_elem? views other ≡ some w → v.has ≡ true → w.has ≡ true → v.number ≡ w.number → by ≡ other
@@ -49,11 +48,11 @@ Kept words views = (seat : ℕ) × (counts : List ℕ) × IsKept seat counts vie
 abbrev pub Verifies : View → List ℕ → List ℕ → View → Type 0
 Verifies v before after w = (w ≡ v) × (v.keeps ≡ true → v.has ≡ true → (v.count ≡ slice_index v.counts v.number) × (v.number < length v.counts))
 
--- the session commits
+-- the count of the joined token's number rises
 abbrev pub Touches : View → List ℕ → List ℕ → View → Type 0
 Touches v before after w = w ≡ holder (slice_set v.counts v.number (v.count + 1)) v.number (v.count + 1)
 
--- the numbers below a bound are given, some of them to no session
+-- the numbers below a bound are given, some of them without a token
 abbrev pub raised : List ℕ → ℕ → List ℕ
 raised counts bound = counts ++ replicate (bound - length counts) 0
 

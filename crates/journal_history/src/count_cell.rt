@@ -1,22 +1,25 @@
-// The cell of a journal's sessions: its rule, and its kinds of step.
+// A cell of counts, of which each number has one: its rule, and its kinds of step. A journal has one
+// for its sessions, and one for its slots.
 use atomic_table::{Join, Split};
 use crossbeam_utils::atomic::seq_cell::{Pass, RuledSeqCell};
 use crossbeam_utils::rule::{Outcome, Protocol};
 use std::collections::LinkedList;
 
-/// The knowledge of a pass. The keeper knows how many commits each session has, and a token knows
-/// that of its own session. No value of this type is made.
+/// The knowledge of a pass. The keeper knows the count of each number, and a token knows that of its
+/// own. No value of this type is made.
 pub struct View {
-    /// True if it is the keeper: its `counts` are the sessions' numbers of commits.
+    /// True if it is the keeper: its `counts` are those of the numbers from 0 on.
     pub keeps: bool,
     pub counts: LinkedList<u64>,
-    /// True if it has a token: that of the session of this `number`, which has `count` commits.
+    /// True if it has a token: that of this `number`, which has this `count`.
     pub has: bool,
     pub number: u64,
     pub count: u64,
 }
 
-/// The rule: one pass at most is the keeper, each token agrees with it, and no session has two
+// The cell's one word has no content: the passes have all the knowledge. A ledger is named by a
+// type, so one for each number could not be in one table.
+/// The rule: one pass at most is the keeper, each token agrees with it, and no number has two
 /// tokens.
 pub struct Counted;
 
@@ -37,7 +40,7 @@ impl Outcome<[u64; 1], View> for Verify {
     ghost then = { Verifies };
 }
 
-/// A session's commit.
+/// The count of a number rises by one.
 pub struct Touch;
 
 impl Outcome<[u64; 1], View> for Touch {
@@ -46,7 +49,7 @@ impl Outcome<[u64; 1], View> for Touch {
     ghost then = { Touches };
 }
 
-/// Gives numbers to no session, up to the one that is written.
+/// Gives numbers without a token, up to the one that is written.
 pub struct Raise;
 
 impl Outcome<[u64; 1], View> for Raise {
@@ -55,7 +58,7 @@ impl Outcome<[u64; 1], View> for Raise {
     ghost then = { Raises };
 }
 
-/// Makes the token of the next session.
+/// Gives the next number, with its token.
 pub struct Make;
 
 impl Split<View> for Make {
@@ -97,8 +100,8 @@ impl Join<View> for Off {
     ghost spent = { nobody };
 }
 
-/// The cell. Its one word has no meaning: the passes' views have all that is known of sessions.
-pub type Cell = RuledSeqCell<[u64; 1], View, Counted, 1>;
+/// The cell. Its one word has no meaning: the passes' views have all that is known of the counts.
+pub type CountCell = RuledSeqCell<[u64; 1], View, Counted, 1>;
 
 /// A pass of the cell.
-pub type SessionPass = Pass<[u64; 1], View>;
+pub type CountPass = Pass<[u64; 1], View>;

@@ -1,13 +1,25 @@
-// The kinds of step of the cell: split a pass, join a pass, look, a commit, and a raise.
-ghost use Rattle.std.specs.Prelude.{◌≡◌, ◌+◌, ◌<◌, ◌≤◌, ◌++◌, ◌∷◌, [], length, slice_index, slice_set};
+// The kinds of step of a cell of counts: split a pass, join a pass, look, count, and raise.
+ghost use Rattle.std.specs.Prelude.{◌≡◌, ◌+◌, ◌<◌, ◌≤◌, ◌++◌, ◌∷◌, [], length, slice_index, slice_set, IfOk};
 ghost use Rattle.crossbeam_utils.specs.Seq.{cell_view};
-ghost use Rattle.journal_history.specs.Counts.{keeper, holder, token, nobody, raised};
+ghost use Rattle.journal_history.specs.Counts.{keeper, holder, token, nobody, first, raised};
 
-use crate::count_cell::{Cell, Make, Off, Raise, SessionPass, Spare, Touch, Verify};
+use crate::count_cell::{CountCell, CountPass, Make, Off, Raise, Spare, Touch, Verify};
+use std::alloc::{AllocError, Global};
 use std::sync::Wait;
 
-// Makes the token of the next session.
-pub(crate) fn make(cell: &Cell, all: &mut SessionPass) -> SessionPass
+/// A cell that gave no number, with its keeper.
+///
+/// # Errors
+/// - Memory is refused. Nothing was made.
+pub fn open_cell(alloc: Global) -> Result<(CountCell, CountPass), AllocError>
+    ensures table { IfOk result (λ made. made.1.table_id ≡ made.0.table.shared.table_id) }
+    ensures keeper { IfOk result (λ made. cell_view made.1 ≡ first) }
+{
+    CountCell::ruled(alloc, [0])
+}
+
+/// Gives the next number, with its token. Its count is 0.
+pub fn make(cell: &CountCell, all: &mut CountPass) -> CountPass
     requires cell { all.old.table_id ≡ cell.now.table.shared.table_id }
     requires keeper { cell_view all.old ≡ keeper (cell_view all.old).counts }
     ensures table { (all.new.table_id ≡ all.old.table_id) × (result.table_id ≡ all.old.table_id) × (result.me.1 ≡ []) }
@@ -17,8 +29,8 @@ pub(crate) fn make(cell: &Cell, all: &mut SessionPass) -> SessionPass
     cell.split_pass::<Make>(all)
 }
 
-// Makes a pass that knows nothing.
-pub(crate) fn spare(cell: &Cell, all: &mut SessionPass) -> SessionPass
+/// Makes a pass that knows nothing.
+pub fn spare(cell: &CountCell, all: &mut CountPass) -> CountPass
     requires cell { all.old.table_id ≡ cell.now.table.shared.table_id }
     requires keeper { cell_view all.old ≡ keeper (cell_view all.old).counts }
     ensures table { all.new.table_id ≡ all.old.table_id }
@@ -27,8 +39,8 @@ pub(crate) fn spare(cell: &Cell, all: &mut SessionPass) -> SessionPass
     cell.split_pass::<Spare>(all)
 }
 
-// Joins a token. It agrees with the session's number of commits, as a look shows.
-pub(crate) fn join<W: Wait>(rt: &W, cell: &Cell, all: &mut SessionPass, one: SessionPass)
+/// Joins a token. It agrees with the count of its number, as a look shows.
+pub fn join<W: Wait>(rt: &W, cell: &CountCell, all: &mut CountPass, one: CountPass)
     requires cell { (all.old.table_id ≡ cell.now.table.shared.table_id) × (one.table_id ≡ all.old.table_id) × (one.me.1 ≡ []) }
     requires keeper { cell_view all.old ≡ keeper (cell_view all.old).counts }
     requires token { cell_view one ≡ token (cell_view one).number (cell_view one).count }
@@ -40,8 +52,8 @@ pub(crate) fn join<W: Wait>(rt: &W, cell: &Cell, all: &mut SessionPass, one: Ses
     cell.load_as::<Verify, W>(rt, all);
 }
 
-// The session commits whose token was joined: both numbers rise by one.
-pub(crate) fn touch<W: Wait>(rt: &W, cell: &Cell, all: &mut SessionPass)
+/// Counts one more for the number whose token was joined, here and there.
+pub fn touch<W: Wait>(rt: &W, cell: &CountCell, all: &mut CountPass)
     requires cell { all.old.table_id ≡ cell.now.table.shared.table_id }
     requires holder { cell_view all.old ≡ holder (cell_view all.old).counts (cell_view all.old).number (cell_view all.old).count }
     requires number { (cell_view all.old).number < length (cell_view all.old).counts }
@@ -51,8 +63,8 @@ pub(crate) fn touch<W: Wait>(rt: &W, cell: &Cell, all: &mut SessionPass)
     cell.load_as::<Touch, W>(rt, all);
 }
 
-// Splits the token off again.
-pub(crate) fn split(cell: &Cell, all: &mut SessionPass) -> SessionPass
+/// Splits the token off again.
+pub fn split(cell: &CountCell, all: &mut CountPass) -> CountPass
     requires cell { all.old.table_id ≡ cell.now.table.shared.table_id }
     requires holder { cell_view all.old ≡ holder (cell_view all.old).counts (cell_view all.old).number (cell_view all.old).count }
     ensures table { (all.new.table_id ≡ all.old.table_id) × (result.table_id ≡ all.old.table_id) × (result.me.1 ≡ []) }
@@ -62,8 +74,8 @@ pub(crate) fn split(cell: &Cell, all: &mut SessionPass) -> SessionPass
     cell.split_pass::<Off>(all)
 }
 
-// Gives all numbers below the bound. The word of the cell carries the bound.
-pub(crate) fn raise<W: Wait>(rt: &W, cell: &Cell, all: &mut SessionPass, bound: u64)
+/// Gives all numbers below the bound, without tokens. The word of the cell carries the bound.
+pub fn raise<W: Wait>(rt: &W, cell: &CountCell, all: &mut CountPass, bound: u64)
     requires cell { all.old.table_id ≡ cell.now.table.shared.table_id }
     requires keeper { cell_view all.old ≡ keeper (cell_view all.old).counts }
     ensures table { all.new.table_id ≡ all.old.table_id }

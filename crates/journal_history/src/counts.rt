@@ -5,8 +5,8 @@ ghost use Rattle.journal_history.specs.Counts.{keeper, raised, HasCount};
 ghost use Rattle.journal_history.specs.Tokens.{made};
 
 use crate::book::Naming;
-use crate::count_cell::{Cell, SessionPass};
-use crate::count_steps::{make, raise};
+use crate::count_cell::{CountCell, CountPass};
+use crate::count_steps::{make, open_cell, raise};
 use crate::session::Session;
 use crate::token::Token;
 use journal_world::MapRule;
@@ -18,8 +18,8 @@ use std::sync::Wait;
 /// whoever opens the journal can name it by the cell.
 #[derive(Drop)]
 pub struct SessionCell {
-    cell: Cell,
-    first: SessionPass,
+    cell: CountCell,
+    first: CountPass,
 }
 
 impl Model for SessionCell {
@@ -41,7 +41,7 @@ impl SessionCell {
     /// # Errors
     /// - Memory is refused. Nothing was made.
     pub fn open(alloc: Global) -> Result<SessionCell, AllocError> {
-        let (cell, first) = Cell::ruled(alloc, [0])?;
+        let (cell, first) = open_cell(alloc)?;
         Ok(SessionCell { cell, first })
     }
 }
@@ -54,8 +54,8 @@ impl SessionCell {
 /// count is the history's. The memory does not grow with the number of sessions.
 #[derive(Drop)]
 pub struct SessionCounts<J: Naming> {
-    cell: Cell,
-    keeper: SessionPass,
+    cell: CountCell,
+    keeper: CountPass,
     journal: PhantomData<J>,
 }
 

@@ -15,9 +15,9 @@
 //! - exchange FLOOR: `Writer::publish_floor`
 //!
 //! Each session's number has one token, which is in the `Session`. A token knows how many commits
-//! its session has, and `SessionCounts` knows that of all sessions. Both are passes of one cell.
-//! Its rule says that they agree and that no number has two tokens. Passes have no bytes: their
-//! knowledge exists in proofs alone. A look at the cell shows that a session made all commits that
+//! its session has, and `SessionCounts` knows that of all sessions. Both are passes of one cell, a
+//! `CountCell`. Its rule says that they agree and that no number has two tokens. Passes have no
+//! bytes: their knowledge exists in proofs alone. A look at the cell shows that a session made all commits that
 //! the history has under its number. So only the session itself keeps anything, and a session that
 //! ended leaves nothing.
 //!
@@ -30,7 +30,7 @@
 
 mod book;
 mod count_cell;
-mod count_steps;
+pub mod count_steps;
 mod counts;
 mod front;
 mod law;
@@ -40,6 +40,7 @@ mod token;
 mod writer;
 
 pub use book::{Book, Naming};
+pub use count_cell::{CountCell, CountPass};
 pub use counts::{SessionCell, SessionCounts};
 pub use front::Front;
 pub use law::{Opened, Recorded};

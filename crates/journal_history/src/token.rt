@@ -4,7 +4,7 @@ ghost use Rattle.crossbeam_utils.specs.Seq.{cell_view};
 ghost use Rattle.journal_history.specs.Counts.{token as token_of, keeper, HasCount};
 
 use crate::book::Naming;
-use crate::count_cell::{Cell, SessionPass};
+use crate::count_cell::{CountCell, CountPass};
 use crate::count_steps::{join, spare, split, touch};
 use std::marker::{Model, PhantomData};
 use std::mem::replace;
@@ -16,7 +16,7 @@ use std::sync::Wait;
 pub(crate) struct Token<J: Naming> {
     pub(crate) number: u64,
     pub(crate) count: u64,
-    pass: SessionPass,
+    pass: CountPass,
     journal: PhantomData<J>,
 }
 
@@ -35,7 +35,7 @@ impl<J: Naming> Model for Token<J> {
 impl<J: Naming> Token<J> {
     // The token of a session without commits. The pass was split off, and only such a pass can be
     // joined again.
-    pub(crate) fn new(number: u64, pass: SessionPass) -> Token<J>
+    pub(crate) fn new(number: u64, pass: CountPass) -> Token<J>
         requires cell { pass.table_id ≡ J.cell.sessions }
         requires fresh { pass.me.1 ≡ [] }
         requires view { cell_view pass ≡ token_of number 0 }
@@ -65,7 +65,7 @@ impl<J: Naming> Token<J> {
 
     // Shows that it agrees with the keeper. Nothing changes. `join` takes a pass by value, so an
     // empty pass is here during the call.
-    pub(crate) fn verify<W: Wait>(&mut self, rt: &W, cell: &Cell, all: &mut SessionPass)
+    pub(crate) fn verify<W: Wait>(&mut self, rt: &W, cell: &CountCell, all: &mut CountPass)
         requires cell { cell.now.table.shared.table_id ≡ J.cell.sessions }
         requires pass { all.old.table_id ≡ J.cell.sessions }
         requires keeper { cell_view all.old ≡ keeper (cell_view all.old).counts }
@@ -80,7 +80,7 @@ impl<J: Naming> Token<J> {
     }
 
     // The session commits: its number of commits rises by one, here and with the keeper.
-    pub(crate) fn touch<W: Wait>(&mut self, rt: &W, cell: &Cell, all: &mut SessionPass)
+    pub(crate) fn touch<W: Wait>(&mut self, rt: &W, cell: &CountCell, all: &mut CountPass)
         requires cell { cell.now.table.shared.table_id ≡ J.cell.sessions }
         requires pass { all.old.table_id ≡ J.cell.sessions }
         requires keeper { cell_view all.old ≡ keeper (cell_view all.old).counts }

@@ -1,4 +1,3 @@
-mod Moves
 mod Places
 mod Counting
 mod Marking

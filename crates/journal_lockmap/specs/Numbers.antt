@@ -4,8 +4,8 @@ use Rattle.std.specs.List.{list_any}
 use Rattle.atomic_table.specs.Seated.{TableId}
 use Rattle.journal_world.specs.Addresses.{slot_of, Shape}
 use Rattle.journal_world.specs.Maps.{Pair}
-use Rattle.journal_lockmap.specs.declared.cell.View.{View}
-use Rattle.journal_lockmap.specs.Tokens.{keeper, token}
+use Rattle.journal_history.specs.declared.count_cell.View.{View}
+use Rattle.journal_history.specs.Counts.{keeper, token}
 
 -- A slot that someone holds, or that is free: which, and how many commits touched it
 pub record HeldState : Type 0 where
@@ -24,7 +24,7 @@ pub record IsToken (journal : TableId) (slots slot : ℕ) (of : TableId) (holds 
 pub record IsKeeper (journal : TableId) (slots : ℕ) (cell of : TableId) (v : View) : Type 0 where
   pub cell_is : cell ≡ journal
   pub pass_is : of ≡ journal
-  pub view : v ≡ keeper v.counts slots
+  pub view : v ≡ keeper v.counts
   pub all : length v.counts ≡ slots
 
 -- the slot is among those that are counted, and its number is the one that is held

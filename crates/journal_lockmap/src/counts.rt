@@ -2,17 +2,16 @@
 ghost use Rattle.std.specs.Prelude.{false, ◌≡◌, [], IfOk, length, replicate};
 ghost use Rattle.crossbeam_utils.specs.Seq.{cell_view};
 ghost use Rattle.journal_world.specs.Files.{shape};
-ghost use Rattle.journal_lockmap.specs.Tokens.{keeper, first as first_view};
+ghost use Rattle.journal_history.specs.Counts.{keeper, first as first_view};
 ghost use Rattle.journal_lockmap.specs.Numbers.{Agree, AreApart, AreNone, HoldsSlots, slots_of, CountsWrites};
 
-use crate::cell::{Cell, SlotPass};
 use crate::held::Held;
 use crate::keeper::Keeper;
 use crate::slot_set::{kept_flags, mark_writes, unmark};
 use crate::slots::Slots;
-use crate::steps::make;
 use crate::token::Token;
-use journal_history::{Naming, SessionCell, SessionCounts};
+use journal_history::count_steps::{make, open_cell};
+use journal_history::{CountCell, CountPass, Naming, SessionCell, SessionCounts};
 use journal_world::{Layout, Objects, SLOTS};
 use std::alloc::{AllocError, Global};
 use std::marker::Model;
@@ -22,8 +21,8 @@ use std::sync::Wait;
 /// Contracts see which cells they are, so whoever opens the journal can name it by them.
 #[derive(Drop)]
 pub struct SlotCell {
-    cell: Cell,
-    first: SlotPass,
+    cell: CountCell,
+    first: CountPass,
     sessions: SessionCell,
 }
 
@@ -31,7 +30,7 @@ impl Model for SlotCell {
     ghost use Rattle.std.specs.Prelude.{◌≡◌};
     ghost use Rattle.crossbeam_utils.specs.Seq.{cell_view};
     ghost use Rattle.journal_history.specs.Cells.{Cells};
-    ghost use Rattle.journal_lockmap.specs.Tokens.{first as first_view};
+    ghost use Rattle.journal_history.specs.Counts.{first as first_view};
 
     ghost Value = { Cells };
 
@@ -46,7 +45,7 @@ impl SlotCell {
     /// # Errors
     /// - Memory is refused. Nothing was made.
     pub fn open(alloc: Global) -> Result<SlotCell, AllocError> {
-        let (cell, first) = Cell::ruled(alloc, [0])?;
+        let (cell, first) = open_cell(alloc)?;
         let sessions = SessionCell::open(alloc)?;
         Ok(SlotCell {
             cell,

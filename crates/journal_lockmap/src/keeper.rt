@@ -1,12 +1,11 @@
 // How many commits touched each slot, as one pass of the cell knows it.
 ghost use Rattle.std.specs.Prelude.{◌≡◌, ◌+◌, length, slice_index, slice_set};
 ghost use Rattle.crossbeam_utils.specs.Seq.{cell_view};
-ghost use Rattle.journal_lockmap.specs.Tokens.{keeper};
+ghost use Rattle.journal_history.specs.Counts.{keeper};
 ghost use Rattle.journal_lockmap.specs.Numbers.{HasNumber};
 
-use crate::cell::{Cell, SlotPass};
 use crate::held::Held;
-use journal_history::Naming;
+use journal_history::{CountCell, CountPass, Naming};
 use std::marker::{Model, PhantomData};
 use std::sync::Wait;
 
@@ -14,8 +13,8 @@ use std::sync::Wait;
 /// these in the slots' order.
 #[derive(Drop)]
 pub(crate) struct Keeper<J: Naming> {
-    cell: Cell,
-    pass: SlotPass,
+    cell: CountCell,
+    pass: CountPass,
     journal: PhantomData<J>,
 }
 
@@ -33,10 +32,10 @@ impl<J: Naming> Model for Keeper<J> {
 
 impl<J: Naming> Keeper<J> {
     // The keeper of a cell whose slots were all made.
-    pub(crate) fn new(cell: Cell, pass: SlotPass) -> Keeper<J>
+    pub(crate) fn new(cell: CountCell, pass: CountPass) -> Keeper<J>
         requires cell { cell.table.shared.table_id ≡ J.cell.slots }
         requires pass { pass.table_id ≡ J.cell.slots }
-        requires view { cell_view pass ≡ keeper (cell_view pass).counts J.layout.slots }
+        requires view { cell_view pass ≡ keeper (cell_view pass).counts }
         requires slots { length (cell_view pass).counts ≡ J.layout.slots }
         ensures { result ≡ (cell_view pass).counts }
     {

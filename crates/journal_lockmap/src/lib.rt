@@ -12,7 +12,8 @@
 //! slot is handed out only while it is free, and each taken slot has a holder who can release it.
 //!
 //! A token knows how many commits touched its slot, and `SlotCounts` knows the numbers of all
-//! slots. Both are passes of one cell. Its rule says that a token's number is the one that
+//! slots. Both are passes of one cell, of the same kind as that of the sessions
+//! (`journal_history::CountCell`). Its rule says that a token's number is the one that
 //! `SlotCounts` has for its slot, and that no slot has two tokens. Passes have no bytes: their
 //! knowledge exists in proofs alone. A look at the cell shows that a `Held` agrees with the
 //! numbers. Only `SlotCounts::count_writes` changes them: of each slot that a commit writes, and in
@@ -26,7 +27,6 @@
 //! and try the others by `try_acquire`, do not wait for one another in a circle.
 #![tactic(auto)]
 
-mod cell;
 mod counts;
 mod held;
 mod keeper;
@@ -34,7 +34,6 @@ mod map;
 mod place;
 mod slot_set;
 mod slots;
-mod steps;
 mod token;
 
 pub use counts::{SlotCell, SlotCounts};

@@ -1,12 +1,11 @@
 // The token of a slot.
 ghost use Rattle.std.specs.Prelude.{◌≡◌, ◌<◌, ◌+◌, [], slice_set};
 ghost use Rattle.crossbeam_utils.specs.Seq.{cell_view};
-ghost use Rattle.journal_lockmap.specs.Tokens.{token as token_of, keeper};
+ghost use Rattle.journal_history.specs.Counts.{token as token_of, keeper};
 ghost use Rattle.journal_lockmap.specs.Numbers.{HasNumber};
 
-use crate::cell::{Cell, SlotPass};
-use crate::steps::{join, spare, split, touch};
-use journal_history::Naming;
+use journal_history::count_steps::{join, spare, split, touch};
+use journal_history::{CountCell, CountPass, Naming};
 use std::marker::{Model, PhantomData};
 use std::mem::replace;
 use std::sync::Wait;
@@ -16,7 +15,7 @@ use std::sync::Wait;
 #[derive(Drop)]
 pub(crate) struct Token<J: Naming> {
     slot: u16,
-    pass: SlotPass,
+    pass: CountPass,
     journal: PhantomData<J>,
 }
 
@@ -34,7 +33,7 @@ impl<J: Naming> Model for Token<J> {
 
 impl<J: Naming> Token<J> {
     // The slot's token. The pass was split off, and only such a pass can be joined again.
-    pub(crate) fn new(slot: u16, pass: SlotPass) -> Token<J>
+    pub(crate) fn new(slot: u16, pass: CountPass) -> Token<J>
         requires cell { pass.table_id ≡ J.cell.slots }
         requires fresh { pass.me.1 ≡ [] }
         requires view { cell_view pass ≡ token_of slot (cell_view pass).count }
@@ -58,10 +57,10 @@ impl<J: Naming> Token<J> {
 
     // Shows that it agrees with the keeper. Nothing changes. `join` takes a pass by value, so an
     // empty pass is here during the call.
-    pub(crate) fn verify<W: Wait>(&mut self, rt: &W, cell: &Cell, all: &mut SlotPass)
+    pub(crate) fn verify<W: Wait>(&mut self, rt: &W, cell: &CountCell, all: &mut CountPass)
         requires cell { cell.now.table.shared.table_id ≡ J.cell.slots }
         requires pass { all.old.table_id ≡ J.cell.slots }
-        requires keeper { cell_view all.old ≡ keeper (cell_view all.old).counts (cell_view all.old).made }
+        requires keeper { cell_view all.old ≡ keeper (cell_view all.old).counts }
         ensures same { self.new ≡ self.old }
         ensures pass { all.new.table_id ≡ J.cell.slots }
         ensures all { cell_view all.new ≡ cell_view all.old }
@@ -73,13 +72,13 @@ impl<J: Naming> Token<J> {
     }
 
     // A commit touches the slot: its number rises by one, here and with the keeper.
-    pub(crate) fn touch<W: Wait>(&mut self, rt: &W, cell: &Cell, all: &mut SlotPass)
+    pub(crate) fn touch<W: Wait>(&mut self, rt: &W, cell: &CountCell, all: &mut CountPass)
         requires cell { cell.now.table.shared.table_id ≡ J.cell.slots }
         requires pass { all.old.table_id ≡ J.cell.slots }
-        requires keeper { cell_view all.old ≡ keeper (cell_view all.old).counts (cell_view all.old).made }
+        requires keeper { cell_view all.old ≡ keeper (cell_view all.old).counts }
         ensures slot { self.new ≡ record { slot = self.old.slot; count = self.old.count + 1 } }
         ensures pass { all.new.table_id ≡ J.cell.slots }
-        ensures all { cell_view all.new ≡ keeper (slice_set (cell_view all.old).counts self.old.slot (self.old.count + 1)) (cell_view all.old).made }
+        ensures all { cell_view all.new ≡ keeper (slice_set (cell_view all.old).counts self.old.slot (self.old.count + 1)) }
         ensures agrees { HasNumber (cell_view all.old).counts self.old }
     {
         let token = replace(&mut self.pass, spare(cell, all));
