@@ -1,5 +1,5 @@
 -- Laws of the log's calls: what each makes of the maps, by what its contract says of the blocks.
-use Rattle.std.proofs.Common.{IsTrue, Result, Ok, Err, OnErr, IfOk, IfErr, sym, ap, ◌∙◌}
+use Rattle.std.proofs.Common.{◌≡◌, IsTrue, Result, Ok, Err, OnErr, IfOk, IfErr, sym, ap, ◌∙◌}
 use Rattle.journal_world.specs.declared.refusal.Refusal.{Refusal}
 use Rattle.journal_world.specs.declared.refusal.Refusal.TheVariants.{NoMemory, BadAddress, BadSize, TooLarge, Busy, DeviceFailed, BadLog, BadSuper, Stale, Stranger, Worn, Full, Closed, Fenced}
 use Rattle.journal_block.specs.declared.update.Update.{Update}
@@ -56,28 +56,35 @@ module _ (old new : WalState) where
   fails_maps honest (Ok step) fails = tt
   fails_maps honest (Err refusal) fails = keeps_maps old new (fails.blocks honest)
 
-  fault_maps : IsTrue (disk_of old).honest → (refusal : Refusal Unit) → IsInstallRefusal old new refusal → KeepsMaps old new
-  fault_maps honest NoMemory fault = KeepsMaps-path old new fault.1
-  fault_maps honest (DeviceFailed cause) fault = keeps_maps old new (fault.1.blocks honest)
-  fault_maps honest BadAddress fault = absurd fault
-  fault_maps honest BadSize fault = absurd fault
-  fault_maps honest TooLarge fault = absurd fault
-  fault_maps honest Busy fault = absurd fault
-  fault_maps honest BadLog fault = absurd fault
-  fault_maps honest BadSuper fault = absurd fault
-  fault_maps honest (Stale cause) fault = absurd fault
-  fault_maps honest (Stranger cause) fault = absurd fault
-  fault_maps honest (Worn cause) fault = absurd fault
-  fault_maps honest (Full cause) fault = absurd fault
-  fault_maps honest (Closed cause) fault = absurd fault
-  fault_maps honest Fenced fault = absurd fault
+  -- a refused step of the installer leaves the log in memory, and the maps
+  refused_install : (refusal : Refusal Unit) → IsInstallRefusal old new refusal
+      → (new.log ≡ old.log) × (IsTrue (disk_of old).honest → KeepsMaps old new)
+  refused_install NoMemory fault = (ap (λ (w : WalState). w.log) fault.1, λ honest. KeepsMaps-path old new fault.1)
+  refused_install (DeviceFailed cause) fault = (fault.1.log, λ honest. keeps_maps old new (fault.1.blocks honest))
+  refused_install BadAddress fault = absurd fault
+  refused_install BadSize fault = absurd fault
+  refused_install TooLarge fault = absurd fault
+  refused_install Busy fault = absurd fault
+  refused_install BadLog fault = absurd fault
+  refused_install BadSuper fault = absurd fault
+  refused_install (Stale cause) fault = absurd fault
+  refused_install (Stranger cause) fault = absurd fault
+  refused_install (Worn cause) fault = absurd fault
+  refused_install (Full cause) fault = absurd fault
+  refused_install (Closed cause) fault = absurd fault
+  refused_install Fenced fault = absurd fault
+
+  pub leaves_install : (result : Result InstallStep (Refusal Unit)) → IfErr result (IsInstallRefusal old new)
+      → OnErr result ((new.log ≡ old.log) × (IsTrue (disk_of old).honest → KeepsMaps old new))
+  leaves_install (Ok step) fault = tt
+  leaves_install (Err refusal) fault = refused_install refusal fault
 
   pub installs_maps : IsTrue (disk_of old).honest → (result : Result InstallStep (Refusal Unit)) → IfOk result (λ step. InstallAnswers old step new)
       → IfErr result (IsInstallRefusal old new) → KeepsMaps old new
   installs_maps honest (Ok InstallIdle) answers fault = KeepsMaps-path old new answers.1
   installs_maps honest (Ok InstallPut) answers fault = keeps_maps old new (answers.0.blocks honest)
   installs_maps honest (Ok (Freed upto)) answers fault = keeps_maps old new (answers.0.blocks honest)
-  installs_maps honest (Err refusal) answers fault = fault_maps honest refusal fault
+  installs_maps honest (Err refusal) answers fault = (refused_install refusal fault).1 honest
 
 -- a group that was cut elsewhere is taken
 pub takes_map : (old new : WalState) (group : List Update) → TakesGroup old group new → TakesMap old group new

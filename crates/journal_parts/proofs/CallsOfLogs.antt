@@ -1,5 +1,5 @@
 -- Which calls of an object log let no group come or go.
-use Rattle.std.proofs.Common.{inl, ◌≡◌, ◌-◌, ℕ, zero, suc, Bool, true, false, drop, length, IsTrue, Result, Ok, Err, IsErr, IfOk, IfErr, refl, sym, ap, subst, ◌∙◌, arith, length-drop}
+use Rattle.std.proofs.Common.{inl, ◌≡◌, ◌-◌, ℕ, zero, suc, Bool, true, false, drop, length, IsTrue, Result, Ok, Err, IsErr, OnErr, IfOk, IfErr, refl, sym, ap, subst, ◌∙◌, arith, length-drop}
 use Rattle.std.proofs.lemmas.Bool.{false≢true}
 use Rattle.journal_world.specs.declared.refusal.Refusal.{Refusal}
 use Rattle.journal_world.specs.declared.refusal.Refusal.TheVariants.{NoMemory, BadAddress, BadSize, TooLarge, Busy, DeviceFailed, BadLog, BadSuper, Stale, Stranger, Worn, Full, Closed, Fenced}
@@ -10,8 +10,9 @@ use Rattle.journal_wal.specs.declared.step.InstallStep.{InstallStep}
 use Rattle.journal_wal.specs.declared.step.InstallStep.TheVariants.{Idle, Put, Freed}
 use Rattle.journal_disk.specs.Disks.{DiskState, Keeps}
 use Rattle.journal_wal.specs.Wal.{WalState, with_room, log_steps, install_steps, tail_length, LogsOn, LogAnswers, InstallMoves, Frees, InstallAnswers, IsInstallRefusal}
-use Rattle.journal_objlog.specs.ObjectLogs.{OnlyReads, KeepsMaps, LogsMaps, is_faulted}
-use Rattle.journal_parts.specs.Durables.{DurableState, LogAnswers as DurableAnswers}
+use Rattle.journal_objlog.specs.ObjectLogs.{OnlyReads, KeepsMaps, LogsMaps, is_faulted, disk_of as log_disk}
+use Rattle.journal_parts.specs.Durables.{DurableState, LeavesLog, LogAnswers as DurableAnswers}
+use Rattle.journal_memory.proofs.Stepping.{of_err}
 use Rattle.journal_parts.proofs.Enduring.{StaysCut}
 use Rattle.journal_parts.proofs.Resting.{rests_install}
 
@@ -143,3 +144,19 @@ module _ (old new : WalState) (empty : tail_length old ≡ 0) where
       → DurableAnswers now step (record inside { objects = new })
   answers_logging inside now seen is step other answers =
       subst (λ (d : DurableState). DurableAnswers d step (record inside { objects = new })) seen (answered inside is step other answers)
+
+-- what a refused call leaves is so from outside
+pub leaves_seen : (inside now : DurableState) → inside ≡ now → (new : WalState)
+    → (new.log ≡ inside.objects.log) × (IsTrue (log_disk inside.objects).honest → KeepsMaps inside.objects new)
+    → LeavesLog now (record inside { objects = new })
+leaves_seen inside now seen new left =
+    subst (λ (d : DurableState). LeavesLog d (record inside { objects = new })) seen (record { log = left.0; maps = left.1 })
+
+-- what follows from a fact of the lower refusal holds of this one
+pub on_refused : {T E F P Q : Type 0} (r : Result T E) (s : Result T F) → (IsErr s → IsErr r) → OnErr r P → (P → Q) → OnErr s Q
+on_refused r (Ok value) only left then = tt
+on_refused r (Err e) only left then = then (of_err r (only refl) left)
+
+pub on_any : {T E P : Type 0} (r : Result T E) → P → OnErr r P
+on_any (Ok value) holds = tt
+on_any (Err e) holds = holds

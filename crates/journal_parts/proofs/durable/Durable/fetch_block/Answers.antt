@@ -21,7 +21,9 @@ returns-clause-after g c = λ trusted.
     (logged_block g.J.Naming.layout _ (record { block = c.args.update.now.block; bytes = c.read_logged.new.into }) c.self.invariant here is))
 
 pub returns-clause-crash : goal.returns-clause-crash
-returns-clause-crash g c = crashes_read g.J.Naming.layout _ _ c.read_logged.new.self c.self.invariant c.self.view_is (OnlyReads-from c.self.inside.objects.log c.read_logged.new.self c.read_logged.ensures.reads)
+returns-clause-crash g c =
+    crashes_read g.J.Naming.layout _ _ c.read_logged.new.self c.self.invariant c.self.view_is
+    (OnlyReads-from c.self.inside.objects.log c.read_logged.new.self c.read_logged.ensures.reads)
 
 pub returns-clause-reads : goal.returns-clause-reads
 returns-clause-reads g c =

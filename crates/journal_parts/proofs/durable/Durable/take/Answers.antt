@@ -21,7 +21,9 @@ invariant_of-self g c =
     (λ rests. absurd (omega (arith, rests.0, c.take_reserved.ensures.takes.steps)))
     c.is_logging-flying.ensures.rest in
     kept_take g.J.Naming.layout _ c.self.invariant c.args.front (subst (λ (d : DurableState). IsPrefix d.front c.args.front) (sym c.self.view_is) c.requires.longer)
-    c.take_reserved.new.self c.args.group.items c.args.commits (may_crash c.self.inside.objects.log c.take_reserved.new.self c.take_reserved.ensures.crash) c.take_reserved.ensures.takes (takes_map c.self.inside.objects.log c.take_reserved.new.self c.args.group.items c.take_reserved.ensures.takes)
+    c.take_reserved.new.self c.args.group.items c.args.commits
+    (may_crash c.self.inside.objects.log c.take_reserved.new.self c.take_reserved.ensures.crash) c.take_reserved.ensures.takes
+    (takes_map c.self.inside.objects.log c.take_reserved.new.self c.args.group.items c.take_reserved.ensures.takes)
     (subst (λ (d : DurableState). HasGroupRoom d.objects (length c.args.group.items)) (sym c.self.view_is) c.requires.room)
     flying
     c.requires.counted
@@ -29,4 +31,6 @@ invariant_of-self g c =
     (subst (λ (d : DurableState). IsTrue (is_trusted c.args.front) → HaveAllSince g.J.Naming.layout c.args.front d.logged c.args.group.items) (sym c.self.view_is) c.requires.all)
 
 pub returns-clause-crash : goal.returns-clause-crash
-returns-clause-crash g c = crashes_call g.J.Naming.layout _ _ _ c.self.invariant c.self.view_is (invariant_of-self g c) (may_crash c.self.inside.objects.log c.take_reserved.new.self c.take_reserved.ensures.crash)
+returns-clause-crash g c =
+    crashes_call g.J.Naming.layout _ _ _ c.self.invariant c.self.view_is (invariant_of-self g c)
+    (may_crash c.self.inside.objects.log c.take_reserved.new.self c.take_reserved.ensures.crash)
