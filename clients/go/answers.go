@@ -70,8 +70,8 @@ func (c *connection) wakeLater(of *call) {
 	c.lastWoken = of
 }
 
-// unlockAndWake wakes the first one that is to be woken, which wakes the next one. All at once would
-// be taken by other processors, and wait there for the lock of each other.
+// unlockAndWake wakes the first one that is to be woken, which wakes the next one. All at once
+// would be taken by other processors, and wait there for the lock of each other.
 func (c *connection) unlockAndWake() {
 	first := c.woken
 	c.woken, c.lastWoken = nil, nil

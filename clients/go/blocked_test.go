@@ -11,8 +11,8 @@ import (
 
 // The test of this file has a port of its own, which reads and answers when the test says so.
 
-// slowPort greets a client, reads one record, waits until it may go on, and then answers that record
-// and each of those that follow, one by one.
+// slowPort greets a client, reads one record, waits until it may go on, and then answers that
+// record and each of those that follow, one by one.
 func slowPort(listener net.Listener, mayGoOn <-chan struct{}) {
 	peer, err := listener.Accept()
 	if err != nil {
@@ -63,7 +63,8 @@ func recordOf(text []byte) []byte {
 // waitFor waits until something holds, with the lock of the connection held, but not for ever.
 func waitFor(t *testing.T, c *connection, what string, holds func() bool) {
 	t.Helper()
-	for ends := time.Now().Add(20 * time.Second); time.Now().Before(ends); time.Sleep(time.Millisecond) {
+	ends := time.Now().Add(20 * time.Second)
+	for ; time.Now().Before(ends); time.Sleep(time.Millisecond) {
 		c.mu.Lock()
 		isSo := holds()
 		c.mu.Unlock()

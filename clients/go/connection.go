@@ -55,9 +55,9 @@ func newCall(operation uint32, decode func(*answer)) *call {
 // While nobody waits, nobody reads, unless the socket takes no more records.
 //
 // Commits that wait until they are stable are one group of the log where the port reads them at
-// once. It answers all that it has read of a connection before it reads on. So such a commit is held
-// back while an answer is owed, or a goroutine that was answered has not run yet, which may commit
-// again. Then all that is held is written at once.
+// once. It answers all that it has read of a connection before it reads on. So such a commit is
+// held back while an answer is owed, or a goroutine that was answered has not run yet, which may
+// commit again. Then all that is held is written at once.
 type connection struct {
 	socket net.Conn
 	raw    syscall.RawConn
@@ -228,8 +228,8 @@ func (c *connection) isBusy() bool {
 	return c.answered.Load() < c.written || c.coming.Load() > 0
 }
 
-// release has what was held back written, unless it is still to be, with the lock held. It is called
-// wherever the connection may be busy no longer, and somebody waits.
+// release has what was held back written, unless it is still to be, with the lock held. It is
+// called wherever the connection may be busy no longer, and somebody waits.
 func (c *connection) release() {
 	if len(c.held) > 0 && c.err == nil && !c.isDue && !c.isWriting && !c.isBusy() {
 		c.isDue = true

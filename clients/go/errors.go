@@ -101,7 +101,8 @@ var (
 	// those that did not wait, and that no Flush, Stat or commit that waited had told to be stable.
 	// Nothing was sent. One call returns it, the first after that which would send something. Later
 	// ones go on.
-	ErrRestarted = errors.New("jnl: the service was started again; commits that did not wait may be gone")
+	ErrRestarted = errors.New(
+		"jnl: the service was started again; commits that did not wait may be gone")
 	// ErrNoneFree says that no record of a Pool is free. Nothing was done.
 	ErrNoneFree = errors.New("jnl: no record is free")
 	// ErrProtocol says that the port answered what the protocol does not have. It is an ErrLost too.

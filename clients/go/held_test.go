@@ -130,8 +130,8 @@ func TestOtherCallsAreNotHeldBack(t *testing.T) {
 	wantNoErrors(t, errs, 2+held)
 }
 
-// TestAWaitForAFlightIsNotHeldBack wants a commit that does not wait for the disk to be written once
-// its answer is waited for.
+// TestAWaitForAFlightIsNotHeldBack wants a commit that does not wait for the disk to be written
+// once its answer is waited for.
 func TestAWaitForAFlightIsNotHeldBack(t *testing.T) {
 	j, peer := heldPort(t)
 	errs := make(chan error, 2)

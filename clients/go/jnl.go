@@ -13,14 +13,14 @@
 //	})
 //
 // A Journal is one connection, for any number of goroutines at once. A call does not wait for the
-// answers of others, so as many requests are in flight as there are calls. Stable commits alone are
-// held back while the port owes an answer, and then sent at once: so the disk is synced once for all
-// of them. A connection that the port has ended, for its silence or with the service, is made again
-// by the next call. Where the service was started again in between, and commits of the Journal may
-// be gone, that call returns ErrRestarted. Where the connection is lost, each call without an answer
-// returns ErrLost. Those commits that were done, if any, are the first ones of these, in the order
-// in which they were sent. A Tx is for one goroutine at a time, which has many commits in flight by
-// Tx.Submit.
+// answers of others, so as many requests are in flight as there are calls. Stable commits alone
+// are held back while the port owes an answer, and then sent at once: so the disk is synced once
+// for all of them. A connection that the port has ended, for its silence or with the service, is
+// made again by the next call. Where the service was started again in between, and commits of the
+// Journal may be gone, that call returns ErrRestarted. Where the connection is lost, each call
+// without an answer returns ErrLost. Those commits that were done, if any, are the first ones of
+// these, in the order in which they were sent. A Tx is for one goroutine at a time, which has many
+// commits in flight by Tx.Submit.
 //
 // No host serves this module: its go.mod says how a program uses it.
 package jnl

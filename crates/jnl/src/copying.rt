@@ -6,8 +6,8 @@ use std::alloc::Global;
 use std::fs::{File, Files};
 use std::io::Write;
 
-/// Copies the disk in the file at the path to a new file, and prints what that is. Nobody writes the
-/// disk meanwhile, so the copy is one image of it.
+/// Copies the disk in the file at the path to a new file, and prints what that is. Nobody writes
+/// the disk meanwhile, so the copy is one image of it.
 ///
 /// Refused where a program that writes the disk has it, where its log is not well formed, and where
 /// anything is at the path of the copy, unless the copy is to replace it.

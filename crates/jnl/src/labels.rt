@@ -50,8 +50,8 @@ pub fn label<'w, R: Files<File = File>, O: Write>(
 /// zeros. A disk without a label gets one, with the regions of files.
 ///
 /// Refused as a disk is that is opened to be written, where it is on a block device, where it has
-/// more blocks, where it is a disk of the file service, and where it would have more than 33299 blocks and no label names its
-/// regions.
+/// more blocks, where it is a disk of the file service, and where it would have more than 33299
+/// blocks and no label names its regions.
 pub fn grow<'w, R: Files<File = File>, O: Write>(
     rt: &R,
     alloc: Global,

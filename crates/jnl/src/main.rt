@@ -1,9 +1,10 @@
-//! The journal at the command line. `jnl create` makes an empty disk in a file or on a block device,
-//! `jnl info` prints what a disk is, `jnl check` whether its log is well formed, and `jnl seal`
-//! gives its log the form with one barrier a group, or the plain form again. `jnl backup` copies a
-//! disk that nobody writes. `jnl label` gives a disk its label, and `jnl grow` more blocks.
-//! `jnl serve` serves a disk to programs in any language, `jnl stat` prints what such a service has
-//! counted, and `jnl stop` ends it. `jnl --help` is the manual. The program `jnlfs` serves files.
+//! The journal at the command line. `jnl create` makes an empty disk in a file or on a block
+//! device, `jnl info` prints what a disk is, `jnl check` whether its log is well formed, and `jnl
+//! seal` gives its log the form with one barrier a group, or the plain form again. `jnl backup`
+//! copies a disk that nobody writes. `jnl label` gives a disk its label, and `jnl grow` more
+//! blocks. `jnl serve` serves a disk to programs in any language, `jnl stat` prints what such a
+//! service has counted, and `jnl stop` ends it. `jnl --help` is the manual. The program `jnlfs`
+//! serves files.
 #![tactic(auto)]
 
 ghost use Rattle.std.specs.Prelude.{◌≤◌};

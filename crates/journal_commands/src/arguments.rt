@@ -1,4 +1,4 @@
-// What the grammars of both programs have.
+// The parts that the grammars of both programs have.
 
 use crate::fault::Fault;
 use clap::{Arg, ArgAction, ArgMatches, Command};
@@ -32,8 +32,8 @@ fn with_subcommands<'w>(command: Command<'w>) -> Command<'w> {
         .arg_required_else_help(true)
 }
 
-// What follows has no clauses. The prover takes twice as long with each further call of a builder,
-// so grammars are made of these, and not of long chains.
+// The functions below have no clauses. The prover takes twice as long with each further call of a
+// builder, so grammars are made of these, and not of long chains.
 /// A subcommand with the line that its help begins with, and the notes at its end.
 pub fn subcommand<'w>(alloc: Global, name: &'w str, about: &'w str, notes: &'w str) -> Command<'w> {
     Command::new(alloc, name).about(about).after_help(notes)

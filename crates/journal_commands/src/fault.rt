@@ -56,7 +56,7 @@ pub enum Fault<'w> {
         path: &'w str,
         why: LabelFault,
     },
-    /// What is at the path cannot be used as a block device, or a disk is in no such file.
+    /// The path is no block device that can be used, or a disk is in no such file.
     Device {
         path: &'w str,
         why: DeviceFault,

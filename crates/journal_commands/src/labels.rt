@@ -1,4 +1,4 @@
-// What the label of a disk says of its layout.
+// The layout that the label of a disk names.
 ghost use Rattle.std.specs.Prelude.{◌≡◌, IsTrue, IfSome};
 ghost use Rattle.std.specs.Option.{ForSome};
 ghost use Rattle.journal_world.specs.Addresses.{are_regions};

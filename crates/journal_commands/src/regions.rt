@@ -12,7 +12,7 @@ use journal_world::{
 };
 use std::fmt;
 
-// What stands between the first block of a region and its kind.
+// The sign between the first block of a region and its kind.
 const SEPARATOR: char = ':';
 
 // A region that is not in use.
@@ -130,7 +130,7 @@ pub struct OtherRegions {
     pub asked: Regions,
 }
 
-/// What follows the path of the file and the word `regions` in a line.
+/// The line behind the path of the file and the word `regions`.
 impl fmt::Display for OtherRegions {
     fn fmt<W: fmt::Write>(&self, f: &mut fmt::Formatter<W>) -> fmt::Result {
         let told = self.told;

@@ -188,8 +188,8 @@ pub record TellsOpening (layout : Shape) (number : ℕ) (opening : Opening) : Ty
   pub most_blocks : opening.most_blocks ≡ MAX_UPDATES
   pub regions : opening.regions.items ≡ told_regions layout.regions
 
--- What a hello in this version is owed: in version 1 the number of blocks, in version 2 the opening,
--- or that another version is asked for
+-- What a hello in this version is owed: in version 1 the number of blocks, in version 2 the
+-- opening, or that another version is asked for
 abbrev pub IsHelloAnswer : Shape → ℕ → ℕ → SessionState → SessionState → Answer → Type 0
 IsHelloAnswer layout number asked old new (told.Hello blocks) = (new ≡ old) × (asked ≡ 1) × (blocks ≡ layout.blocks)
 IsHelloAnswer layout number asked old new (told.Opening opening) = (new ≡ old) × (asked ≡ 2) × TellsOpening layout number opening
@@ -230,8 +230,8 @@ IsCountersAnswer tells old new (told.Counters counters) = (new ≡ old) × ((pas
 IsCountersAnswer tells old new (Refused n) = (new ≡ old) × (n ≡ refusal.NoMemory)
 IsCountersAnswer tells old new other = ⊥
 
--- The bits that the map has at the end of what was then seen, or why they are not found. They are in
--- order, and of a block of bits
+-- The bits that the map has at the end of what was then seen, or why they are not found. They are
+-- in order, and of a block of bits
 abbrev pub IsScanAnswer : Shape → BitScan → SessionState → SessionState → Answer → Type 0
 IsScanAnswer layout scan old new (told.Bits bits) = OnlyExtends old new × IsTrue (is_scan layout scan) × AreInOrder scan bits.items × (IsTrue (is_trusted new.seen) → bits.items ≡ found_bits (latest new.seen) scan)
 IsScanAnswer layout scan old new (Refused n) = OnlyExtends old new × IsRefusedFor (IsScanRefusal layout scan) n

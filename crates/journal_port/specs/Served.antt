@@ -169,7 +169,8 @@ pub record Breaks (layout : Shape) (offer : Offer) (from left before holds : Opt
   pub owed : IsBehind rest behind
   pub wrote : AppendsFront before holds (texts (answers ++ behind))
 
--- One on its way: what the reader gave is some records, which were answered, and a rest, which waits
+-- One on its way: what the reader gave is some records, which were answered, and a rest, which
+-- waits
 pub record SoFar (layout : Shape) (offer : Offer) (from left before holds : Option (List ℕ)) (rest : List ℕ) (old new : SessionState) : Type 0 where
   pub answers : List Answer
   pub exchange : Exchange layout offer from left rest old new answers

@@ -6,11 +6,11 @@
 //! then gives each address that is written the part's value. The request is answered at once: no
 //! slot is held between two requests, so a client that sleeps or dies stops nobody.
 //!
-//! `serve` answers a connection's requests: it reads pieces, answers all whole records of a piece in
-//! order, waits once until those are stable that are to be, and writes the answers before it reads
-//! on. `serve_to_pause` does the same for a turn: until the connection ends, or is to pause between
-//! two records (`Pace`), so that its thread serves others. `serve` is such turns, one after another:
-//! so a connection that pauses is answered as one that does not.
+//! `serve` answers a connection's requests: it reads pieces, answers all whole records of a piece
+//! in order, waits once until those are stable that are to be, and writes the answers before it
+//! reads on. `serve_to_pause` does the same for a turn: until the connection ends, or is to pause
+//! between two records (`Pace`), so that its thread serves others. `serve` is such turns, one
+//! after another: so a connection that pauses is answered as one that does not.
 #![tactic(auto)]
 
 mod commit;

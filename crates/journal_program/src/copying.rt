@@ -44,11 +44,11 @@ pub enum CopyFault {
 /// # Errors
 /// - `Disk`, as `find_disk` is refused. Nothing was made.
 /// - `HasPart`. What is there stays, and nothing was made.
-/// - `Copy`, by `AlreadyExists` where something is at the path of the copy, by `WouldBlock` where a
-///   program uses the disk that is to be replaced there, by `InvalidInput` where that is no
-///   ordinary file, and for the system's reason. Nothing is
-///   left at `part`, unless the system refuses to remove it. Where it refuses to make the name of the
-///   copy stable, the copy is there.
+/// - `Copy`, by `AlreadyExists` where something is at the path of the copy, by `WouldBlock` where
+///   a program uses the disk that is to be replaced there, by `InvalidInput` where that is no
+///   ordinary file, and for the system's reason. Nothing is left at `part`, unless the system
+///   refuses to remove it. Where it refuses to make the name of the copy stable, the copy is
+///   there.
 pub fn copy_disk<R: Files<File = File>>(
     rt: &R,
     alloc: Global,
@@ -74,7 +74,8 @@ pub fn copy_disk<R: Files<File = File>>(
     }
 }
 
-// Wants nothing at the path of the copy, or takes the lock of the file that is to be replaced there.
+// Wants nothing at the path of the copy, or takes the lock of the file that is to be replaced
+// there.
 fn find_replaced<R: Files<File = File>>(
     rt: &R,
     alloc: Global,

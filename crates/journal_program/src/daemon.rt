@@ -42,8 +42,8 @@ impl Daemon {
         Daemon::with_threads(2)
     }
 
-    /// A logger alone, which does not run: for a journal whose commits write nothing. So it makes no
-    /// device call, and no installer brings home what the log had.
+    /// A logger alone, which does not run: for a journal whose commits write nothing. So it makes
+    /// no device call, and no installer brings home what the log had.
     pub fn without_installer() -> Daemon {
         Daemon::with_threads(1)
     }

@@ -166,8 +166,8 @@ pub(crate) fn open_to_share<R: Files<File = File>>(
     Ok(LockedFile { file, lock })
 }
 
-/// Opens the file or the block device to be read and written, and locks it: no other program of this
-/// machine uses it as long as it is open.
+/// Opens the file or the block device to be read and written, and locks it: no other program of
+/// this machine uses it as long as it is open.
 ///
 /// Refused for the system's reason, which is `WouldBlock` where another program has it; where it is
 /// neither; where the lock of a device cannot be had; and by J1 `NoMemory`.

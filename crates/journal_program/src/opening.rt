@@ -43,11 +43,11 @@ impl FoundDisk {
 /// wants.
 ///
 /// The first that applies of these refuses it, with nothing written: the system's reason, which is
-/// `WouldBlock` where another program has the file's lock, or that of the device by its number; that
-/// it is neither a file nor a block device, or that the device's lock cannot be had; a label that is not well formed, or that
-/// says more blocks than the file has; a number of blocks that no disk has; J1 `NoMemory` where
-/// memory is refused, J6 `DeviceFailed` where the device fails, and J7 `BadLog` where the log is
-/// not well formed.
+/// `WouldBlock` where another program has the file's lock, or that of the device by its number;
+/// that it is neither a file nor a block device, or that the device's lock cannot be had; a label
+/// that is not well formed, or that says more blocks than the file has; a number of blocks that no
+/// disk has; J1 `NoMemory` where memory is refused, J6 `DeviceFailed` where the device fails, and
+/// J7 `BadLog` where the log is not well formed.
 pub fn find_disk<R: Files<File = File>>(
     rt: &R,
     alloc: Global,

@@ -62,9 +62,9 @@ impl DiskToLabel {
     }
 
     /// Gives the disk on a block device as many blocks as the label says, which are zeros, and the
-    /// label. The log is written as it reads before. The label is written once the zeros are stable,
-    /// so that no moment leaves a disk with other new blocks. `progress` gets a line after each
-    /// tenth of the zeros that are written.
+    /// label. The log is written as it reads before. The label is written once the zeros are
+    /// stable, so that no moment leaves a disk with other new blocks. `progress` gets a line after
+    /// each tenth of the zeros that are written.
     ///
     /// # Errors
     /// - The new blocks are to be zeros already, and one is not. Nothing was written.

@@ -8,7 +8,8 @@ use std::io;
 /// Why a disk was not made in a file, or not served to the end.
 #[derive(Debug, Drop)]
 pub enum ServiceFault {
-    /// The file could not be made, opened, read to its end, or made stable, for the system's reason.
+    /// The file could not be made, opened, read to its end, or made stable, for the system's
+    /// reason.
     File(io::Error),
     /// The port is not to be had, or the system refused a connection.
     CannotListen,

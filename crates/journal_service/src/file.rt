@@ -42,7 +42,8 @@ pub fn format<R: Files<File = File> + Clock>(
 }
 
 /// Makes a disk of version 2 without files in a new file at the path, with a sealed log and this
-/// label, and with this room in its file system. Its owner alone may use it. Its name is stable then.
+/// label, and with this room in its file system. Its owner alone may use it. Its name is stable
+/// then.
 ///
 /// # Errors
 /// - `File`: the system refuses the file, as where anything is at the path, which stays as it is.

@@ -37,8 +37,8 @@ pub fn migrate<R: Files<File = File> + Wait, O: Write>(
 /// To a disk of version 2 nothing is done.
 ///
 /// Refused as `check_disk` is, and by J11 `Worn` where the positions of its log are used up.
-/// Whatever the refusal, and whenever the system stops, the disk has the same files, in version 1 or
-/// in version 2.
+/// Whatever the refusal, and whenever the system stops, the disk has the same files, in version 1
+/// or in version 2.
 pub fn migrate_disk<W: Wait, O: Write>(
     rt: &W,
     alloc: Global,

@@ -44,9 +44,9 @@ pub struct Service<'w> {
     pub reads: Reads,
 }
 
-/// Serves the files of the disk, of either version, by the programs `P`, until a client asks for its
-/// end by the control, if there is one. It prints the port before the first connection is taken.
-/// When it has ended all is stable, and the disk is closed and unlocked.
+/// Serves the files of the disk, of either version, by the programs `P`, until a client asks for
+/// its end by the control, if there is one. It prints the port before the first connection is
+/// taken. When it has ended all is stable, and the disk is closed and unlocked.
 ///
 /// Where the device fails, the calls under way are answered, and it ends by `DeviceFailed`. Else it
 /// is refused as `serve` is.
