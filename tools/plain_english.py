@@ -32,13 +32,13 @@ LEFT = {
     "What": (164, 76, 38),
     "Whether": (46, 0, 0),
     "Who": (15, 1, 1),
-    "so many": (50, 18, 2),
-    "tells": (85, 66, 39),
+    "so many": (49, 18, 2),
+    "tells": (84, 66, 39),
     "behind": (23, 17, 2),
     "stands": (23, 21, 43),
     "yes and no": (4, 0, 2),
-    "long": (9, 2, 4),
-    "no list of errors": (54, 0, 0),
+    "long": (6, 2, 4),
+    "no list of errors": (0, 0, 0),
     "wide": (12, 1, 0),
 }
 

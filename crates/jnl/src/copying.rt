@@ -9,8 +9,14 @@ use std::io::Write;
 /// Copies the disk in the file at the path to a new file, and prints what that is. Nobody writes
 /// the disk meanwhile, so the copy is one image of it.
 ///
-/// Refused where a program that writes the disk has it, where its log is not well formed, and where
-/// anything is at the path of the copy, unless the copy is to replace it.
+/// # Errors
+/// The disk is as it was.
+/// - Those of a disk that is opened to be read: a program that writes the disk has it, or its log
+///   is not well formed.
+/// - Anything is at the path of the copy, and the copy is not to replace it. It stays as it is.
+/// - `HasPart`: a copy that was begun is beside the path of the copy. It stays as it is.
+/// - The system's reason: the copy cannot be made. One that was to be replaced stays as it is.
+/// - `CannotWrite`: the output fails. The copy is there.
 pub fn back_up<'w, R: Files<File = File>, O: Write>(
     rt: &R,
     alloc: Global,

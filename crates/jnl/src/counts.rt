@@ -112,6 +112,9 @@ pub struct AnswerCounts {
 
 impl AnswerCounts {
     /// The counts of a service that has answered nothing, by as many workers.
+    ///
+    /// # Errors
+    /// - Memory is refused.
     pub fn new(alloc: Global, workers: u64) -> Result<AnswerCounts, AllocError> {
         Ok(AnswerCounts {
             answers: LaneCount::new(alloc, workers)?,

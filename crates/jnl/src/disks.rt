@@ -42,8 +42,11 @@ pub struct AskedDevice<'w> {
 /// regions of its layout. Where none are named, these are those of files if so few blocks have
 /// them, and else the label has none.
 ///
-/// Refused where anything is at the path, which stays as it is. Where it is refused later, the new
-/// file is removed.
+/// # Errors
+/// - `NoDisk`: no disk of these regions has this number of blocks. Nothing was made.
+/// - `File`: the system's reason, as where anything is at the path, which stays as it is. A file
+///   that was begun is removed.
+/// - `Refused`: memory is refused, or the device fails. The file is removed.
 pub fn create<'w, R: Files<File = File>>(
     rt: &R,
     alloc: Global,
@@ -110,6 +113,10 @@ pub fn create_on_device<'w, R: Files<File = File>, O: Write, E: Write>(
 
 /// Prints the number of blocks of the disk, the form of its log, whether it is a disk of the file
 /// service, whether it has a label, and the regions that this has. Nothing is written to it.
+///
+/// # Errors
+/// - Those of a disk that is opened to be read.
+/// - `CannotWrite`: the output fails.
 pub fn info<'w, R: Files<File = File>, O: Write, E: Write>(
     rt: &R,
     alloc: Global,
@@ -136,6 +143,10 @@ fn print_facts<O: Write>(facts: &DiskFacts, output: &mut O) -> io::Result<()> {
 
 /// Prints that the log of the disk is well formed, and of a disk of the file service which program
 /// checks its files. Nothing is written to it.
+///
+/// # Errors
+/// - Those of a disk that is opened to be read.
+/// - `CannotWrite`: the output fails.
 pub fn check<'w, R: Files<File = File>, O: Write, E: Write>(
     rt: &R,
     alloc: Global,
@@ -150,6 +161,11 @@ pub fn check<'w, R: Files<File = File>, O: Write, E: Write>(
 
 /// Gives the log of the disk this form, and prints the form. Where the log has it already, that is
 /// printed, and no byte is changed.
+///
+/// # Errors
+/// - Those of a disk that is opened to be written. Its log has the form before.
+/// - `Refused`: memory is refused, or the device fails. Its log has the one form or the other.
+/// - `CannotWrite`: the output fails. The log has the form.
 pub fn seal<'w, R: Files<File = File>, O: Write>(
     rt: &R,
     alloc: Global,

@@ -14,8 +14,14 @@ use std::io::Write;
 /// Gives the disk in the file at the path a label with these regions, and prints them. Where none
 /// are named, it has those of the label before it, or those of a new disk.
 ///
-/// Refused as a disk is that is opened to be written, where it has a label unless it is to have one
-/// again, and where it is a disk of the file service and the regions are not those of files.
+/// # Errors
+/// The disk has the label that it had, unless the system stops the writing of the new one.
+/// - Those of a disk that is opened to be written.
+/// - `Label`: its label is not well formed, and it is not to have one again.
+/// - `HasLabel`: it has a label, and is not to have one again.
+/// - `NoDisk`: no disk of these regions has its number of blocks.
+/// - `HasFiles`: a disk of the file service is to have other regions than those of files.
+/// - `CannotWrite`: the output fails. The label is written.
 pub fn label<'w, R: Files<File = File>, O: Write>(
     rt: &R,
     alloc: Global,
@@ -49,9 +55,14 @@ pub fn label<'w, R: Files<File = File>, O: Write>(
 /// Gives the disk in the file at the path `blocks` blocks, and prints its label. The new blocks are
 /// zeros. A disk without a label gets one, with the regions of files.
 ///
-/// Refused as a disk is that is opened to be written, where it is on a block device, where it has
-/// more blocks, where it is a disk of the file service, and where it would have more than 33299
-/// blocks and no label names its regions.
+/// # Errors
+/// The disk has its blocks and its label as before, unless the system stops the growth.
+/// - Those of a disk that is opened to be written.
+/// - `OnDevice`: it is on a block device.
+/// - `Smaller`: it has more blocks already.
+/// - `TellsNoRegions`: it would have more than 33299 blocks, and no label names its regions.
+/// - `CannotGrow`: it is a disk of the file service.
+/// - `CannotWrite`: the output fails. The disk has its new blocks.
 pub fn grow<'w, R: Files<File = File>, O: Write>(
     rt: &R,
     alloc: Global,
@@ -184,6 +195,9 @@ fn done<'w>(path: &'w str, written: Result<(), OpenFault>) -> Result<(), Fault<'
 }
 
 /// Prints the number of blocks and the regions of a label.
+///
+/// # Errors
+/// - `CannotWrite`: the output fails.
 pub fn print_label<'w, O: Write>(label: &Label, output: &mut O) -> Result<(), Fault<'w>> {
     let regions = RegionWords(label.told());
     let printed = writeln!(output, "blocks {}\nregions {regions}", label.blocks);

@@ -69,14 +69,20 @@ struct LaidOut {
 /// Where the device fails, what is under way is answered, all else is refused, and the service ends
 /// by `DeviceFailed`. All that was answered as stable is there at the next start.
 ///
-/// Refused where another program uses the disk, where its label is not that of the file or tells
-/// other regions, where the disk is one of the file service, whose files would not stay sound,
-/// where the layout is not one of so many blocks, where the system gives no random number for the
-/// opening, and as the opening of the journal is. Nothing listens then.
-///
 /// Where the disk is only read, other services that only read it may have it too, no byte of it
 /// is written, and each transaction that writes is refused. Then it may also be a disk of the file
 /// service.
+///
+/// # Errors
+/// Nothing listens, and no object is changed, but for the last two.
+/// - Another program uses the disk.
+/// - Its label is not that of the file, or has other regions.
+/// - It is a disk of the file service, whose files would not stay sound.
+/// - The layout is not one of its number of blocks.
+/// - The system gives no random number for the opening.
+/// - Those of the opening of the journal, and of the listeners.
+/// - `CannotWrite`: the output fails.
+/// - `DeviceFailed`: the device has failed. The service has ended.
 pub fn serve<
     'w,
     R: Files<File = File>

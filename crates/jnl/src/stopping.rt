@@ -25,9 +25,11 @@ const PAUSE_MILLIS: u64 = 10;
 /// Ends the service at the socket, and waits until all its commits are stable, the disk is closed
 /// and unlocked, and the socket is gone.
 ///
-/// Refused where no service answers there, where it refuses to end, and where it has not ended
-/// within a minute. One whose device has failed ends by itself: that is waited for, and then
-/// refused by `NotStable`.
+/// # Errors
+/// - `File`, `NoAnswer`: no service answers there.
+/// - `NotStopped`: it refuses to end.
+/// - `NotEnded`: it has not ended within a minute.
+/// - `NotStable`: its device has failed. It ends by itself, which was waited for.
 pub fn stop<'w, R: Files + Net + Clock>(
     rt: &R,
     alloc: Global,
@@ -114,6 +116,10 @@ fn ask_to_stop<'w, R: Net>(rt: &R, alloc: Global, socket: &'w str) -> Result<(),
 }
 
 /// Asks a request, and waits for its answer.
+///
+/// # Errors
+/// - `NoMemory`: memory is refused for the request or for its answer.
+/// - `NoAnswer`: the connection ends, or what comes is no answer.
 pub fn ask<'w>(
     alloc: Global,
     stream: &mut UnixStream,

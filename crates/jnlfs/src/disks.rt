@@ -59,7 +59,9 @@ pub fn check<'w, R: Files<File = File> + Wait, O: Write, E: Write>(
 /// Makes the disk in the file at the path one of version 2, with the same files, and prints its
 /// version then.
 ///
-/// Refused as `open` is, and as `journal_service::migrate_disk` is.
+/// # Errors
+/// - Those of `open`.
+/// - Those of `journal_service::migrate_disk`. The disk has the same files, in version 1 or 2.
 pub fn migrate<'w, R: Files<File = File> + Wait, O: Write>(
     rt: &R,
     alloc: Global,

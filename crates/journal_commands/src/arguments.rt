@@ -12,6 +12,9 @@ pub const FILE: &str = "FILE";
 
 /// The grammar of the program of this name, without its subcommands, of which one is required. Its
 /// help is printed from it.
+///
+/// # Errors
+/// - Memory is refused.
 pub fn program_command<'w>(
     alloc: Global,
     name: &'w str,

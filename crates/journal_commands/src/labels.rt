@@ -36,6 +36,9 @@ pub fn told(facts: &DiskFacts) -> Option<Regions>
 }
 
 /// Refuses a disk of the file service whose label tells other regions than those of files.
+///
+/// # Errors
+/// - `OtherRegions`: the label has other ones.
 pub fn refuse_other_regions<'w>(path: &'w str, facts: &DiskFacts) -> Result<(), Fault<'w>> {
     match (told(facts), regions_of_files(facts.blocks)) {
         (Some(told), Some(asked)) if told != asked => {

@@ -9,7 +9,8 @@ use std::io::Write;
 /// Looks at the disk in the file at the path, which no other program uses as long as it is open.
 /// Nothing is written to it.
 ///
-/// Refused as by `find_disk`.
+/// # Errors
+/// - Those of `find_disk`.
 pub fn find<'w, R: Files<File = File>>(
     rt: &R,
     alloc: Global,
@@ -23,7 +24,8 @@ pub fn find<'w, R: Files<File = File>>(
 
 /// The disk that was found in the file at the path, once what it reads is stable.
 ///
-/// Refused as by `FoundDisk::settle`.
+/// # Errors
+/// - Those of `FoundDisk::settle`.
 pub fn settle<'w>(alloc: Global, path: &'w str, found: FoundDisk) -> Result<SizedDisk, Fault<'w>> {
     match found.settle(alloc) {
         Ok(settled) => Ok(settled.disk()),
@@ -33,7 +35,8 @@ pub fn settle<'w>(alloc: Global, path: &'w str, found: FoundDisk) -> Result<Size
 
 /// Opens the disk in the file at the path to be read, and reads what it is.
 ///
-/// Refused as by `open_to_check`.
+/// # Errors
+/// - Those of `open_to_check`.
 pub fn open_to_read<'w, R: Files<File = File>, E: Write>(
     rt: &R,
     alloc: Global,
@@ -47,6 +50,9 @@ pub fn open_to_read<'w, R: Files<File = File>, E: Write>(
 }
 
 /// Prints a line, and writes the output out.
+///
+/// # Errors
+/// - `CannotWrite`: the output fails.
 pub fn print_line<'w, O: Write>(output: &mut O, word: &str, more: &str) -> Result<(), Fault<'w>> {
     match writeln!(output, "{word}{more}").and_then(|()| output.flush()) {
         Ok(()) => Ok(()),

@@ -60,9 +60,12 @@ impl AskedLayout {
     /// The layout with these regions, each a word: its first block, a colon and the name of its
     /// kind. Without words they are those of files.
     ///
-    /// The first that applies of these refuses it: `BadSlots` where the number of slots is even or
-    /// above 65521, `TooManyRegions` and `NoRegion` for the first word that is one too many or no
-    /// region, and `BadRegions` where they do not begin at block 513 or do not rise.
+    /// # Errors
+    /// The first of these that applies.
+    /// - `BadSlots`: the number of slots is even or above 65521.
+    /// - `TooManyRegions`: there are more words than regions of a layout.
+    /// - `NoRegion`: a word is no region.
+    /// - `BadRegions`: they do not begin at block 513, or do not rise.
     pub fn parse<'w>(words: Option<&[&'w str]>, slots: u16) -> Result<AskedLayout, Fault<'w>> {
         if slots % 2 == 0 || slots > MAX_SLOTS {
             return Err(Fault::BadSlots { slots });
@@ -81,8 +84,10 @@ impl AskedLayout {
         self.regions
     }
 
-    /// The same slots with the regions that a disk's label tells, where it tells any. Where others
-    /// were named, these are answered as a refusal.
+    /// The same slots with the regions that a disk's label tells, where it tells any.
+    ///
+    /// # Errors
+    /// - `OtherRegions`: the label has other ones than were named.
     pub fn with_told(self, told: Option<Regions>) -> Result<AskedLayout, OtherRegions>
         requires { ForSome told (λ list. IsTrue (are_regions list)) }
         ensures asked { IfOk result (λ asked. asked.regions ≡ told_or told self.regions) }
@@ -143,7 +148,8 @@ impl fmt::Display for OtherRegions {
 
 /// The regions that the words name, which begin at block 513 and rise, or `None` without words.
 ///
-/// Refused as by `AskedLayout::parse`.
+/// # Errors
+/// - Those of `AskedLayout::parse`, but for the number of slots.
 pub fn named_regions<'w>(words: Option<&[&'w str]>) -> Result<Option<Regions>, Fault<'w>> {
     match words {
         Some(words) => Ok(Some(parse_regions(words)?)),

@@ -22,8 +22,11 @@ const FOLDERS: u32 = 1000;
 /// only its owner can open it, and is renamed to the path then. So nobody else can open it at any
 /// time.
 ///
-/// Refused where a program listens at the path, or anything but a socket is there, which stays, and
-/// for the system's reason.
+/// # Errors
+/// The path keeps what it has.
+/// - `AddrInUse`: a program listens there.
+/// - `AlreadyExists`: anything but a socket is there, or no name is free for the folder.
+/// - The system's reason: the socket cannot be made or renamed, or memory is refused.
 pub fn make_socket<R: Files + Net>(rt: &R, alloc: Global, path: &str) -> io::Result<UnixListener> {
     require_free(rt, path)?;
     let folder = make_folder(rt, alloc, path)?;

@@ -30,8 +30,10 @@ impl<S: Drop> Ready<S> {
         }
     }
 
-    // Puts a connection at the end. It comes back where the service has ended, or memory is
-    // refused.
+    /// Puts a connection at the end.
+    ///
+    /// # Errors
+    /// - The connection: the service has ended, or memory is refused.
     pub fn put<W: Wait>(
         &self,
         rt: &W,

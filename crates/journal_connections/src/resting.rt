@@ -57,8 +57,10 @@ impl<S: Drop> Resting<S> {
         }
     }
 
-    // Lets a connection rest. It comes back where the service has ended, where memory is refused,
-    // or where the system does not watch it.
+    /// Lets a connection rest.
+    ///
+    /// # Errors
+    /// - The connection: the service has ended, memory is refused, or the system does not watch it.
     pub fn put<W: Wait>(
         &self,
         rt: &W,

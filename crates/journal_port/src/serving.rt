@@ -93,9 +93,13 @@ pub(crate) enum Fed {
 /// At every end it fences the session, also where it gives up: so nothing is committed under its
 /// number later.
 ///
-/// Where it gives up, some of the records that it read were answered, from the first on, and their
-/// answers were written up to some byte: a request whose answer could not be written was done as
-/// its answer says.
+/// # Errors
+/// Some of the records that it read were answered then, from the first on, and their answers were
+/// written up to some byte. A request whose answer could not be written was done as its answer
+/// says.
+/// - `ReadFailed`: the reader failed.
+/// - `WriteFailed`: the writer failed, or took no byte.
+/// - `NoMemory`: memory is refused for what was read, or for an answer.
 pub fn serve<'b, R: Read, W: Write, D: BlockDisk, J: Naming, C: Counting, H: Wait>(
     rt: &H,
     port: &Port<'_, 'b, D, J, C>,
@@ -147,6 +151,9 @@ fn serve_in_turns<'b, R: Read, W: Write, D: BlockDisk, J: Naming, C: Counting, H
 /// fenced, and what comes later is answered by a further call.
 ///
 /// It reads into the buffer, which has room.
+///
+/// # Errors
+/// - Those of `serve`.
 pub fn serve_to_pause<
     'b,
     R: Read,

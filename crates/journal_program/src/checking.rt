@@ -24,8 +24,11 @@ pub struct ToCheck {
 /// only read, is locked together with others that read it, unless its file system keeps no locks. A
 /// warning is printed for each thing that the system refuses of such a file.
 ///
-/// Refused where a program that writes to it has its lock, for the system's reason, and as
-/// `find_disk` refuses what the file has.
+/// # Errors
+/// Nothing was written.
+/// - `File`: the system's reason, which is `WouldBlock` where a program that writes the disk has
+///   its lock.
+/// - `Device`, `Label`, `NoDisk`, `Refused`: those of `find_disk`.
 pub fn open_to_check<R: Files<File = File>, E: Write>(
     rt: &R,
     alloc: Global,

@@ -25,8 +25,10 @@ const NEW_MODE: u32 = 0o600;
 /// label that no other program uses as long as it is open. Its owner alone may read and write it.
 /// Its name is stable then, and its log and what describes it have their room in the file system.
 ///
-/// Refused where anything is at the path, which stays as it is, and for the system's reason. A file
-/// that was begun is removed then, unless another program has locked it already.
+/// # Errors
+/// - `AlreadyExists`: anything is at the path. It stays as it is.
+/// - The system's reason: the file cannot be made, locked, filled or synced. It is removed, unless
+///   another program has locked it already.
 pub fn create_new_disk<R: Files<File = File>>(
     rt: &R,
     alloc: Global,
@@ -45,7 +47,9 @@ pub fn create_new_disk<R: Files<File = File>>(
 /// Makes a new file of zeros at the path, but for this label, and answers it as a disk as
 /// `create_new_disk` does, with this room in its file system. The label is stable once the name is.
 ///
-/// Refused as `create_new_disk` is, and by J1 `NoMemory`.
+/// # Errors
+/// - `File`: those of `create_new_disk`.
+/// - `Refused`: J1 `NoMemory`. The file is removed.
 pub fn create_labeled_disk<R: Files<File = File>>(
     rt: &R,
     alloc: Global,
@@ -67,8 +71,9 @@ pub fn create_labeled_disk<R: Files<File = File>>(
 /// label that no other program uses as long as it is open. A file that was there loses its content.
 /// Its name is stable then, and its log and what describes it have their room in the file system.
 ///
-/// Refused where another program has its lock, before its content is gone, and for the system's
-/// reason.
+/// # Errors
+/// - `WouldBlock`: another program has its lock. Its content is as it was.
+/// - The system's reason: the file cannot be made, filled or synced. Its old content may be gone.
 pub fn create_disk<R: Files<File = File>>(
     rt: &R,
     alloc: Global,

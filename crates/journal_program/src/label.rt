@@ -109,8 +109,9 @@ impl Label {
 
     /// Reads the label in block 1: `None` where it does not begin with the label's name.
     ///
-    /// Answers `BadLabel` where it begins with the name, and is no label of version 1: its number
-    /// of blocks is that of no disk, its regions are none of a layout, or another byte is not zero.
+    /// # Errors
+    /// - `BadLabel`: it begins with the name, and is no label of version 1. Its number of blocks is
+    ///   that of no disk, its regions are none of a layout, or another byte is not zero.
     pub fn read(block: &Block) -> Result<Option<Label>, BadLabel>
         ensures none { (result ≡ Ok None) ↔ (u64_at block.now 8 ≢ MAGIC) }
         ensures label { (label : Label) → (result ≡ Ok (Some label)) ↔ (IsLabel label × HasLabel block.now label) }

@@ -42,12 +42,15 @@ impl FoundDisk {
 /// is to be written, so it is settled once the caller has looked whether it is the disk that it
 /// wants.
 ///
-/// The first that applies of these refuses it, with nothing written: the system's reason, which is
-/// `WouldBlock` where another program has the file's lock, or that of the device by its number;
-/// that it is neither a file nor a block device, or that the device's lock cannot be had; a label
-/// that is not well formed, or that says more blocks than the file has; a number of blocks that no
-/// disk has; J1 `NoMemory` where memory is refused, J6 `DeviceFailed` where the device fails, and
-/// J7 `BadLog` where the log is not well formed.
+/// # Errors
+/// The first of these that applies. Nothing was written.
+/// - `File`: the system's reason, which is `WouldBlock` where another program has the lock of the
+///   file, or that of the device by its number.
+/// - `Device`: it is neither a file nor a block device, or the lock of the device cannot be had.
+/// - `Label`: its label is not well formed, or names more blocks than the file has.
+/// - `NoDisk`: no disk has this number of blocks.
+/// - `Refused`: J1 `NoMemory`; J6 `DeviceFailed`, where the device fails; J7 `BadLog`, where the
+///   log is not well formed.
 pub fn find_disk<R: Files<File = File>>(
     rt: &R,
     alloc: Global,
@@ -64,7 +67,9 @@ pub fn find_disk<R: Files<File = File>>(
 /// The disk in the file at the path, on which nothing is pending, and which no other program uses
 /// as long as it is open.
 ///
-/// Refused as by `find_disk` and `FoundDisk::settle`.
+/// # Errors
+/// - Those of `find_disk`. Nothing was written.
+/// - Those of `FoundDisk::settle`.
 pub fn open_settled<R: Files<File = File>>(
     rt: &R,
     alloc: Global,

@@ -38,7 +38,10 @@ pub struct DiskToLabel {
 impl DiskToLabel {
     /// Writes the label, stable. The log is written as it reads before.
     ///
-    /// Refused for the system's reason, and by J1 `NoMemory`. The disk has the label or not then.
+    /// # Errors
+    /// The disk has the label, or the one before it.
+    /// - `File`: the system's reason.
+    /// - `Refused`: J1 `NoMemory`.
     pub fn put(self, alloc: Global, label: &Label) -> Result<(), OpenFault> {
         self.settle(alloc)?;
         self.label(alloc, label)
@@ -48,7 +51,10 @@ impl DiskToLabel {
     /// written as it reads before. The label is written once the longer file is stable, so that no
     /// moment leaves a label of more blocks than the file has.
     ///
-    /// Refused for the system's reason, and by J1 `NoMemory`. The disk has the label or not then.
+    /// # Errors
+    /// The disk has the label, or the one before it. Its file may be longer.
+    /// - `File`: the system's reason.
+    /// - `Refused`: J1 `NoMemory`.
     pub fn grow(self, alloc: Global, label: &Label) -> Result<(), OpenFault>
         requires label { IsLabel label.now }
         requires longer { self.facts.blocks ≤ label.now.blocks }
@@ -112,7 +118,8 @@ impl DiskToLabel {
 /// Looks at the disk in the file at the path, which no other program uses as long as it is open,
 /// and whose label is to be written. Nothing is written.
 ///
-/// Refused as `find_disk` is, but not for a label that is not well formed.
+/// # Errors
+/// - Those of `find_disk`, but for a label that is not well formed.
 pub fn find_disk_to_label<R: Files<File = File>>(
     rt: &R,
     alloc: Global,

@@ -37,7 +37,8 @@ impl SharedDisk {
 /// Looks at the disk in the file at the path, and opens it to be read alone: together with others
 /// that only read it, and with none that writes it. Nothing is written, and nothing is made stable.
 ///
-/// Refused as by `find_disk`.
+/// # Errors
+/// - Those of `find_disk`.
 pub fn share_disk<R: Files<File = File>>(
     rt: &R,
     alloc: Global,

@@ -81,8 +81,12 @@ pub enum ConnFault {
 /// At every end it fences the session, also where it gives up: so nothing is committed under its
 /// number later.
 ///
-/// Where it gives up, some of the records that it read were answered, from the first on, and their
-/// replies were written up to some byte: a call whose reply could not be written was done.
+/// # Errors
+/// Some of the records that it read were answered then, from the first on, and their replies were
+/// written up to some byte: a call whose reply could not be written was done.
+/// - `ReadFailed`: the reader failed.
+/// - `WriteFailed`: the writer failed, or took no byte.
+/// - `NoMemory`: memory was refused for what was read, or for a reply.
 pub fn serve_protocol<R: Read, W: Write, P: Protocol, C: Clock, G: Gate, H: Wait>(
     rt: &H,
     answerer: &Answerer<'_, P, C, G>,

@@ -52,7 +52,10 @@ pub(crate) struct ReplyBatch<A, R> {
 }
 
 impl<A: Drop, R: Counted + Drop> ReplyBatch<A, R> {
-    // Nothing is held, and there is room for what is known of the replies of a turn.
+    /// Nothing is held, and there is room for what is known of the replies of a turn.
+    ///
+    /// # Errors
+    /// - Memory is refused.
     pub fn new(alloc: Global) -> Result<ReplyBatch<A, R>, AllocError> {
         Ok(ReplyBatch {
             bytes: Vec::new(alloc),
@@ -74,8 +77,11 @@ impl<A: Drop, R: Counted + Drop> ReplyBatch<A, R> {
         self.latest = None;
     }
 
-    // Makes room for what is known of one more reply. It takes no memory where the turn is not
-    // full.
+    /// Makes room for what is known of one more reply. It takes no memory where the turn is not
+    /// full.
+    ///
+    /// # Errors
+    /// - Memory is refused. It holds the same replies then.
     pub fn make_room(&mut self) -> Result<(), AllocError>
         ensures room { OnOk result (vec_len self.new.replies < vec_capacity self.new.replies) }
         ensures bytes { self.new.bytes.items ≡ self.old.bytes.items }
@@ -90,7 +96,10 @@ impl<A: Drop, R: Counted + Drop> ReplyBatch<A, R> {
         self.bytes.len() >= BYTES_AT_ONCE || self.replies.len() >= REPLIES_AT_ONCE
     }
 
-    // Holds the reply after the others.
+    /// Holds the reply after the others.
+    ///
+    /// # Errors
+    /// - Memory is refused.
     pub fn add_reply(&mut self, soon: HeldReply<A, R>) -> Result<(), AllocError>
         requires room { vec_len self.old.replies < vec_capacity self.old.replies }
         ensures bytes { OnOk result (self.new.bytes.items ≡ self.old.bytes.items ++ soon.reply.items) }

@@ -73,8 +73,10 @@ impl Input {
         self.left().is_empty()
     }
 
-    /// A piece comes. Where a growth is refused nothing has changed, and the piece may be fed
-    /// again.
+    /// A piece comes.
+    ///
+    /// # Errors
+    /// - Memory is refused. Nothing has changed, and the piece may be fed again.
     pub fn feed(&mut self, piece: &[u8]) -> Result<(), AllocError>
         ensures fed { OnOk result (self.new ≡ self.old ++ piece.now) }
         ensures kept { OnErr result (self.new ≡ self.old) }

@@ -344,8 +344,10 @@ fn is_drained<S: Drop, H: Wait>(
 ///
 /// The outcomes are those of all connections that the source gave, each once, in no order.
 ///
-/// Answers J1 `NoMemory` where memory or a thread was refused, and J11 `Worn` where a session was.
-/// All other connections are served nevertheless.
+/// # Errors
+/// All other connections were served nevertheless.
+/// - J1 `NoMemory`: memory or a thread was refused.
+/// - J11 `Worn`: a session was refused.
 pub fn run_workers<
     's,
     'b,

@@ -26,8 +26,9 @@ const ROOT: u32 = 1;
 /// Where the file may only be read, and the system locks or syncs no such file, that is told as a
 /// fault, and the disk is checked all the same.
 ///
-/// Refused where its label is not that of the file, and as a mount is: J7 `BadLog` where its log is
-/// not well formed, J8 `BadSuper` where its files are sound in no version.
+/// # Errors
+/// - `File`, `Device`, `Label`: those of a disk that is opened to be read.
+/// - `Refused`, `CannotWrite`: those of `check_disk`.
 pub fn check<R: Files<File = File> + Wait, O: Write, E: Write>(
     rt: &R,
     alloc: Global,
@@ -44,8 +45,10 @@ pub fn check<R: Files<File = File> + Wait, O: Write, E: Write>(
 /// Mounts the disk, and prints that it is sound, its version and how many files it has. The files
 /// are not changed, and nothing is written to the disk.
 ///
-/// Refused as a mount is: J7 `BadLog` where its log is not well formed, J8 `BadSuper` where its
-/// files are sound in no version.
+/// # Errors
+/// - `Refused`: J7 `BadLog`, where its log is not well formed; J8 `BadSuper`, where its files are
+///   sound in no version; J1 `NoMemory`; J6 `DeviceFailed`.
+/// - `CannotWrite`: the output fails.
 pub fn check_disk<W: Wait, O: Write>(
     rt: &W,
     alloc: Global,

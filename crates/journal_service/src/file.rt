@@ -22,7 +22,10 @@ use std::{fs, io};
 /// made, or what it held is gone. Its log and what describes it have their room in the file system
 /// then, and its name is stable.
 ///
-/// Refused where a program uses the disk in it, before anything of it is gone.
+/// # Errors
+/// - `File`: the system's reason, which is `WouldBlock` where a program uses the disk in the file.
+///   Nothing of that one is gone.
+/// - `Refused`: memory is refused, or the device fails. The old content of the file is gone.
 pub fn format<R: Files<File = File> + Clock>(
     rt: &R,
     alloc: Global,

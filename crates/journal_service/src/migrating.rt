@@ -21,9 +21,11 @@ use std::sync::Wait;
 /// Makes the disk in the file one of version 2, with the same files, and prints its version then.
 /// To a disk of version 2 nothing is done.
 ///
-/// Refused as `check` is, and by J11 `Worn` where the positions of its log are used up. Whatever
-/// the refusal, and whenever the system stops, the file has the same files, in version 1 or in
-/// version 2.
+/// # Errors
+/// Whatever the refusal, and whenever the system stops, the file has the same files, in version 1
+/// or in version 2.
+/// - Those of `check`.
+/// - `Refused`: J11 `Worn`, where the positions of its log are used up.
 pub fn migrate<R: Files<File = File> + Wait, O: Write>(
     rt: &R,
     alloc: Global,
@@ -36,9 +38,11 @@ pub fn migrate<R: Files<File = File> + Wait, O: Write>(
 /// Makes the disk one of version 2, with the same files, gives it up, and prints its version then.
 /// To a disk of version 2 nothing is done.
 ///
-/// Refused as `check_disk` is, and by J11 `Worn` where the positions of its log are used up.
+/// # Errors
 /// Whatever the refusal, and whenever the system stops, the disk has the same files, in version 1
 /// or in version 2.
+/// - Those of `check_disk`.
+/// - `Refused`: J11 `Worn`, where the positions of its log are used up.
 pub fn migrate_disk<W: Wait, O: Write>(
     rt: &W,
     alloc: Global,

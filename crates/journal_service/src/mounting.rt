@@ -23,7 +23,10 @@ pub(crate) enum Tried<T, D: BlockDisk = SizedDisk> {
 }
 
 impl<T: Drop, D: BlockDisk + Drop> Tried<T, D> {
-    /// What came of the files. It is J8 where they are not sound, and the disk is given up.
+    /// What came of the files.
+    ///
+    /// # Errors
+    /// - J8 `BadSuper`: they are not sound. The disk is given up.
     pub fn sound(self) -> Result<T, ServiceFault> {
         match self {
             Tried::Sound(value) => Ok(value),

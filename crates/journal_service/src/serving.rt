@@ -48,8 +48,9 @@ pub struct Service<'w> {
 /// its end by the control, if there is one. It prints the port before the first connection is
 /// taken. When it has ended all is stable, and the disk is closed and unlocked.
 ///
-/// Where the device fails, the calls under way are answered, and it ends by `DeviceFailed`. Else it
-/// is refused as `serve` is.
+/// # Errors
+/// - `DeviceFailed`: the device failed. The calls under way were answered.
+/// - Those of `serve`.
 pub fn export<
     P: Programs + FileProtocol<VersionTwo> + FileProtocol<VersionOne> + Sync + Drop,
     R: Files<File = File>
@@ -122,8 +123,12 @@ pub fn export_to_read<
 /// first connection is taken, and how many were taken once all is stable and the disk is given up.
 /// Where the clock cannot be read, that is told as a fault, and the disk is served all the same.
 ///
-/// Refused where its label is not that of the file, and as a mount is: J7 `BadLog` where its log is
-/// not well formed, J8 `BadSuper` where its files are sound in no version.
+/// # Errors
+/// - `File`, `Device`, `Label`: those of a disk that is opened to be written.
+/// - `Refused`: J7 `BadLog`, where its log is not well formed; J8 `BadSuper`, where its files are
+///   sound in no version; and all else that a mount or a close is refused by.
+/// - `CannotListen`: the port is not to be had.
+/// - `CannotWrite`: the output fails.
 pub fn serve<
     R: Files<File = File>
         + Net<Listener = TcpListener, Stream = TcpStream>

@@ -9,6 +9,9 @@ use std::io::Write;
 use std::sync::Wait;
 
 /// Makes the disk in a file one of version 2.
+///
+/// # Errors
+/// - Those of `journal_service::migrate`.
 pub fn migrate<'w, R: Files<File = File> + Wait, O: Write>(
     rt: &R,
     alloc: Global,
