@@ -60,7 +60,7 @@ const READ_ONLY: &str = "read-only";
 // How many connections are served at once where no number is given.
 const DEFAULT_CONNECTIONS: u64 = 1024;
 
-/// What the words of the command line ask for.
+/// The task that the words of the command line name.
 #[derive(Drop)]
 pub enum Subcommand<'w> {
     /// Make an empty disk of this number of blocks, with these regions, in a new file.

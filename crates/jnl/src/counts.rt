@@ -1,4 +1,4 @@
-// What a service counts.
+// The counts of a service.
 
 use crate::working::OpenDisk;
 use journal_connections::{Count, LaneCount, Load};
@@ -127,9 +127,9 @@ impl AnswerCounts {
 pub struct Figures<'s, 'j, 'b, D: BlockDisk, J: Naming, R> {
     /// The runtime, whose clock is read.
     pub rt: &'s R,
-    /// What is served.
+    /// The disk that is served.
     pub disk: &'s OpenDisk<'j, 'b, D, J>,
-    /// What was counted of the answers.
+    /// The counts of the answers.
     pub answers: &'s AnswerCounts,
     /// The connections.
     pub load: &'s Load,

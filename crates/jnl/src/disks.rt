@@ -1,4 +1,4 @@
-// What the subcommands do with disks in files.
+// The subcommands on disks in files.
 
 use crate::labels::print_label;
 use journal_commands::{
@@ -15,11 +15,11 @@ use std::fs::{File, Files};
 use std::io::Write;
 use std::{fs, io};
 
-// What is printed of a disk that was checked. A copy of a disk that was written meanwhile may have
+// The line of a disk that was checked. A copy of a disk that was written meanwhile may have
 // such a log too.
 const WELL_FORMED: &str = "log well formed";
 
-// What is printed of a disk with files besides, which another program reads.
+// The end of that line for a disk with files, which another program reads.
 const UNCHECKED: &str = "; its files are checked by jnlfs check FILE";
 
 const OF_FILES: &str = "yes, of jnlfs";

@@ -1,4 +1,4 @@
-// What a service has counted is printed.
+// The counters of a service are printed.
 
 use crate::stopping::ask;
 use journal_commands::Fault;
@@ -22,7 +22,7 @@ pub enum StatForm {
     Prometheus,
 }
 
-/// What is counted, for who reads it.
+/// A counter as its readers see it.
 #[derive(Clone, Copy)]
 struct Row {
     // The number of the counter in the protocol.
@@ -139,7 +139,7 @@ struct Lengths {
     micros: u32,
     // The counter of class 0. The others follow.
     first: u32,
-    // What is printed before `_microseconds`, and for each class before `_from_`.
+    // The words before `_microseconds`, and for each class before `_from_`.
     name: &'static str,
     classes: &'static str,
     help: &'static str,
@@ -162,7 +162,7 @@ const LENGTHS: [Lengths; 2] = [
     },
 ];
 
-// What a counter is of.
+// The kind of a counter.
 #[derive(Clone, Copy)]
 enum Kind {
     // A row of its own.
@@ -175,7 +175,7 @@ enum Kind {
     Other,
 }
 
-// What a service answers who asks for its counters.
+// The answer of a service to who asks for its counters.
 #[derive(Drop)]
 struct Told {
     opening: Opening,
@@ -332,7 +332,7 @@ fn row_of(number: u32) -> Option<Row> {
     ROWS.iter().find(|row| row.number == number).copied()
 }
 
-// What a counter has come to, or 0 where the service does not count it.
+// The value of a counter, or 0 where the service does not count it.
 fn value_of(told: &Told, number: u32) -> u64 {
     match told.counters.iter().find(|counter| counter.name == number) {
         Some(counter) => counter.value,
@@ -345,7 +345,7 @@ fn is_told(told: &Told, number: u32) -> bool {
     told.counters.iter().any(|counter| counter.name == number)
 }
 
-// What the counter of this number is of.
+// The kind of the counter of this number.
 fn kind_of(number: u32) -> Kind {
     if let Some(row) = row_of(number) {
         return Kind::Row(row);

@@ -70,8 +70,8 @@ fn await_end<'w, R: Files + Clock>(
     Err(Fault::NotEnded { socket })
 }
 
-// What a node is known by: its number in its file system, and the moment since which it is there. A
-// file system may give a number again.
+// A node is known by these two: its number in its file system, and the moment since which it is
+// there. A file system may give a number again.
 #[derive(Clone, Copy, PartialEq, Eq)]
 struct Node {
     number: u64,

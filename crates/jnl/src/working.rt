@@ -20,9 +20,9 @@ const LAST_MILLIS: u64 = 250;
 /// A journal that admits every map.
 pub type OpenJournal<'b, D, J> = Journal<'b, D, AnyMap, J>;
 
-/// What is served.
+/// The disk that is served.
 pub struct OpenDisk<'j, 'b, D: BlockDisk, J: Naming> {
-    /// What memory is taken from.
+    /// The allocator.
     pub alloc: Global,
     /// The journal.
     pub journal: &'j OpenJournal<'b, D, J>,
@@ -32,7 +32,7 @@ pub struct OpenDisk<'j, 'b, D: BlockDisk, J: Naming> {
     pub number: u64,
     /// When it was opened, in microseconds of the clock, where this could be read.
     pub opened_at: Option<u64>,
-    /// What is counted of the calls of its disk.
+    /// The counts of the calls of its disk.
     pub counts: &'j DiskCounts,
     /// Whether transactions may write.
     pub may_write: bool,
@@ -55,9 +55,9 @@ impl<'j, 'b, D: BlockDisk, J: Naming> Drop for OpenDisk<'j, 'b, D, J> {
 
 /// The answers to requests, as what connections are answered by.
 pub struct Answering<'s, 'j, 'b, D: BlockDisk, J: Naming> {
-    /// What is served.
+    /// The disk that is served.
     pub disk: &'s OpenDisk<'j, 'b, D, J>,
-    /// What is counted of the answers.
+    /// The counts of the answers.
     pub answers: &'s AnswerCounts,
     /// The connections.
     pub load: &'s Load,
@@ -159,7 +159,7 @@ impl<'s, 'j, 'b, D: BlockDisk, J: Naming> Answering<'s, 'j, 'b, D, J> {
         }
     }
 
-    // What the requests of a connection are answered by.
+    // The port by which the requests of a connection are answered.
     fn port<'x, C: Counting>(&'x self, counting: &'x C, may_stop: bool) -> Port<'x, 'b, D, J, C> {
         let disk = self.disk;
         Port {

@@ -36,7 +36,7 @@ const READ_ONLY: &str = "read-only";
 
 const MIRROR: &str = "mirror";
 
-/// What the words of the command line ask for.
+/// The task that the words of the command line name.
 #[derive(Drop)]
 pub enum Subcommand<'w> {
     /// Make a disk without files, of this number of blocks, in a new file.

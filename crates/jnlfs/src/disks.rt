@@ -1,4 +1,4 @@
-// What the subcommands do with disks of files.
+// The subcommands on disks of files.
 
 use crate::unserved::unserved;
 use journal_commands::{Fault, find, label_of, open_to_read, refuse_other_regions};

@@ -1,4 +1,4 @@
--- What the words of a command line say of a layout.
+-- The layout that the words of a command line name.
 use Rattle.std.specs.Prelude.{ℕ, ◌≡◌, List, Option, Some, None, codes}
 use Rattle.journal_world.specs.declared.address.Kind.{Kind}
 use Rattle.journal_world.specs.declared.address.Kind.TheVariants.{Bit, Record, Block}

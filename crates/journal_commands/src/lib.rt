@@ -1,5 +1,5 @@
-//! What the programs `jnl` and `jnlfs` share: the words of their command lines, how they open and
-//! lock a disk, what they print of it, and what they print where they fail.
+//! The parts that the programs `jnl` and `jnlfs` share: the words of their command lines, how they
+//! open and lock a disk, what they print of it, and what they print where they fail.
 //!
 //! A program has a name, its subcommands and what these do. `program_command` begins its grammar,
 //! `start` takes its words and its output, and `Fault::report` ends it. `find` and `settle` open a

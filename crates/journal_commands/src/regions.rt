@@ -135,7 +135,7 @@ pub struct OtherRegions {
     pub asked: Regions,
 }
 
-/// The line behind the path of the file and the word `regions`.
+/// The line after the path of the file and the word `regions`.
 impl fmt::Display for OtherRegions {
     fn fmt<W: fmt::Write>(&self, f: &mut fmt::Formatter<W>) -> fmt::Result {
         let told = self.told;

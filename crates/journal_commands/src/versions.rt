@@ -1,4 +1,4 @@
-// What `--version` prints after the name of a program: its version, and those of what it reads and
+// The line of `--version` after the name of a program: its version, and those of what it reads and
 // speaks. The programs are of one version, and read the same logs and labels.
 
 /// The versions of `jnl`, which speaks the protocol of programs in other languages.

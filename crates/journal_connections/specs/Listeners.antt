@@ -1,4 +1,4 @@
--- What connections are accepted from.
+-- Listeners, from which connections are accepted.
 use Rattle.journal_connections.specs.declared.listener.Listener.{Listener}
 use Rattle.journal_connections.specs.declared.listener.Listener.TheVariants.{Socket, Port}
 

@@ -18,7 +18,7 @@ const LAST_PIECE_BYTES: usize = 32_768;
 #[derive(Drop)]
 pub(crate) struct Connection<S> {
     pub stream: TcpStream,
-    // What its service keeps of it.
+    // The state that its service keeps of it.
     pub session: S,
     // How many were admitted before it.
     pub number: u64,

@@ -1,4 +1,4 @@
-// What is counted of connections.
+// The counts of connections.
 
 use std::alloc::{AllocError, Global};
 use std::sync::atomic::{AtomicU64, Ordering};
@@ -16,7 +16,7 @@ impl Count {
         Count(AtomicU64::new(0))
     }
 
-    /// What was counted.
+    /// The count.
     pub fn value(&self) -> u64 {
         self.0.load(Ordering::SeqCst)
     }
@@ -68,7 +68,7 @@ impl LaneCount {
         Ok(LaneCount { lanes })
     }
 
-    /// What all workers have counted.
+    /// The sum of all workers.
     pub fn value(&self) -> u64 {
         let mut counted: u64 = 0;
         for lane in self.lanes.iter() {
@@ -85,7 +85,7 @@ impl LaneCount {
     }
 }
 
-/// What is counted of the connections of a service.
+/// The counts of the connections of a service.
 #[derive(Drop)]
 pub struct ConnectionCounts {
     /// The connections that are open now.

@@ -35,7 +35,7 @@ impl Entrance {
     }
 }
 
-/// What ends a service. It knows the connections only by their number, so any thread may have it,
+/// The end of a service. It knows the connections only by their number, so any thread may have it,
 /// whatever they are answered by.
 pub struct Ending<'l> {
     pub(crate) load: &'l Load,
@@ -54,7 +54,7 @@ impl<'l> Drop for Ending<'l> {
 }
 
 impl<'l> Ending<'l> {
-    /// What ends the service whose connections come in by the entrance.
+    /// The end of the service whose connections come in by the entrance.
     ///
     /// # Errors
     ///

@@ -19,7 +19,7 @@ const LAST_PAUSE_MILLIS: u64 = 1000;
 // ENETDOWN, ECONNABORTED and ENOBUFS.
 const PASSING: [i32; 8] = [4, 12, 23, 24, 71, 100, 103, 105];
 
-/// What connections are accepted from.
+/// A listener, from which connections are accepted.
 #[derive(Drop)]
 pub enum Listener {
     /// A socket in the file system. Who can open it may end the service.
@@ -47,7 +47,7 @@ pub(crate) enum NoMore {
 }
 
 impl Listener {
-    // What closes the listener while another thread waits at it.
+    // A handle that closes the listener while another thread waits at it.
     pub(crate) fn closer(&self) -> io::Result<Closer> {
         let copy = match self {
             Listener::Socket(listener) => OwnedFd::from(listener.try_clone()?),

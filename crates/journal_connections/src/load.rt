@@ -21,10 +21,10 @@ pub struct PoolSize {
     pub connections: u64,
 }
 
-/// What all threads of a service know of its connections, without a lock.
+/// The numbers of connections, which all threads of a service know without a lock.
 #[derive(Drop)]
 pub struct Load {
-    /// What is counted.
+    /// The counts.
     pub counts: ConnectionCounts,
     pub(crate) size: PoolSize,
     // Workers that wait for a connection.

@@ -190,10 +190,10 @@ impl<'c, 'l, 'r, R: Clock + Wait> Peer<'c, 'l, 'r, R> {
     }
 }
 
-/// What comes from the peer.
+/// The bytes that come from the peer.
 pub struct Incoming<'p, 'c, 'l, 'r, R: Clock + Wait>(pub &'p Peer<'c, 'l, 'r, R>);
 
-/// What goes to the peer.
+/// The bytes that go to the peer.
 pub struct Outgoing<'p, 'c, 'l, 'r, R: Clock + Wait>(pub &'p Peer<'c, 'l, 'r, R>);
 
 impl<'p, 'c, 'l, 'r, R: Clock + Wait> Drop for Incoming<'p, 'c, 'l, 'r, R> {

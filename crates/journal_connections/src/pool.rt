@@ -74,7 +74,7 @@ pub fn serve<S: Service + Sync, R: Clock + Threads + Wait + Sync>(
     pool.serve(rt, alloc, &listeners, poll)
 }
 
-// What the threads of a service share.
+// The state that the threads of a service share.
 struct Pool<'s, 'l, S: Service> {
     service: &'s S,
     load: &'l Load,

@@ -1,4 +1,4 @@
-// What connections are answered by.
+// The service that answers connections.
 ghost use Rattle.std.specs.Prelude.{◌<◌, length};
 
 use crate::peer::Peer;
@@ -16,9 +16,9 @@ pub enum Turned {
     Stopped,
 }
 
-/// What connections are answered by.
+/// A service that answers connections.
 pub trait Service {
-    /// What is kept of a connection between its turns.
+    /// The state of a connection between its turns.
     type Session: Drop + Send;
 
     /// Begins a connection, whose peer may end the service or not. `None` refuses it.

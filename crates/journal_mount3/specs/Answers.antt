@@ -20,7 +20,7 @@ abbrev pub nine_text : Time → Result Results CallRefused → Result (List ℕ)
 nine_text now (Ok r) = Ok (results_text (results_at now r))
 nine_text now (Err why) = Err why
 
--- What a call comes to, as the text of its results or why it is refused, and how far it is. The
+-- The outcome of a call: the text of its results or why it is refused, and how far it is. The
 -- nine procedures are as journal_nfs3 has them, with the moment as the root's times
 abbrev pub Comes : FormatVersion → ℕ → Standing → List ℕ → Time → Result Requested CallRefused → SessionState → Result (List ℕ) CallRefused → SessionState → Type 0
 Comes version blocks standing verifier now (Err why) old outcome new = (outcome ≡ Err why) × (new ≡ old) × HasNoWait standing

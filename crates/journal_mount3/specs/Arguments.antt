@@ -42,7 +42,7 @@ page_plus = mapped_item (pair handle (pair hyper (pair (fixed 8) (pair word word
     (λ p. record { directory = p.0; cookie = p.1.0; verifier = p.1.1.0; names_count = p.1.1.1.0; count = p.1.1.1.1 })
     (λ a. (a.directory, (a.cookie, (a.verifier, (a.names_count, a.count)))))
 
--- What a call asks that only tells of the files
+-- A call that only tells of the files
 pub data Query : Type 0 where
   Access : List ℕ → (asked : ℕ) → Query
   ReadDirectory : Page → Query
@@ -89,7 +89,7 @@ query_arguments query_procedure.PathConfiguration = variant handle (λ h. PathCo
 abbrev pub path : Item (List ℕ)
 path = string 1024
 
--- What a call asks of MOUNT
+-- A call of MOUNT
 pub data MountCall : Type 0 where
   Null : MountCall
   Mount : List ℕ → MountCall

@@ -1,4 +1,4 @@
--- What a call asks of the two programs, or why it is refused (RFC 5531, section 9; RFC 1813,
+-- The question of a call to the two programs, or why it is refused (RFC 5531, section 9; RFC 1813,
 -- section 3.3 and appendix I).
 use Rattle.std.specs.Prelude.{ℕ, ◌==◌, if◌then◌else◌, List, Option, Some, None, Result, Ok, Err}
 use Rattle.journal_rpc.specs.declared.replies.CallRefused.{CallRefused}
@@ -17,7 +17,7 @@ use Rattle.journal_mount3.specs.declared.procedure.MountProcedure.{MountProcedur
 use Rattle.journal_mount3.specs.Procedures.{query_procedure_of, mount_procedure_of}
 use Rattle.journal_mount3.specs.Arguments.{Query, query_of, query_arguments, MountCall, mount_call_of, mount_arguments}
 
--- What is asked: one of the nine procedures, or another of the programs'
+-- The question: one of the nine procedures, or another of the programs'
 pub data Requested : Type 0 where
   nine : Operation → Requested
   query : Query → Requested

@@ -1,4 +1,4 @@
--- What the code's values stand for.
+-- The meaning of the code's values.
 use Rattle.std.specs.Prelude.{◌≡◌, ℕ, ◌-◌, ◌≤◌, true, false, List, [], ◌++◌, length, map, Option, Some, None, Result, Ok, Err}
 use Rattle.journal_inode.specs.declared.version.FormatVersion.{FormatVersion}
 use Rattle.journal_rpc.specs.declared.replies.CallRefused.{CallRefused}

@@ -49,7 +49,7 @@ AreKnown (told ∷ rest) = IsKnown told × AreKnown rest
 
 -- ---- entries
 
--- What a page tells of a name: its cookie, and the attributes and the generation of what it names
+-- The entry of a name on a page: its cookie, and the attributes and the generation of what it names
 pub record Listed : Type 0 where
   pub cookie : ℕ
   pub generation : ℕ

@@ -1,4 +1,4 @@
--- What MOUNT answers (RFC 1813, appendix I).
+-- The answers of MOUNT (RFC 1813, appendix I).
 use Rattle.std.specs.Prelude.{ℕ, Bool, true, false, ◌||◌, List, [], ◌∷◌, ◌++◌}
 use Rattle.std.specs.Str.{bytes_eq}
 use Rattle.journal_xdr.specs.Items.{Item, pair, mapped_item}

@@ -1,4 +1,4 @@
--- What the procedures beside the nine answer, as items (RFC 1813, sections 3.3.4 and 3.3.16 to
+-- The answers of the procedures beside the nine, as items (RFC 1813, sections 3.3.4 and 3.3.16 to
 -- 3.3.20).
 use Rattle.std.specs.Prelude.{ℕ, Bool, List, Option, Result}
 use Rattle.journal_xdr.specs.Items.{Item, pair, mapped_item}
@@ -81,7 +81,7 @@ configuration_results = mapped_item (pair post_op_attributes (pair word (pair wo
     (λ p. record { attributes = p.0; links_most = p.1.0; name_most = p.1.1.0; refuses_longer = p.1.1.1.0; keeps_owners = p.1.1.1.1.0; ignores_case = p.1.1.1.1.1.0; keeps_case = p.1.1.1.1.1.1 })
     (λ r. (r.attributes, (r.links_most, (r.name_most, (r.refuses_longer, (r.keeps_owners, (r.ignores_case, r.keeps_case)))))))
 
--- What a procedure answers that only tells of the files. Behind a status that refuses stand no
+-- The answer of a procedure that only tells of the files. Behind a status that refuses stand no
 -- attributes
 abbrev pub Told : Type 0 → Type 0
 Told A = Result A (NfsError × Option Fattr)

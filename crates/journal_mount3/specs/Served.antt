@@ -1,4 +1,4 @@
--- What is done for a call beside the nine procedures, and what is answered.
+-- The work for a call beside the nine procedures, and its answer.
 use Rattle.std.specs.Prelude.{◌≡◌, ℕ, ◌-◌, ◌*◌, ◌+◌, ◌==◌, if◌then◌else◌, MatchBool, bit_and, true, false, List, [], ◌∷◌, length, Some, None, Result, Ok, Err}
 use Rattle.journal_world.specs.declared.layout.TheConstants.{BLOCK_BYTES, FIRST_DATA}
 use Rattle.journal_history.specs.Tokens.{SessionState}

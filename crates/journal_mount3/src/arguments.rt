@@ -1,4 +1,4 @@
-// What callers ask beside the nine procedures.
+// The questions of callers beside the nine procedures.
 use journal_nfs3_wire::Operation;
 
 // A part of a listing that is asked for (RFC 1813, section 3.3.16): what stands behind a cookie.
@@ -49,7 +49,7 @@ pub(crate) enum MountCall<'a> {
     Export,
 }
 
-// What a call asks of the two programs.
+// The question of a call to the two programs.
 #[derive(Clone, Copy, Debug)]
 pub(crate) enum Requested<'a> {
     // One of the nine procedures of `journal_nfs3`.

@@ -19,7 +19,7 @@ pub const MOUNT_PROGRAM: u32 = 100_005;
 /// The version of it that is served.
 pub const MOUNT_VERSION: u32 = 3;
 
-// What a call asks, or why it is refused. The first of these that holds is answered: it is in
+// The question of a call, or why it is refused. The first of these that holds is answered: it is in
 // another version of RPC, it asks a program that is not served, another version of one that is, or
 // a procedure that is not served, or its arguments cannot be read.
 pub(crate) fn decide<'a>(call: &Call<'a>) -> Result<Requested<'a>, CallRefused>
@@ -37,7 +37,7 @@ pub(crate) fn decide<'a>(call: &Call<'a>) -> Result<Requested<'a>, CallRefused>
     }
 }
 
-// What is asked of NFS.
+// The question to NFS.
 fn decide_files(number: u32, arguments: &[u8]) -> Result<Requested<'_>, CallRefused>
     ensures { decided result ≡ asks_files number arguments.now }
 {
@@ -50,7 +50,7 @@ fn decide_files(number: u32, arguments: &[u8]) -> Result<Requested<'_>, CallRefu
     }
 }
 
-// What is asked of MOUNT.
+// The question to MOUNT.
 fn decide_mount(number: u32, arguments: &[u8]) -> Result<Requested<'_>, CallRefused>
     ensures { decided result ≡ asks_mount (mount_procedure_of number) arguments.now }
 {

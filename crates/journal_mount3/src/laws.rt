@@ -1,4 +1,4 @@
-// What holds of the nine procedures.
+// Laws of the nine procedures.
 ghost use Rattle.std.specs.Prelude.{◌≡◌, ℕ, List, Result, Ok};
 ghost use Rattle.journal_history.specs.Tokens.{SessionState};
 ghost use Rattle.journal_inode.specs.declared.node.Time.{Time};

@@ -64,7 +64,7 @@ pub(crate) fn answer_no_wait<'b, D: BlockDisk, J: Naming, V: Version, W: Wait>(
     Ok(PendingReply { reply, wait })
 }
 
-// What a call comes to that is not waited for.
+// The outcome of a call that is not waited for.
 fn run_no_wait<'b, D: BlockDisk, J: Naming, V: Version, W: Wait>(
     rt: &W,
     alloc: Global,

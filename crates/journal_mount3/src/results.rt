@@ -1,4 +1,4 @@
-// What the procedures beside the nine answer.
+// The answers of the procedures beside the nine.
 ghost use Rattle.std.specs.Prelude.{◌≡◌, ◌≤◌, ◌++◌, OnOk};
 ghost use Rattle.journal_mount3.specs.Results.{query_text};
 ghost use Rattle.journal_mount3.specs.CodeViews.{query_results_of};
@@ -15,7 +15,7 @@ use journal_nfs3_wire::{FormatResults, NfsError};
 use journal_xdr::Writer;
 use std::alloc::AllocError;
 
-// What ACCESS grants of what it is asked for.
+// The rights that ACCESS grants of those that it is asked for.
 #[derive(Clone, Copy, Debug)]
 pub(crate) struct Granted {
     pub attributes: Attributes,
@@ -34,7 +34,7 @@ pub(crate) struct SpaceUse {
     pub files: u64,
 }
 
-// What a procedure answers that only tells of the files.
+// The answer of a procedure that only tells of the files.
 #[derive(Debug, Drop)]
 pub(crate) enum QueryResults {
     Access(Result<Granted, NfsError>),
@@ -45,7 +45,7 @@ pub(crate) enum QueryResults {
     PathConfiguration(Result<Attributes, NfsError>),
 }
 
-// What a procedure of MOUNT answers.
+// The answer of a procedure of MOUNT.
 #[derive(Clone, Copy, Debug)]
 pub(crate) enum MountResults {
     // NULL, UMNT and UMNTALL answer nothing.
@@ -60,7 +60,7 @@ pub(crate) enum MountResults {
     Exports,
 }
 
-// What a call is told.
+// The answer of a call.
 #[derive(Debug, Drop)]
 pub(crate) enum Told {
     Nine(FormatResults),

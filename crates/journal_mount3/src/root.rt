@@ -47,7 +47,7 @@ fn changed_at(now: Time, changed: Changed) -> Changed
     }
 }
 
-// What was found or made, with this time as the root's.
+// The same, with this time as the root's.
 fn found_at(now: Time, found: Found) -> Found
     ensures { result ≡ found_at now found }
 {

@@ -1,4 +1,4 @@
-// What is asked beside the nine procedures, answered.
+// The questions beside the nine procedures are answered.
 ghost use Rattle.std.specs.Prelude.{◌≡◌, ℕ, Result, IfOk, IfErr};
 ghost use Rattle.journal_file_types.specs.declared.reply.Attributes.{Attributes};
 ghost use Rattle.journal_nfs3_wire.specs.declared.results.NfsError.{NfsError};
@@ -29,7 +29,7 @@ const ROOT_RIGHTS: u32 = 0x1f;
 
 const FILE_RIGHTS: u32 = 0x0d;
 
-// What a query is answered at a moment, on a disk of this layout.
+// The answer of a query at a moment, on a disk of this layout.
 pub(crate) fn serve_query<'b, D: BlockDisk, J: Naming, V: Version, W: Wait>(
     rt: &W,
     alloc: Global,
@@ -172,7 +172,7 @@ fn count_files<'b, D: BlockDisk, J: Naming, V: Version, W: Wait>(
     Ok(counted)
 }
 
-// What a call of MOUNT is answered.
+// The answer of a call of MOUNT.
 pub(crate) fn serve_mount(call: &MountCall<'_>) -> MountResults
     ensures { mount_results_text result ≡ mount_text (mount_call_of call.now) }
 {

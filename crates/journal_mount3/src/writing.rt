@@ -40,7 +40,7 @@ const WRITE_MULTIPLE: u32 = 4096;
 // The times of files are kept to the nanosecond.
 const TIME_DELTA: Time = Time { secs: 0, nanos: 1 };
 
-// What holds of the file system (RFC 1813, section 3.3.19): PATHCONF tells the same of each file,
+// The facts of the file system (RFC 1813, section 3.3.19): PATHCONF tells the same of each file,
 // and times can be set.
 const PROPERTIES: u32 = 0x18;
 

@@ -1,4 +1,4 @@
--- What a disk tells of itself in block 1: the label.
+-- The label of a disk, in block 1: the label.
 use Rattle.std.specs.Prelude.{ℕ, ◌≡◌, ◌≢◌, ◌<◌, ◌≤◌, ◌+◌, ◌*◌, IsTrue, List, length, Option, Some, None, ◌==◌, if◌then◌else◌, slice_index_or}
 use Rattle.journal_world.specs.declared.address.Kind.TheVariants.{Block}
 use Rattle.journal_world.specs.declared.layout.Region.{Region}

@@ -16,7 +16,7 @@ use std::io::Write;
 pub struct ToCheck {
     /// The disk. Nothing is written to it.
     pub disk: Settled,
-    /// What its blocks tell of it.
+    /// The facts that its blocks have.
     pub facts: DiskFacts,
 }
 

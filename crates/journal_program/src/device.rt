@@ -61,7 +61,7 @@ pub(crate) struct DeviceLock {
     _file: File,
 }
 
-/// What a disk can be in.
+/// The media of a disk.
 #[derive(Clone, Copy, Debug, PartialEq, Eq)]
 pub(crate) enum Medium {
     /// An ordinary file.
@@ -70,7 +70,7 @@ pub(crate) enum Medium {
     Device(DeviceNumber),
 }
 
-/// What the open file is.
+/// The kind of the open file.
 ///
 /// Refused where a disk can be in no such file: it is neither an ordinary file nor a block device.
 pub(crate) fn medium_of(file: &File) -> Result<Medium, OpenFault> {

@@ -54,7 +54,7 @@ impl From<io::Error> for OpenFault {
     }
 }
 
-/// What follows the path of the file in a line.
+/// The words after the path of the file in a line.
 impl fmt::Display for OpenFault {
     fn fmt<W: fmt::Write>(&self, f: &mut fmt::Formatter<W>) -> fmt::Result {
         match self {
@@ -70,7 +70,7 @@ impl fmt::Display for OpenFault {
     }
 }
 
-/// What follows the path of the file in a line.
+/// The words after the path of the file in a line.
 impl fmt::Display for LabelFault {
     fn fmt<W: fmt::Write>(&self, f: &mut fmt::Formatter<W>) -> fmt::Result {
         match self {
@@ -85,7 +85,7 @@ impl fmt::Display for LabelFault {
     }
 }
 
-/// What follows the path of the device in a line.
+/// The words after the path of the device in a line.
 impl fmt::Display for DeviceFault {
     fn fmt<W: fmt::Write>(&self, f: &mut fmt::Formatter<W>) -> fmt::Result {
         match self {

@@ -1,4 +1,4 @@
-// What the blocks of a disk in a file tell of it.
+// The facts that the blocks of a disk in a file have.
 ghost use Rattle.std.specs.Prelude.{◌≡◌, ◌≤◌, IsTrue, IfOk};
 ghost use Rattle.std.specs.Option.{ForSome};
 ghost use Rattle.journal_world.specs.declared.layout.TheConstants.{MIN_BLOCKS, MAX_BLOCKS, MAX_LAYOUT_BLOCKS};
@@ -15,7 +15,7 @@ use std::alloc::Global;
 use std::fs::{File, OpenFile};
 use std::io;
 
-/// What the blocks of a disk in a file tell of it.
+/// The facts that the blocks of a disk in a file have.
 #[derive(Clone, Copy, Debug)]
 pub struct DiskFacts {
     /// How many blocks it has: as its label says, or where it has none, all whole ones of the file.

@@ -11,7 +11,7 @@ use journal_world::{
     BLOCK_BITS, Kind, Layout, MAX_LAYOUT_BLOCKS, MIN_BLOCKS, REGIONS, RecordSize, Region, UNUSED,
 };
 
-// What a label begins with: the bytes of JNLLABEL.
+// The first bytes of a label: the bytes of JNLLABEL.
 const MAGIC: u64 = 0x4c45_4241_4c4c_4e4a;
 
 // The version of the label.
@@ -45,7 +45,7 @@ pub const UNTOLD: [Region; REGIONS] = [Region {
     kind: Kind::Block,
 }; REGIONS];
 
-/// What a disk tells of itself: how many blocks it has, and the regions of its layout.
+/// The label of a disk: how many blocks it has, and the regions of its layout.
 /// `docs/FORMATS.md` has its bytes.
 #[derive(Clone, Copy, Debug, PartialEq, Eq)]
 pub struct Label {

@@ -1,4 +1,4 @@
-//! What programs over a disk in a file share: they make the file, open it and lock it in one way,
+//! Programs over a disk in a file share this: they make the file, open it and lock it in one way,
 //! they keep what they print apart from the disk, and they run the logger and the installer of a
 //! journal in threads of their own.
 //!

@@ -26,7 +26,7 @@ const LABEL_BLOCK: u64 = 1;
 pub struct FoundDevice {
     /// How many blocks the disk has: all whole ones of the device, and at most 2^40.
     pub blocks: u64,
-    /// What is on the device, in words that follow the word `holds`. `None` where nothing is.
+    /// The content of the device, in words that follow the word `holds`. `None` where nothing is.
     pub content: Option<&'static str>,
     file: File,
     lock: Option<DeviceLock>,

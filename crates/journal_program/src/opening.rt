@@ -15,7 +15,7 @@ use std::fs::{File, Files, OpenFile};
 /// nothing was written to it.
 #[derive(Drop)]
 pub struct FoundDisk {
-    /// What its blocks tell of it.
+    /// The facts that its blocks have.
     pub facts: DiskFacts,
     disk: SizedDisk,
     ghost sized: { disk.size ≡ facts.blocks },

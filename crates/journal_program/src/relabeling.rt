@@ -22,7 +22,8 @@ use std::io::Write;
 /// label. Its log is well formed, and nothing was written to it.
 #[derive(Drop)]
 pub struct DiskToLabel {
-    /// What its blocks tell of it. It counts as one without a label where that is not well formed.
+    /// The facts that its blocks have. It counts as one without a label where that is not well
+    /// formed.
     pub facts: DiskFacts,
     /// Whether it has a label that is not well formed.
     pub has_bad_label: bool,

@@ -1,4 +1,4 @@
-// What a new disk takes of its file system.
+// The room of a new disk in its file system.
 ghost use Rattle.std.specs.Prelude.{◌≤◌};
 ghost use Rattle.journal_world.specs.declared.layout.TheConstants.{MAX_LAYOUT_BLOCKS};
 

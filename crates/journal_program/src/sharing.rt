@@ -12,7 +12,7 @@ use std::fs::{File, Files};
 /// log is well formed.
 #[derive(Drop)]
 pub struct SharedDisk {
-    /// What its blocks tell of it.
+    /// The facts that its blocks have.
     pub facts: DiskFacts,
     file: File,
     disk: SizedDisk,

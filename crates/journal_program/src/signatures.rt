@@ -1,4 +1,4 @@
-// What a block device holds, as far as it begins with a name.
+// The content of a block device, as far as it begins with a name.
 
 use crate::zeros::{Span, find_other};
 use journal_world::FIRST_DATA;
@@ -96,10 +96,10 @@ fn volumes() -> [Signature; 18] {
     ]
 }
 
-// What is said of a device that begins with other bytes than zeros, and with no name.
+// The words for a device that begins with other bytes than zeros, and with no name.
 const UNKNOWN: &str = "bytes of something unknown";
 
-/// What a block device holds, as far as it is known by its place and its first bytes. A device
+/// The content of a block device, as far as its first bytes and their place tell it. A device
 /// whose log and description would lie where other bytes than zeros are holds something unknown.
 /// `None` where it holds nothing.
 ///

@@ -1,4 +1,4 @@
-// What the system refuses, and why.
+// The refusals of the system, and their reasons.
 
 use std::io;
 use std::io::ErrorKind;

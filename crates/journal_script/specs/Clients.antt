@@ -1,4 +1,4 @@
--- What a command does to the client of an open journal, and what it is answered.
+-- The effect of a command on the client of an open journal, and its answer.
 use Rattle.std.specs.Prelude.{ℕ, ◌≡◌, ◌⊎◌, ◌<◌, ◌≤◌, true, List, length, Option, Some, None, Result, Ok, Err, IsSome, MatchOption, unwrap_or}
 use Rattle.std.specs.declared.ops.ControlFlow.{ControlFlow}
 use Rattle.std.specs.declared.ops.ControlFlow.TheVariants.{Continue, Break}
@@ -141,8 +141,8 @@ GivesAnswer layout (commands.Poke block at v) answers.Up = block < layout.blocks
 GivesAnswer layout (commands.Poke block at v) answers.BadLine = block < layout.blocks → ⊥
 GivesAnswer layout command answer = ⊥
 
--- What a command is answered, and leaves, of a journal over a disk of a layout. `put` and `get`
--- begin a transaction where none is open, also where they are refused
+-- The answer of a command, and the state after it, of a journal over a disk of a layout. `put` and
+-- `get` begin a transaction where none is open, also where they are refused
 abbrev pub Obeys : Shape → ClientState → Command → Answer → ClientState → Type 0
 Obeys layout old (commands.Put a v) answers.Done new = PutsValue layout old a v.now new
 Obeys layout old (commands.Put a v) answer new = KeepsOpen old (λ t. IsRefused (IsOverwriteRefusal layout t a v.now) answer) new

@@ -1,4 +1,4 @@
--- What a command does to a disk that is down, and what it is answered.
+-- The effect of a command on a disk that is down, and its answer.
 use Rattle.std.specs.Prelude.{ℕ, ◌≡◌, ◌≢◌, ◌⊎◌, ◌<◌, ◌+◌, List, Option, Some, None, length, slice_range}
 use Rattle.journal_world.specs.declared.refusal.Refusal.{Refusal}
 use Rattle.journal_world.specs.declared.refusal.Refusal.TheVariants.{NoMemory, DeviceFailed, BadLog}
@@ -49,8 +49,8 @@ MendsWhole old answers.Done new = ReadsAsBefore old new
 MendsWhole old (answers.Refused why) new = IsMendRefusal old why × ReadsAsBefore old new
 MendsWhole old _ new = ⊥
 
--- What a command is answered, and leaves. `open` has no answer here: the loop that mounts disks
--- gives it
+-- The answer of a command, and the state after it. `open` has no answer here: the loop that mounts
+-- disks gives it
 abbrev pub ObeysDown : Past → Command → Option Answer → Past → Type 0
 ObeysDown old (commands.Disk block at len) (Some answer) new = ShowsBytes old block at len answer × (new ≡ old)
 ObeysDown old (commands.Poke block at v) (Some answer) new = Pokes old block at v.now answer new

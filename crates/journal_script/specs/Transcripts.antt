@@ -1,4 +1,4 @@
--- What a script prints: for each line of the input its own answer, in order.
+-- The output of a script: for each line of the input its own answer, in order.
 use Rattle.std.specs.Prelude.{ℕ, ◌≡◌, ◌⊎◌, ◌<◌, Bool, true, false, ◌||◌, List, [], ◌∷◌, length, Option, Some, None, IfSome, Result, Ok, Err}
 use Rattle.std.specs.List.{flat_map, AllByRecursion}
 use Rattle.std.specs.Io.KnownBytes.{Keeps, Appends}
@@ -28,7 +28,7 @@ use Rattle.journal_script.specs.Lost.{AnswersLost}
 use Rattle.journal_command.specs.Commands.{LineSays}
 use Rattle.journal_command.specs.Lines.{first_line, kept, TakesLine}
 
--- What contracts see of a console: the bytes that are left of the input, the line that was read
+-- The view of a console in contracts: the bytes that are left of the input, the line that was read
 -- last, and whether some line was bad
 pub record ConsoleState : Type 0 where
   pub left : Option (List ℕ)

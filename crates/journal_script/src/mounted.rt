@@ -134,7 +134,7 @@ fn close<'b, J: Naming>(
     }
 }
 
-// What comes after the journal that had this disk.
+// The state after the journal that had this disk.
 fn next_after(crash: Option<Crash>, disk: MemDisk) -> Next
     requires to_mend { IsToMend disk.past }
     ensures { (old new : Streams) → ComesToCrash crash old new → ComesTo result old new }

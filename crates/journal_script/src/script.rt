@@ -18,7 +18,7 @@ use std::alloc::Global;
 use std::io::{Read, Write};
 use std::sync::Wait;
 
-/// What comes after a line.
+/// The state after a line.
 #[derive(Drop)]
 pub enum Next {
     /// The line opens the disk, and is answered by what comes of it.

@@ -98,8 +98,8 @@ struct Opened {
     entrance: Entrance,
 }
 
-// What the threads of a service share that is not its store: what ends it, its daemon, and by which
-// control it is ended, if by any.
+// The state that the threads of a service share beside its store: what ends it, its daemon, and by
+// which control it is ended, if by any.
 #[derive(Drop)]
 struct Shared<'s> {
     ending: Ending<'s>,

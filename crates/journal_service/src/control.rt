@@ -9,13 +9,13 @@ use std::sync::{Mutex, Wait};
 use std::time::{Clock, Duration};
 use std::{io, thread};
 
-/// What is written to the socket by who asks a service to end.
+/// The bytes that ask a service at its socket to end.
 pub const STOP: &[u8; 5] = b"stop\n";
 
-/// What the service answers, once its disk is closed and unlocked: all commits are stable.
+/// The answer of the service, once its disk is closed and unlocked: all commits are stable.
 pub const STOPPED: &[u8] = b"stopped\n";
 
-/// What it answers then where not all commits may be stable.
+/// Its answer then where not all commits may be stable.
 pub const FAILED: &[u8] = b"failed\n";
 
 // How long a client is waited for that says nothing, and how long the listener rests where the

@@ -17,7 +17,7 @@ pub enum ServiceFault {
     Label(LabelFault),
     /// It cannot be used as a block device, or a disk is in no such file.
     Device(DeviceFault),
-    /// What the service needs was refused, or the mount, or the close.
+    /// A need of the service was refused, or the mount, or the close.
     Refused(Refusal<()>),
     /// The device failed while the disk was served, for the system's reason.
     DeviceFailed(io::Error),

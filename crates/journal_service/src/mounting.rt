@@ -13,7 +13,7 @@ use journal_program::{Settled, SizedDisk};
 use journal_world::{Refusal, Refused};
 use std::alloc::Global;
 
-/// What comes of a disk that is mounted under the rule of a version.
+/// The outcome of a mount under the rule of a version.
 #[derive(Drop)]
 pub(crate) enum Tried<T, D: BlockDisk = SizedDisk> {
     /// Its files are sound in the version, and this came of them.
@@ -23,7 +23,7 @@ pub(crate) enum Tried<T, D: BlockDisk = SizedDisk> {
 }
 
 impl<T: Drop, D: BlockDisk + Drop> Tried<T, D> {
-    /// What came of the files.
+    /// The outcome of a disk whose files are sound.
     ///
     /// # Errors
     /// - J8 `BadSuper`: they are not sound. The disk is given up.

@@ -1,4 +1,4 @@
-// What is printed.
+// Lines are printed.
 
 use crate::fault::ServiceFault;
 use journal_program::Settled;

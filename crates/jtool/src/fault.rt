@@ -27,11 +27,11 @@ pub enum Fault<'w> {
     BadFile(&'w str),
     /// The label of the disk in the file at this path is not that of the file.
     Label(&'w str, LabelFault),
-    /// What is at this path cannot be used as a block device, or a disk is in no such file.
+    /// The node at this path cannot be used as a block device, or a disk is in no such file.
     Device(&'w str, DeviceFault),
     /// The port is not to be had, or the system refused a connection.
     CannotListen,
-    /// What comes before the first line was refused, or what the service needs, or the close.
+    /// A call before the first line was refused, or a need of the service, or the close.
     Refused(Refusal<()>),
     /// Standard input failed.
     CannotRead,

@@ -36,8 +36,8 @@ use std::time::Clock;
 /// is not to be had, or where the service was refused; else 2 where the words or a line were bad;
 /// else 0.
 ///
-/// What a script answers is written out as soon as no further line is at hand, and so is each line
-/// of the service.
+/// The answers of a script are written out as soon as no further line is at hand, and so is each
+/// line of the service.
 pub fn run<
     R: Files<File = File>
         + Net<Listener = TcpListener, Stream = TcpStream>
