@@ -21,7 +21,7 @@ use Rattle.journal_wal.specs.declared.step.GroupStep.TheVariants.{Put as GroupPu
 use Rattle.journal_wal.specs.declared.step.InstallStep.{InstallStep}
 use Rattle.journal_wal.specs.declared.step.InstallStep.TheVariants.{Freed}
 use Rattle.journal_objlog.specs.ObjectLogs.{IsCutLogged, KeepsMaps, OnlyReads as OnlyReadsLog, is_faulted as is_log_faulted, end_of, disk_of as log_disk}
-use Rattle.journal_objlog.proofs.StepsOfMaps.{KeepsMaps-refl}
+use Rattle.journal_objlog.specs.MapLaws.{KeepsMaps-refl}
 use Rattle.journal_parts.specs.declared.step.LogStep.{LogStep}
 use Rattle.journal_parts.specs.declared.step.LogStep.TheVariants.{Idle, Cut, Put, Logged, Marked}
 use Rattle.journal_memory.specs.Ledgers.{IsMarkRefusal}

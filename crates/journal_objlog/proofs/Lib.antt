@@ -1,4 +1,3 @@
 pub mod Openings
-pub mod StepsOfMaps
 pub mod Refusing
 pub mod Readings

@@ -1,25 +1,37 @@
 -- A log that was only read stays one over a further read.
 use Rattle.std.proofs.Common.{◌≡◌, ◌<◌, ◌≤◌, ◌+◌, ◌%◌, ◌==◌, nat_lt, lt-ltb, ℕ, zero, suc, Bool, true, cond, [], ◌∷◌, arith, IsTrue, Option, Some, None, IfSome, refl, sym, ap, subst, ◌∙◌}
-use Rattle.std.proofs.lemmas.Bool.{eq-eqb, and_from}
+use Rattle.std.proofs.lemmas.Bool.{eq-eqb, and_from, and_parts}
 use Rattle.journal_world.specs.declared.address.Addr.{Addr}
 use Rattle.std.specs.Int.{bit_at}
 use Rattle.std.proofs.lemmas.Nat.Bits.{bit_at-lt}
 use Rattle.journal_world.specs.declared.address.Kind.{Kind}
 use Rattle.journal_world.specs.declared.address.Kind.TheVariants.{Bit}
 use Rattle.journal_world.specs.Addresses.{Value, Shape, kind_of, is_valid, starts_object}
-use Rattle.journal_world.specs.Maps.{value_at, is_value_at, AreBitsFrom}
+use Rattle.journal_world.specs.Maps.{value_at, zeros_at, is_value_at, is_object, AreBitsFrom}
 use Rattle.journal_block.specs.Block.{Bytes, bit_of}
-use Rattle.journal_object.specs.Objects.{object_of}
+use Rattle.journal_object.specs.Objects.{object_of, object_at}
 use Rattle.journal_object.proofs.MapOfBlocks.{valid_block}
 use Rattle.journal_disk.specs.Images.{EveryImage}
-use Rattle.journal_wal.specs.Wal.{WalState, size_of, MayStandFor}
+use Rattle.journal_wal.specs.Wal.{WalState, size_of, blocks_now, MayStandFor}
 use Rattle.journal_tail.specs.Maps.{map_of}
+use Rattle.journal_tail.proofs.MapsOfBlocks.{law_of, HasObjects-map_of}
 use Rattle.journal_objlog.specs.ObjectLogs.{map_now, KeepsMaps, Crashes, OnlyReads, disk_of}
+use Rattle.journal_objlog.specs.MapLaws.{KeepsMaps-refl}
 use Rattle.journal_objlog.specs.ReadLaws.{block_read}
 use Rattle.journal_objlog.specs.Reading.{OnlyReadSince, IsBlockOf}
 use Rattle.journal_objlog.proofs.Openings.{crash_after, OnlyReads-refl, OnlyReads-trans}
 use Rattle.journal_objlog.proofs.Refusing.{keeps_trans, still}
-use Rattle.journal_objlog.proofs.StepsOfMaps.{KeepsMaps-refl, read_value}
+
+-- the object of the block as it is now is the map's value
+pub read_value : (n : Shape) (w : WalState) (a : Addr) (bytes : Bytes) (value : Value) → IsTrue (is_object n (a, value))
+    → value ≡ object_at n bytes a → bytes ≡ blocks_now w a.block → value ≡ value_at (map_now n w) a
+unfolding map_of
+read_value n w a bytes value object is now =
+    let parts = and_parts (is_valid n a) (is_value_at (kind_of n a.block) value) object in
+    let found : value ≡ object_at n (blocks_now w a.block) a = is ∙ ap (λ (b : Bytes). object_at n b a) now in
+    sym ((HasObjects-map_of n (law_of n) (blocks_now w)).values a parts.0
+    ∙ ap (λ (v : Value). cond (is_value_at (kind_of n a.block) v) v (zeros_at (kind_of n a.block))) (sym found)
+    ∙ ap (λ (b : Bool). cond b value (zeros_at (kind_of n a.block))) parts.1)
 
 -- nothing was read yet
 pub read_nothing : (w : WalState) → (IsTrue (disk_of w).honest → EveryImage (disk_of w).past (MayStandFor w)) → OnlyReadSince w w

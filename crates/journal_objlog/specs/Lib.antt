@@ -1,5 +1,6 @@
 pub mod Maps
 pub mod ObjectLogs
+pub mod MapLaws
 pub mod ReadLaws
 pub mod CutLaws
 pub mod Reading

@@ -1,5 +1,5 @@
 -- Laws of the log's calls: what each makes of the maps, by what its contract says of the blocks.
-use Rattle.std.proofs.Common.{◌≡◌, IsTrue, Result, Ok, Err, OnErr, IfOk, IfErr, sym, ap, ◌∙◌}
+use Rattle.std.proofs.Common.{◌≡◌, IsTrue, List, Result, Ok, Err, OnErr, IfOk, IfErr, sym, ap, ◌∙◌}
 use Rattle.journal_world.specs.declared.refusal.Refusal.{Refusal}
 use Rattle.journal_world.specs.declared.refusal.Refusal.TheVariants.{NoMemory, BadAddress, BadSize, TooLarge, Busy, DeviceFailed, BadLog, BadSuper, Stale, Stranger, Worn, Full, Closed, Fenced}
 use Rattle.journal_block.specs.declared.update.Update.{Update}
@@ -13,8 +13,7 @@ use Rattle.journal_wal.specs.declared.step.InstallStep.{InstallStep}
 use Rattle.journal_wal.specs.declared.step.InstallStep.TheVariants.{Idle as InstallIdle, Put as InstallPut, Freed}
 use Rattle.journal_objlog.specs.Groups.{TakesMap}
 use Rattle.journal_objlog.specs.ObjectLogs.{MayOpenAs, KeepsMaps, LogsMaps, Crashes as MapCrashes, OnlyReads, disk_of}
-use Rattle.journal_objlog.proofs.Openings.{opens_crash, same_maps, keeps_maps}
-use Rattle.journal_objlog.proofs.StepsOfMaps.{KeepsMaps-path}
+use Rattle.journal_objlog.specs.MapLaws.{opens_crash, same_maps, keeps_maps, KeepsMaps-path}
 
 -- at every moment of any call, an image opens as one of the two maps that a crash might have left
 pub may_crash : (old new : WalState) → Crashes old new → MapCrashes old new

@@ -1,5 +1,5 @@
 use Rattle.journal_world.specs.Files.{shape}
-use Rattle.journal_objlog.proofs.StepsOfMaps.{read_value}
+use Rattle.journal_objlog.proofs.Readings.{read_value}
 use Rattle.journal_objlog.proofs.object_log.ObjectLog.object_in.Goals as goal
 
 pub returns-clause-value : goal.returns-clause-value

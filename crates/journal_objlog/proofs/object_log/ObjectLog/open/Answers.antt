@@ -1,7 +1,7 @@
 use Rattle.std.proofs.Common.{ℕ, sym, subst}
 use Rattle.journal_circ.specs.StandsFor.{StandsFor}
 use Rattle.journal_wal.specs.Wal.{blocks_now}
-use Rattle.journal_objlog.proofs.Openings.{opens}
+use Rattle.journal_objlog.specs.MapLaws.{opens}
 use Rattle.journal_objlog.proofs.object_log.ObjectLog.open.Goals as goal
 
 pub returns-clause-images : goal.returns-clause-images
