@@ -10,7 +10,7 @@ use Rattle.journal_inode.specs.declared.version.FormatVersion.TheVariants.{One, 
 use Rattle.journal_file_types.specs.declared.reply.Attributes.{Attributes}
 use Rattle.journal_nfs3_wire.specs.Arguments.{time}
 use Rattle.journal_nfs3_wire.specs.declared.results.NfsError.{NfsError}
-use Rattle.journal_nfs3_wire.specs.declared.results.NfsError.TheVariants.{NoEntry, Io, Exists, NotDirectory, Invalid, TooBig, NoSpace, Stale, BadHandle, NotSync, NotSupported, TooSmall, ServerFault, Jukebox}
+use Rattle.journal_nfs3_wire.specs.declared.results.NfsError.TheVariants.{NotOwner, NoEntry, Io, NoAccess, Exists, NotDirectory, IsDirectory, Invalid, TooBig, NoSpace, NameTooLong, NotEmpty, Stale, BadHandle, NotSync, NotSupported, TooSmall, ServerFault, Jukebox}
 use Rattle.journal_nfs3_wire.specs.Handles.{FileHandle, file_handle}
 use Rattle.journal_nfs3_wire.specs.Results.{status, outcome, given_handle, Fattr, fattr, Before, before, change}
 use Rattle.journal_nfs3_wire.specs.Profile.{used_bytes, fattr_of, before_of, no_change}
@@ -92,13 +92,18 @@ verifier_has v h = h
 status_has : (s : Option NfsError) → status.Has s
 unfolding word
 status_has None = (omega arith, refl)
+status_has (Some NotOwner) = (omega arith, refl)
 status_has (Some NoEntry) = (omega arith, refl)
 status_has (Some Io) = (omega arith, refl)
+status_has (Some NoAccess) = (omega arith, refl)
 status_has (Some Exists) = (omega arith, refl)
 status_has (Some NotDirectory) = (omega arith, refl)
+status_has (Some IsDirectory) = (omega arith, refl)
 status_has (Some Invalid) = (omega arith, refl)
 status_has (Some TooBig) = (omega arith, refl)
 status_has (Some NoSpace) = (omega arith, refl)
+status_has (Some NameTooLong) = (omega arith, refl)
+status_has (Some NotEmpty) = (omega arith, refl)
 status_has (Some Stale) = (omega arith, refl)
 status_has (Some BadHandle) = (omega arith, refl)
 status_has (Some NotSync) = (omega arith, refl)

@@ -2,6 +2,7 @@ pub mod HandleText
 pub mod ArgumentLaws
 pub mod WholeLaws
 pub mod ResultLaws
+pub mod QueryLaws
 pub mod Calling
 pub mod Fitting
 pub mod Fronts

@@ -21,11 +21,11 @@ use Rattle.journal_nfs3_wire.proofs.Fitting.{some_has, none_has, no_change_has, 
 
 -- ---- how long results are
 
-length-time : (t : Time) → length (time.spelling t) ≡ 8
+pub length-time : (t : Time) → length (time.spelling t) ≡ 8
 unfolding time
 length-time t = simp (length-append, length-word)
 
-length-fattr : (f : Fattr) → length (fattr.spelling f) ≡ 84
+pub length-fattr : (f : Fattr) → length (fattr.spelling f) ≡ 84
 unfolding fattr
 length-fattr f = simp (length-append, length-word, length-hyper, length-time)
 
@@ -37,7 +37,7 @@ length-handle : (h : FileHandle) → length (given_handle.spelling h) ≡ 16
 unfolding given_handle opaque fixed file_handle word
 length-handle h = refl
 
-after_short : (o : Option Fattr) → length (post_op_attributes.spelling o) ≤ 88
+pub after_short : (o : Option Fattr) → length (post_op_attributes.spelling o) ≤ 88
 after_short None = simp (length-append, length-boolean) (omega arith)
 after_short (Some f) = simp (length-append, length-boolean, length-fattr) (omega arith)
 
@@ -49,11 +49,11 @@ handle_short : (o : Option FileHandle) → length ((optional given_handle).spell
 handle_short None = simp (length-append, length-boolean) (omega arith)
 handle_short (Some h) = simp (length-append, length-boolean, length-handle) (omega arith)
 
-change_short : (c : Change) → length (change.spelling c) ≤ 116
+pub change_short : (c : Change) → length (change.spelling c) ≤ 116
 unfolding change
 change_short c = omega (arith, length-append ((optional before).spelling c.before) (post_op_attributes.spelling c.after), before_short c.before, after_short c.after)
 
-length-verifier : (v : List ℕ) → length v ≡ 8 → length ((fixed 8).spelling v) ≡ 8
+pub length-verifier : (v : List ℕ) → length v ≡ 8 → length ((fixed 8).spelling v) ≡ 8
 unfolding fixed
 length-verifier v e = simp length-append (omega (arith, e))
 
@@ -74,7 +74,7 @@ read_short r h =
     let b = (opaque 4294967295).spelling r.bytes in
     omega (arith, h, length-append a (n ++ (e ++ b)), length-append n (e ++ b), length-append e b, after_short r.attributes, length-word r.count, length-boolean r.is_end, opaque_short 4294967295 r.bytes)
 
-write_short : (r : WriteResults) → length r.verifier ≡ 8 → length (write_results.spelling r) ≤ 132
+pub write_short : (r : WriteResults) → length r.verifier ≡ 8 → length (write_results.spelling r) ≤ 132
 unfolding write_results
 write_short r h =
     let c = change.spelling r.change in
@@ -91,14 +91,14 @@ create_short r =
     let d = change.spelling r.directory in
     omega (arith, length-append object (a ++ d), length-append a d, handle_short r.object, after_short r.attributes, change_short r.directory)
 
-commit_short : (r : CommitResults) → length r.verifier ≡ 8 → length (commit_results.spelling r) ≤ 124
+pub commit_short : (r : CommitResults) → length r.verifier ≡ 8 → length (commit_results.spelling r) ≤ 124
 unfolding commit_results
 commit_short r h = omega (arith, length-append (change.spelling r.change) ((fixed 8).spelling r.verifier), change_short r.change, length-verifier r.verifier h)
 
-ok_short : {A B : Type 0} (ok : Item A) (refused : Item B) (v : A) (n : ℕ) → length (ok.spelling v) ≤ n → length ((outcome ok refused).spelling (Ok v)) ≤ 4 + n
+pub ok_short : {A B : Type 0} (ok : Item A) (refused : Item B) (v : A) (n : ℕ) → length (ok.spelling v) ≤ n → length ((outcome ok refused).spelling (Ok v)) ≤ 4 + n
 ok_short ok refused v n h = omega (arith, h, length-append (word.spelling 0) (ok.spelling v), length-word 0)
 
-err_short : {A B : Type 0} (ok : Item A) (refused : Item B) (why : NfsError) (b : B) (n : ℕ) → length (refused.spelling b) ≤ n → length ((outcome ok refused).spelling (Err (why, b))) ≤ 4 + n
+pub err_short : {A B : Type 0} (ok : Item A) (refused : Item B) (why : NfsError) (b : B) (n : ℕ) → length (refused.spelling b) ≤ n → length ((outcome ok refused).spelling (Err (why, b))) ≤ 4 + n
 err_short ok refused why b n h = omega (arith, h, length-append (status.spelling (Some why)) (refused.spelling b), length-word (error_number why))
 
 -- ---- the results of each procedure

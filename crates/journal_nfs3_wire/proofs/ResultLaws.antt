@@ -35,7 +35,7 @@ fattr_laws =
     made_laws _ _ _ (pair_laws _ _ w (pair_laws _ _ w (pair_laws _ _ w (pair_laws _ _ w (pair_laws _ _ w (pair_laws _ _ h (pair_laws _ _ h (pair_laws _ _ (pair_laws _ _ w w)
     (pair_laws _ _ h (pair_laws _ _ h (pair_laws _ _ time_laws (pair_laws _ _ time_laws time_laws)))))))))))) (λ p. refl) (λ f. refl)
 
-after_laws : IsGrammar post_op_attributes
+pub after_laws : IsGrammar post_op_attributes
 after_laws = optional_laws fattr fattr_laws
 
 before_laws : IsGrammar before
@@ -69,7 +69,7 @@ commit_results_laws = made_laws _ _ _ (pair_laws _ _ change_laws (fixed_laws 8))
 -- ---- outcomes
 
 status_laws : IsGrammar status
-status_laws = enumeration_laws nfs_status status_number (listed_back status_number statuses (refl, (refl, (refl, (refl, (refl, (refl, (refl, (refl, (refl, (refl, (refl, (refl, (refl, (refl, (refl, tt))))))))))))))))
+status_laws = enumeration_laws nfs_status status_number (listed_back status_number statuses (refl, (refl, (refl, (refl, (refl, (refl, (refl, (refl, (refl, (refl, (refl, (refl, (refl, (refl, (refl, (refl, (refl, (refl, (refl, (refl, tt)))))))))))))))))))))
 
 accepted_is : {A B : Type 0} (v : Result A (NfsError × B)) (x : A) → accepted_part v ≡ Some x → Ok x ≡ v
 accepted_is (Ok y) x e = cc
@@ -89,7 +89,7 @@ arm_is ok refused None (Err why) h = absurd h
 arm_is ok refused (Some why) (Ok x) h = absurd h
 arm_is ok refused (Some why) (Err p) h = ap (λ w. Some w) h.0
 
-outcome_laws : {A B : Type 0} (ok : Item A) (refused : Item B) → IsGrammar ok → IsGrammar refused → IsGrammar (outcome ok refused)
+pub outcome_laws : {A B : Type 0} (ok : Item A) (refused : Item B) → IsGrammar ok → IsGrammar refused → IsGrammar (outcome ok refused)
 outcome_laws ok refused lo lr = tagged_laws status (outcome_arm ok refused) outcome_status status_laws (arm_laws ok refused lo lr) (arm_is ok refused)
 
 -- ---- the results of a procedure

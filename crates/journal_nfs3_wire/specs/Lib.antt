@@ -1,7 +1,10 @@
 pub mod Procedures
 pub mod Arguments
+pub mod Queries
 pub mod Whole
 pub mod Handles
 pub mod Calls
 pub mod Results
+pub mod Attributes
+pub mod QueryResults
 pub mod Profile

@@ -7,7 +7,7 @@ use Rattle.journal_nfs3_wire.specs.declared.arguments.StableHow.{StableHow}
 use Rattle.journal_nfs3_wire.specs.declared.procedure.Procedure.{Procedure}
 use Rattle.journal_nfs3_wire.specs.declared.procedure.Procedure.TheVariants as procedure
 use Rattle.journal_nfs3_wire.specs.declared.results.NfsError.{NfsError}
-use Rattle.journal_nfs3_wire.specs.declared.results.NfsError.TheVariants.{NoEntry, Io, Exists, NotDirectory, Invalid, TooBig, NoSpace, Stale, BadHandle, NotSync, NotSupported, TooSmall, ServerFault, Jukebox}
+use Rattle.journal_nfs3_wire.specs.declared.results.NfsError.TheVariants.{NotOwner, NoEntry, Io, NoAccess, Exists, NotDirectory, IsDirectory, Invalid, TooBig, NoSpace, NameTooLong, NotEmpty, Stale, BadHandle, NotSync, NotSupported, TooSmall, ServerFault, Jukebox}
 use Rattle.journal_nfs3_wire.specs.Arguments.{time, stable_how}
 use Rattle.journal_nfs3_wire.specs.Whole.{whole}
 use Rattle.journal_nfs3_wire.specs.Handles.{FileHandle, file_handle}
@@ -17,17 +17,23 @@ use Rattle.journal_nfs3_wire.specs.Handles.{FileHandle, file_handle}
 -- nfsstat3, as far as it is used: 0 is OK, and each other number is why a procedure is refused
 abbrev pub statuses : List (ℕ × Option NfsError)
 statuses =
-    (0, None) ∷ (2, Some NoEntry) ∷ (5, Some Io) ∷ (17, Some Exists) ∷ (20, Some NotDirectory) ∷ (22, Some Invalid) ∷ (27, Some TooBig) ∷ (28, Some NoSpace) ∷ (70, Some Stale)
+    (0, None) ∷ (1, Some NotOwner) ∷ (2, Some NoEntry) ∷ (5, Some Io) ∷ (13, Some NoAccess) ∷ (17, Some Exists) ∷ (20, Some NotDirectory) ∷ (21, Some IsDirectory) ∷ (22, Some Invalid)
+    ∷ (27, Some TooBig) ∷ (28, Some NoSpace) ∷ (63, Some NameTooLong) ∷ (66, Some NotEmpty) ∷ (70, Some Stale)
     ∷ (10001, Some BadHandle) ∷ (10002, Some NotSync) ∷ (10004, Some NotSupported) ∷ (10005, Some TooSmall) ∷ (10006, Some ServerFault) ∷ (10008, Some Jukebox) ∷ []
 
 abbrev pub error_number : NfsError → ℕ
+error_number NotOwner = 1
 error_number NoEntry = 2
 error_number Io = 5
+error_number NoAccess = 13
 error_number Exists = 17
 error_number NotDirectory = 20
+error_number IsDirectory = 21
 error_number Invalid = 22
 error_number TooBig = 27
 error_number NoSpace = 28
+error_number NameTooLong = 63
+error_number NotEmpty = 66
 error_number Stale = 70
 error_number BadHandle = 10001
 error_number NotSync = 10002

@@ -8,6 +8,11 @@ ghost use Rattle.journal_nfs3_wire.specs.Whole.{IsSpelling};
 ghost use Rattle.journal_nfs3_wire.specs.Handles.{FileHandle, used_handle, handle_in};
 ghost use Rattle.journal_nfs3_wire.specs.Calls.{called};
 ghost use Rattle.journal_nfs3_wire.specs.Results.{results};
+ghost use Rattle.journal_nfs3_wire.specs.declared.query.QueryProcedure.{QueryProcedure};
+ghost use Rattle.journal_nfs3_wire.specs.Queries.{query_arguments};
+ghost use Rattle.journal_nfs3_wire.specs.QueryResults.{entry, access_results, page_results, status_results, information_results, configuration_results};
+
+use journal_xdr::HasItem;
 
 /// A procedure's arguments are an item: what is read is spelled so, and what is spelled so is read
 /// (RFC 1813, section 3.3). An operation is run exactly where the arguments are its spelling, and
@@ -31,4 +36,15 @@ pub fn handles_are_spellings()
     ensures item { IsGrammar used_handle }
     ensures named { (bytes : List ℕ) (handle : FileHandle)
         → (handle_in bytes ≡ Some handle) ↔ IsSpelling used_handle bytes handle }
+{}
+
+/// So are the arguments and the results of queries. A listing is one where its lines are.
+pub fn queries_are_spellings<E: HasItem>()
+    ensures arguments { (procedure : QueryProcedure) → IsGrammar (query_arguments procedure) }
+    ensures line { IsGrammar entry }
+    ensures access { IsGrammar access_results }
+    ensures listing { IsGrammar E.item → IsGrammar (page_results E.item) }
+    ensures status { IsGrammar status_results }
+    ensures information { IsGrammar information_results }
+    ensures configuration { IsGrammar configuration_results }
 {}

@@ -14,7 +14,7 @@ use journal_inode::Time;
 use journal_xdr::Reader;
 
 // The most bytes of a handle (RFC 1813, section 2.4).
-const HANDLE_BYTES: u32 = 64;
+pub(crate) const HANDLE_BYTES: u32 = 64;
 
 // The bytes of the verifier of an exclusive creation (RFC 1813, section 2.4).
 const CREATE_VERIFIER_BYTES: usize = 8;
@@ -116,8 +116,10 @@ fn read_guard(reader: &mut Reader<'_>) -> Option<Option<Time>>
     }
 }
 
+/// Reads attributes that are to be set (RFC 1813, section 2.5, sattr3). `None` if no such value is
+/// spelled at the front.
 #[tactic(auto, unfolding(crate::specs::Arguments::new_attributes))]
-fn read_new_attributes(reader: &mut Reader<'_>) -> Option<NewAttributes>
+pub fn read_new_attributes(reader: &mut Reader<'_>) -> Option<NewAttributes>
     ensures { ReadsItem new_attributes (λ a. a) reader.old reader.new result }
 {
     Some(NewAttributes {
@@ -130,8 +132,10 @@ fn read_new_attributes(reader: &mut Reader<'_>) -> Option<NewAttributes>
     })
 }
 
+/// Reads a directory's handle and a name in it (RFC 1813, section 2.5, diropargs3). `None` if no such
+/// value is spelled at the front.
 #[tactic(auto, unfolding(crate::specs::Arguments::entry))]
-fn read_entry<'a>(reader: &mut Reader<'a>) -> Option<DirectoryEntry<'a>>
+pub fn read_entry<'a>(reader: &mut Reader<'a>) -> Option<DirectoryEntry<'a>>
     ensures { ReadsItem entry directory_entry_of reader.old reader.new result }
 {
     Some(DirectoryEntry {

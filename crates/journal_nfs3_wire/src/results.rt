@@ -24,13 +24,18 @@ pub struct Verifier(pub [u8; 8]);
 /// Why a procedure is refused, with its number (RFC 1813, section 2.6, nfsstat3).
 #[derive(Clone, Copy, Debug, PartialEq, Eq)]
 pub enum NfsError {
+    NotOwner = 1,
     NoEntry = 2,
     Io = 5,
+    NoAccess = 13,
     Exists = 17,
     NotDirectory = 20,
+    IsDirectory = 21,
     Invalid = 22,
     TooBig = 27,
     NoSpace = 28,
+    NameTooLong = 63,
+    NotEmpty = 66,
     Stale = 70,
     BadHandle = 10001,
     NotSync = 10002,

@@ -3,9 +3,11 @@ ghost use Rattle.std.specs.Prelude.{◌≡◌, ◌++◌, List, ℕ, OnOk, OnErr,
 ghost use Rattle.journal_xdr.specs.Items.{Writes};
 ghost use Rattle.journal_nfs3_wire.specs.Arguments.{time};
 ghost use Rattle.journal_nfs3_wire.specs.Results.{given_handle, fattr, post_op_attributes, before, change, lookup_results, read_results, write_results, create_results, commit_results, outcome, nothing};
+ghost use Rattle.journal_nfs3_wire.specs.Attributes.{attributes_told};
 ghost use Rattle.journal_nfs3_wire.specs.Profile.{used_bytes, fattr_of, before_of, change_of, unchanged_of, no_change, lookup_of, read_results_of, write_of, create_of, commit_of, outcome_of, status_text};
 
 use crate::arguments::StableHow;
+use crate::attributes::{FileAttributes, write_file_attributes};
 use crate::handle::HANDLE_MARK;
 use crate::results::{NfsError, Verifier};
 use journal_file_types::{Attributes, Changed, Found, Portion};
@@ -79,10 +81,32 @@ pub fn used_bytes(version: FormatVersion, size: u64) -> u64
     BLOCK_BYTES as u64 * (1 + more as u64)
 }
 
-// Writes the attributes of a file or of the root (RFC 1813, section 2.5, fattr3). The fields that
-// are the same for every file are added here to the file store's own values, so no reply is first
-// put together in memory.
-#[tactic(auto, unfolding(crate::specs::Results::fattr))]
+// The attributes of a file or of the root.
+fn file_attributes(version: FormatVersion, attributes: &Attributes) -> FileAttributes
+    ensures { attributes_told result ≡ fattr_of version attributes.now }
+{
+    let (shape, used) = if attributes.number == ROOT {
+        (ROOT_SHAPE, 0)
+    } else {
+        (FILE_SHAPE, used_bytes(version, attributes.size))
+    };
+    FileAttributes {
+        kind: shape.kind,
+        mode: shape.mode,
+        links: shape.links,
+        uid: 0,
+        gid: 0,
+        size: attributes.size,
+        used,
+        fsid: FILE_SYSTEM,
+        fileid: u64::from(attributes.number),
+        atime: attributes.mtime,
+        mtime: attributes.mtime,
+        ctime: attributes.mtime,
+    }
+}
+
+// Writes the attributes of a file or of the root (RFC 1813, section 2.5, fattr3).
 fn write_attributes(
     writer: &mut Writer,
     version: FormatVersion,
@@ -91,27 +115,7 @@ fn write_attributes(
     ensures ok { OnOk result (Writes fattr (fattr_of version attributes.now) writer.old writer.new) }
     ensures err { OnErr result ((front : List ℕ) × (writer.new ≡ writer.old ++ front)) }
 {
-    let (shape, used) = if attributes.number == ROOT {
-        (ROOT_SHAPE, 0)
-    } else {
-        (FILE_SHAPE, used_bytes(version, attributes.size))
-    };
-    writer.word(shape.kind)?;
-    writer.word(shape.mode)?;
-    writer.word(shape.links)?;
-    // The owner and the group.
-    writer.word(0)?;
-    writer.word(0)?;
-    writer.hyper(attributes.size)?;
-    writer.hyper(used)?;
-    // No device.
-    writer.word(0)?;
-    writer.word(0)?;
-    writer.hyper(FILE_SYSTEM)?;
-    writer.hyper(u64::from(attributes.number))?;
-    write_time(writer, attributes.mtime)?;
-    write_time(writer, attributes.mtime)?;
-    write_time(writer, attributes.mtime)
+    write_file_attributes(writer, &file_attributes(version, attributes))
 }
 
 /// Writes attributes that are there (RFC 1813, section 2.5, post_op_attr).
