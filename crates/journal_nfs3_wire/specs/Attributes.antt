@@ -1,4 +1,4 @@
--- What the code's attributes stand for.
+-- The meaning of the code's attributes.
 use Rattle.std.specs.Prelude.{Some}
 use Rattle.journal_nfs3_wire.specs.declared.attributes.FileAttributes.{FileAttributes}
 use Rattle.journal_nfs3_wire.specs.declared.attributes.EarlierAttributes.{EarlierAttributes}

@@ -1,4 +1,4 @@
--- Queries: procedures that only tell of the files, and their arguments as items (RFC 1813, sections
+-- Queries: procedures that only read, and their arguments as items (RFC 1813, sections
 -- 3.3.4 and 3.3.16 to 3.3.20).
 use Rattle.std.specs.Prelude.{◌≡◌, refl, ℕ, List, [], ◌∷◌, Option, Some, None}
 use Rattle.journal_xdr.specs.Items.{Item, pair, mapped_item, variant}
@@ -65,7 +65,7 @@ page_plus = mapped_item (pair handle (pair hyper (pair (fixed 8) (pair word word
     (λ p. record { directory = p.0; cookie = p.1.0; verifier = p.1.1.0; names_count = p.1.1.1.0; count = p.1.1.1.1 })
     (λ a. (a.directory, (a.cookie, (a.verifier, (a.names_count, a.count)))))
 
--- What a call asks that only tells of the files
+-- A call that only reads
 pub data Query : Type 0 where
   Access : List ℕ → (asked : ℕ) → Query
   ReadDirectory : Page → Query

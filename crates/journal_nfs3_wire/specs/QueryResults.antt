@@ -1,4 +1,4 @@
--- What queries answer, as items (RFC 1813, sections 3.3.4 and 3.3.16 to 3.3.20).
+-- The answers of queries, as items (RFC 1813, sections 3.3.4 and 3.3.16 to 3.3.20).
 use Rattle.std.specs.Prelude.{ℕ, Bool, List, Option, Result}
 use Rattle.journal_xdr.specs.Items.{Item, pair, mapped_item}
 use Rattle.journal_xdr.specs.Basic.{word, hyper, boolean, fixed}

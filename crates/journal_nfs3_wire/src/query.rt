@@ -1,4 +1,4 @@
-// Queries: procedures that only tell of the files.
+// Queries: procedures that only read.
 ghost use Rattle.std.specs.Prelude.{◌≡◌};
 ghost use Rattle.journal_xdr.specs.Items.{ReadsItem};
 ghost use Rattle.journal_nfs3_wire.specs.Queries.{query_arguments, query_of, page, page_of, page_plus, page_plus_of};
@@ -9,7 +9,7 @@ use journal_xdr::{Enumeration, Reader};
 // The bytes of the verifier of a cookie (RFC 1813, section 2.4).
 const COOKIE_VERIFIER_BYTES: usize = 8;
 
-/// A procedure of NFS version 3 that only tells of the files (RFC 1813, section 3.3).
+/// A procedure of NFS version 3 that only reads (RFC 1813, section 3.3).
 #[derive(Clone, Copy, Debug, PartialEq, Eq)]
 pub enum QueryProcedure {
     /// ACCESS.
@@ -89,7 +89,7 @@ pub struct PagePlusArguments<'a> {
 /// most 64 bytes.
 #[derive(Clone, Copy, Debug)]
 pub enum Query<'a> {
-    /// The rights that are asked for stand after the handle.
+    /// A handle, and the rights that are asked for.
     Access(&'a [u8], u32),
     ReadDirectory(PageArguments<'a>),
     ReadDirectoryPlus(PagePlusArguments<'a>),

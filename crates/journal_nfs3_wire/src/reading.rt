@@ -132,8 +132,8 @@ pub fn read_new_attributes(reader: &mut Reader<'_>) -> Option<NewAttributes>
     })
 }
 
-/// Reads a directory's handle and a name in it (RFC 1813, section 2.5, diropargs3). `None` if no such
-/// value is spelled at the front.
+/// Reads a directory's handle and a name in it (RFC 1813, section 2.5, diropargs3). `None` if no
+/// such value is spelled at the front.
 #[tactic(auto, unfolding(crate::specs::Arguments::entry))]
 pub fn read_entry<'a>(reader: &mut Reader<'a>) -> Option<DirectoryEntry<'a>>
     ensures { ReadsItem entry directory_entry_of reader.old reader.new result }
