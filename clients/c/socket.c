@@ -148,7 +148,8 @@ int jnl_line_is_quiet(struct jnl_line *l)
 }
 
 /* A thread that sleeps in recv is also woken where the port takes its request, since the socket
- * then has room again. One that sleeps in poll for input is not. */
+ * then has room again. One that sleeps in poll for input is not. To look again and again before
+ * would keep the processor that the service runs on. */
 int jnl_line_await(struct jnl_line *l, int events)
 {
     int wanted = (events & JNL_GIVES ? POLLIN : 0) | (events & JNL_TAKES ? POLLOUT : 0);
