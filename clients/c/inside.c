@@ -7,8 +7,9 @@
  *
  * A worker that asks for bytes which are not there leaves its stack, and its thread sleeps on a
  * small one. A thread of C that sends a record goes on upon the worker's stack, from where it asked
- * until it asks again. So a call needs no other thread and no call of the system. When the line is
- * closed, the worker's own thread takes its stack back. */
+ * until it asks again. So a call needs no other thread and no call of the system. A thread for each
+ * call, or a queue to the workers, took two switches a call. When the line is closed, the worker's
+ * own thread takes its stack back. */
 #define _GNU_SOURCE
 #include "line.h"
 #include <errno.h>
