@@ -1,0 +1,3 @@
+pub mod NewCuts
+pub mod NewDisks
+pub mod Formats
