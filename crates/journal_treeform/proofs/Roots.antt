@@ -42,7 +42,7 @@ root-here t =
     let whole = zeros-long in
     ap (λ v. slice_range v 512 1024) (append_assoc (take 512 (zeros_of Block)) (root_bytes t) (drop (512 + length (root_bytes t)) (zeros_of Block)))
     ∙ slice_behind (take 512 (zeros_of Block)) (root_bytes t) (drop (512 + length (root_bytes t)) (zeros_of Block)) 512 1024
-        (length-take-le 512 (zeros_of Block) (omega (arith, whole))) (omega (arith, long))
+    (length-take-le 512 (zeros_of Block) (omega (arith, whole))) (omega (arith, long))
 
 -- and all others are zeros
 pub others-here : (t : NewTree) (k : ℕ) → k < 8 → k ≢ 1 → slice_range (root_block t) (k * 512) (k * 512 + 512) ≡ zeros 512

@@ -25,11 +25,7 @@ use std::alloc::Global;
 /// The disk is given back, and the content of its blocks is not specified.
 /// - `J1 NoMemory`: memory for a block is refused.
 /// - `J6 DeviceFailed`: the device failed meanwhile.
-pub fn format<D: BlockDisk>(
-    alloc: Global,
-    disk: D,
-    tree: NewTree,
-) -> Result<D, Refused<D, ()>>
+pub fn format<D: BlockDisk>(alloc: Global, disk: D, tree: NewTree) -> Result<D, Refused<D, ()>>
     requires cut { IsCut tree.cut }
     requires whole { IsWhole tree.cut }
     requires mode { tree.mode < MODES }
@@ -56,11 +52,7 @@ pub fn format<D: BlockDisk>(
 }
 
 // Writes the blocks that are no zeros, and makes them stable.
-fn write_all<D: BlockDisk>(
-    alloc: Global,
-    disk: &mut D,
-    tree: &NewTree,
-) -> Result<(), Refusal<()>>
+fn write_all<D: BlockDisk>(alloc: Global, disk: &mut D, tree: &NewTree) -> Result<(), Refusal<()>>
     requires cut { IsCut tree.now.cut }
     requires size { (D.state disk.old).past.size ≡ tree.now.cut.blocks }
     requires zeros { IsTrue (D.state disk.old).honest → AreZeros (D.state disk.old).past }
