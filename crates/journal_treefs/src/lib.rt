@@ -10,11 +10,10 @@
 #![tactic(auto)]
 
 mod fault;
-mod rule;
 mod store;
 mod transaction;
 
 pub use fault::AttemptFault;
-pub use rule::TreeRule;
+pub use journal_treerule::TreeRule;
 pub use store::{Committed, TreeStore};
 pub use transaction::JournalTransaction;

@@ -1,0 +1,13 @@
+pub mod Disks
+pub mod RightInodes
+pub mod Trees
+pub mod Meeting
+pub mod Reaching
+pub mod Listing
+pub mod Naming
+pub mod Scanning
+pub mod EntryBlocks
+pub mod NameKinds
+pub mod ListingScans
+pub mod Cutting
+pub mod Admitting

@@ -1,0 +1,179 @@
+-- The inodes of a sound disk are right, each by itself; and what right inodes say of their nodes.
+use Rattle.std.proofs.Common.{ℕ, zero, suc, ◌≡◌, ◌≢◌, ◌<◌, ◌≤◌, ◌+◌, ◌*◌, ◌/◌, ◌%◌, cond, List, length, Option, Some, None, refl, sym, ap, subst, ◌⊎◌, inl, inr, ◌∙◌, length-append, arith}
+use Rattle.std.specs.Prelude.{option_map}
+use Rattle.std.proofs.lemmas.Bool.{cases_eq, cases_lt, eq-eqb, ne_eqb}
+use Rattle.std.proofs.lemmas.List.{length-take-le}
+use Rattle.journal_tree.specs.declared.limits.TheConstants.{ROOT, MOST_BYTES}
+use Rattle.journal_tree.specs.declared.reply.Kind.{Kind}
+use Rattle.journal_tree.specs.declared.reply.Kind.TheVariants.{Directory, File}
+use Rattle.journal_tree.specs.Trees.{Home, Body, Node, root_home, places_of}
+use Rattle.journal_tree.specs.Rule.{Stem, stem_of, stems}
+use Rattle.journal_tree.specs.Fit.{IsFit, IsFitBody}
+use Rattle.journal_tree.proofs.Changing.{stem_from_node}
+use Rattle.journal_treestore.specs.declared.owner.Owner.{Owner}
+use Rattle.journal_treestore.specs.Views.{Held, Seen, View, zero_block, bytes_in, bytes_of, content, body_of, node_of, slot_of, tree_of}
+use Rattle.journal_treestore.specs.Views.Seen.{free, used}
+use Rattle.journal_treestore.specs.Sound.{IsSoundInode, IsSoundView}
+use Rattle.journal_treestore.proofs.Recording.{zero-long}
+use Rattle.journal_treestore.proofs.Viewing.{inode-node, used_some}
+use Rattle.journal_treerule.specs.Parts.{IsRootHome, IsInPlace, IsWholeSize, IsWithinBounds, IsSoundBlock, AreBlocksSound, IsNode, IsRightInode, AreInodesRight}
+use Rattle.journal_treerule.proofs.Disks.{IsDisk}
+
+-- ── how many bytes a file has ──
+
+length-bytes_of : (V : View) (n : ℕ) (h : Held) → IsSoundInode V n h → (k : ℕ) → length (bytes_of V h.blocks k) ≡ 4096 * k
+length-bytes_of V n h s zero = refl
+length-bytes_of V n h s (suc k) =
+    let rest = length-bytes_of V n h s k in
+    let one = one_long (cases_eq (h.blocks k) 0) in
+    length-append (bytes_of V h.blocks k) (bytes_in V (h.blocks k)) ∙ omega (arith, rest, one)
+  where
+    one_long : (h.blocks k ≡ 0) ⊎ (h.blocks k ≡ 0 → ⊥) → length (bytes_in V (h.blocks k)) ≡ 4096
+    one_long (inl none) = ap (λ b. length (cond b zero_block (V.block (h.blocks k)))) (eq-eqb (h.blocks k) 0 none) ∙ zero-long
+    one_long (inr some) = ap (λ b. length (cond b zero_block (V.block (h.blocks k)))) (ne_eqb (h.blocks k) 0 some) ∙ s.sized k some
+
+pub length-content : (V : View) (n : ℕ) (h : Held) → IsSoundInode V n h → length (content V h) ≡ h.size
+length-content V n h s = length-take-le h.size (bytes_of V h.blocks ((h.size + 4095) / 4096)) (let l = length-bytes_of V n h s ((h.size + 4095) / 4096) in omega (arith, l))
+
+-- ── from the rule ──
+
+whole-size : (size blocks : ℕ) → size ≡ 4096 * blocks → size % 4096 ≡ 0
+whole-size size blocks is = omega (arith, is)
+
+few-places : (size blocks : ℕ) → size ≡ 4096 * blocks → size / 8 ≤ 24576 → size ≤ 196608
+few-places size blocks is few = omega (arith, is, few)
+
+few-bytes : (V : View) (n : ℕ) (h : Held) (kind : Kind) → IsSoundInode V n h → (kind ≡ Directory → (blocks : ℕ) × (h.size ≡ 4096 * blocks)) → IsFitBody (body_of V kind h) → h.size ≤ MOST_BYTES
+few-bytes V n h Directory s whole fit = let w = whole refl in few-places h.size w.0 w.1 fit.0
+few-bytes V n h File s whole fit = subst (λ (k : ℕ). k ≤ MOST_BYTES) (length-content V n h s) fit
+
+is-whole : (kind : Kind) (size : ℕ) → (kind ≡ Directory → (blocks : ℕ) × (size ≡ 4096 * blocks)) → IsWholeSize kind size
+is-whole Directory size whole = let w = whole refl in whole-size size w.0 w.1
+is-whole File size whole = tt
+
+-- what has places is a directory
+pub kind_of_places : (V : View) (h : Held) (kind : Kind) (p : ℕ) → places_of (body_of V kind h) ≡ Some p → kind ≡ Directory
+kind_of_places V h Directory p is = refl
+kind_of_places V h File p is = absurd (let e : None ≡ Some p = is in cc)
+
+block-inside : (size j : ℕ) → (size ≤ 4096 * j) ⊎ (4096 * j < size) → (size ≤ 4096 * j → ⊥) → 4096 * j < size
+block-inside size j (inl after) not = absurd (not after)
+block-inside size j (inr low) not = low
+
+module _ (V : View) (sound : IsSoundView V) where
+  module _ (n : ℕ) (h : Held) (is : V.inode n ≡ used h) where
+    node : ((tree_of V).at n).node ≡ Some (node_of V h)
+    node = inode-node V n h is
+
+    s : IsSoundInode V n h
+    s = sound.inodes n h is
+
+    fit : IsFit (node_of V h)
+    fit = sound.fit.nodes n (node_of V h) node
+
+    root_stem : n ≡ ROOT → stem_of (node_of V h) ≡ record { home = root_home; places = Some sound.tree.root.places }
+    root_stem e =
+        let q : Some (stem_of (node_of V h)) ≡ Some (record { home = root_home; places = Some sound.tree.root.places })
+        = sym (stem_from_node (tree_of V) n (node_of V h) node) ∙ ap (stems (tree_of V)) e ∙ sound.tree.root.is in
+        cc
+
+    root_home_is : n ≡ ROOT → IsRootHome h.home
+    root_home_is e =
+        let home : h.home ≡ root_home = ap (λ (t : Stem). t.home) (root_stem e) in
+        record {
+          directory = ap (λ (t : Home). t.directory) home;
+          place = ap (λ (t : Home). t.place) home;
+          name = ap (λ (t : Home). t.name) home;
+        }
+
+    placed : IsInPlace n h
+    placed = record {
+      some = used_some V sound n h is;
+      kind = λ e. kind_of_places V h h.kind sound.tree.root.places (ap (λ (t : Stem). t.places) (root_stem e));
+      home = root_home_is;
+    }
+
+    generation : ((tree_of V).at n).generation ≡ h.generation
+    generation = ap (λ (y : Seen). (slot_of V y).generation) is
+
+    within : IsWithinBounds h
+    within = record {
+      home = fit.home;
+      place = fit.place;
+      size = few-bytes V n h h.kind s s.whole fit.body;
+      whole = is-whole h.kind h.size s.whole;
+      attributes = record { mode = fit.mode; owner = fit.owner; group = fit.group; mtime = fit.mtime; ctime = fit.ctime };
+      born = let b = sound.fit.born n (node_of V h) node in omega (arith, b, generation);
+      young = let y = sound.fit.young n in omega (arith, y, generation);
+    }
+
+    blocks : AreBlocksSound V n h.size h.blocks
+    blocks j some = record {
+      inside = block-inside h.size j (cases h.size (4096 * j)) (λ after. some (s.after j after));
+      first = (s.there j some).0;
+      last = (s.there j some).1;
+      owned = s.owned j some;
+    }
+      where
+        cases : (a b : ℕ) → (a ≤ b) ⊎ (b < a)
+        cases a b = swap (cases_lt b a)
+          where
+            swap : (b < a) ⊎ (a ≤ b) → (a ≤ b) ⊎ (b < a)
+            swap (inl low) = inr low
+            swap (inr high) = inl high
+
+    right-node : IsNode V n h
+    right-node = record { placed = placed; within = within; blocks = blocks }
+
+  right-inode : (n : ℕ) (x : Seen) → V.inode n ≡ x → IsRightInode V n x
+  right-inode n (free g) is = (
+    (λ e. absurd (let none : None ≡ Some (record { home = root_home; places = Some sound.tree.root.places }) = sym (ap (λ (y : Seen). option_map stem_of (slot_of V y).node) is) ∙ ap (stems (tree_of V)) e ∙ sound.tree.root.is in cc)),
+    (let y = sound.fit.young n in let e : ((tree_of V).at n).generation ≡ g = ap (λ (y : Seen). (slot_of V y).generation) is in omega (arith, y, e)),
+  )
+  right-inode n (used h) is = right-node n h is
+
+  -- the inodes of a sound disk are right
+  pub inodes-right : AreInodesRight V V.numbers
+  inodes-right n low = right-inode n (V.inode n) refl
+
+-- ── to the rule ──
+
+module _ (V : View) (disk : IsDisk V) (n : ℕ) (h : Held) (right : IsNode V n h) where
+  after : (j : ℕ) → h.size ≤ 4096 * j → (h.blocks j ≡ 0) ⊎ (h.blocks j ≡ 0 → ⊥) → h.blocks j ≡ 0
+  after j far (inl none) = none
+  after j far (inr some) = absurd (let low = (right.blocks j some).inside in omega (arith, low, far))
+
+  whole : (kind : Kind) (size : ℕ) → IsWholeSize kind size → kind ≡ Directory → (blocks : ℕ) × (size ≡ 4096 * blocks)
+  whole Directory size is e = (size / 4096, omega (arith, is))
+  whole File size is e = absurd (cc e)
+
+  pub sound-inode : IsSoundInode V n h
+  sound-inode = record {
+    owned = λ j some. (right.blocks j some).owned;
+    there = λ j some. ((right.blocks j some).first, (right.blocks j some).last);
+    after = λ j far. after j far (cases_eq (h.blocks j) 0);
+    sized = λ j some. disk.sized (h.blocks j) (right.blocks j some).first (right.blocks j some).last;
+    whole = whole h.kind h.size right.within.whole;
+  }
+
+  few_of_bytes : (size : ℕ) → size ≤ 196608 → size / 8 ≤ 24576
+  few_of_bytes size few = omega (arith, few)
+
+  places : (size blocks : ℕ) → size ≡ 4096 * blocks → size / 8 ≡ 512 * blocks
+  places size blocks is = omega (arith, is)
+
+  body : (kind : Kind) → kind ≡ h.kind → IsFitBody (body_of V kind h)
+  body Directory is = let w = whole h.kind h.size right.within.whole (sym is) in (few_of_bytes h.size right.within.size, (w.0, places h.size w.0 w.1))
+  body File is = subst (λ (k : ℕ). k ≤ MOST_BYTES) (sym (length-content V n h sound-inode)) right.within.size
+
+  pub fit-node : IsFit (node_of V h)
+  fit-node = record {
+    home = right.within.home;
+    place = right.within.place;
+    body = body h.kind refl;
+    mode = right.within.attributes.mode;
+    owner = right.within.attributes.owner;
+    group = right.within.attributes.group;
+    mtime = right.within.attributes.mtime;
+    ctime = right.within.attributes.ctime;
+  }

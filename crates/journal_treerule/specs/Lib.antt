@@ -1,0 +1,4 @@
+pub mod Cuts
+pub mod Parts
+pub mod Directories
+pub mod Walks

@@ -1,0 +1,24 @@
+//! The rule of a mount of a disk with a tree, and how it is decided.
+//!
+//! `SoundTree` is the rule: a map is a disk that is cut for a tree, with its description, and its
+//! tree is sound (`IsTreeMap` of `journal_treeobjects`). `admit` decides it in parts, each of them
+//! one loop. The layout says how the disk is cut. The description is compared to the last byte.
+//! Each inode is looked at alone, and each of its blocks, whose record has to name it. Then the
+//! directories are read from the root on: each entry has to name a node that says itself that it
+//! hangs there, no two names of a directory may be alike, and at the end no node may be left that
+//! no entry has named. So each node is named once, and the parents of each lead to the root.
+//!
+//! No table of blocks is needed, since each record says who has its block. A mount takes a byte for
+//! each inode, 4 bytes for each directory, and the names of one directory at a time.
+#![tactic(auto)]
+
+mod children;
+mod cut;
+mod directory;
+mod inodes;
+mod reading;
+mod rule;
+mod walk;
+
+pub use cut::cut_of_layout;
+pub use rule::{SoundTree, TreeRule};
