@@ -52,16 +52,17 @@ func newCall(operation uint32, decode func(*answer)) *call {
 // Goroutines that call write and read themselves: to hand a piece to another goroutine takes longer
 // than to write or read it. One at a time writes what is held of all. Of those that wait for an
 // answer one reads for all, until its own is there. It then leaves that to another one that waits.
-// While nobody waits, nobody reads, unless the socket takes no more records. With a goroutine of its
-// own that reads, and with memory taken for each transaction, a connection made 0.44 of the commits
-// of records that are written by hand, and without both 0.74 (measured).
+// While nobody waits, nobody reads, unless the socket takes no more records. With a goroutine of
+// its own that reads, and with memory taken for each transaction, a connection made 0.44 of the
+// commits of records that are written by hand, and without both 0.74 (measured).
 //
 // Commits that wait until they are stable are one group of the log where the port reads them at
 // once. It answers all that it has read of a connection before it reads on. So such a commit is
 // held back while an answer is owed, or a goroutine that was answered has not run yet, which may
 // commit again. Then all that is held is written at once. For 64 goroutines that makes 1.7 times as
-// many commits with a sync of a millisecond, 1.1 with one of 40 microseconds, and 0.9 where it takes
-// no time (measured). Two halves in turn made less: a group of 32 takes 0.8 of the time of one of 64.
+// many commits with a sync of a millisecond, 1.1 with one of 40 microseconds, and 0.9 where it
+// takes no time (measured). Two halves in turn made less: a group of 32 takes 0.8 of the time of
+// one of 64.
 type connection struct {
 	socket net.Conn
 	raw    syscall.RawConn
