@@ -1,8 +1,8 @@
 // The counters of a service are printed.
 
-use crate::stopping::ask;
+use crate::stopping::{answers_of, ask};
 use journal_commands::Fault;
-use journal_records::{Answer, Counter, Input, Opening, Refused, Request, VERSION};
+use journal_records::{Answer, Counter, Opening, Refused, Request, VERSION};
 use std::alloc::Global;
 use std::io;
 use std::io::Write;
@@ -212,14 +212,14 @@ fn ask_for_counters<'w, R: Net>(rt: &R, alloc: Global, socket: &'w str) -> Resul
         Ok(stream) => stream,
         Err(why) => return Err(Fault::File { path: socket, why }),
     };
-    let mut input = Input::new(alloc);
+    let mut records = answers_of(alloc);
     let hello = Request::Hello(VERSION);
-    let opening = match ask(alloc, &mut stream, &mut input, &hello, socket)? {
+    let opening = match ask(alloc, &mut stream, &mut records, &hello, socket)? {
         Answer::Opening(opening) => opening,
         Answer::Refused(Refused::OtherVersion) => return Err(Fault::CountsNothing { socket }),
         _ => return Err(Fault::NoAnswer { socket }),
     };
-    match ask(alloc, &mut stream, &mut input, &Request::Counters, socket)? {
+    match ask(alloc, &mut stream, &mut records, &Request::Counters, socket)? {
         Answer::Counters(counters) => Ok(Told { opening, counters }),
         _ => Err(Fault::NoAnswer { socket }),
     }

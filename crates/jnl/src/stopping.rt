@@ -2,8 +2,9 @@
 
 use journal_commands::Fault;
 use journal_records::{
-    Answer, FIRST_VERSION, Input, Next, Refused as Answered, Request, write_request,
+    Answer, FIRST_VERSION, RECORD_BYTES, Refused as Answered, Request, read_answer, write_request,
 };
+use journal_rpc::{FeedRefused, Marking, Records};
 use std::alloc::Global;
 use std::fs::Files;
 use std::io::{ErrorKind, Read, Write};
@@ -102,10 +103,10 @@ fn ask_to_stop<'w, R: Net>(rt: &R, alloc: Global, socket: &'w str) -> Result<(),
         Ok(stream) => stream,
         Err(why) => return Err(Fault::File { path: socket, why }),
     };
-    let mut input = Input::new(alloc);
+    let mut records = answers_of(alloc);
     // Each version of the service speaks the first one.
     for request in [Request::Hello(FIRST_VERSION), Request::Stop] {
-        match ask(alloc, &mut stream, &mut input, &request, socket)? {
+        match ask(alloc, &mut stream, &mut records, &request, socket)? {
             Answer::Hello { .. } => {}
             Answer::Stopping => return Ok(()),
             Answer::Refused(why) => return Err(Fault::NotStopped { socket, why }),
@@ -113,6 +114,11 @@ fn ask_to_stop<'w, R: Net>(rt: &R, alloc: Global, socket: &'w str) -> Result<(),
         }
     }
     Err(Fault::NoAnswer { socket })
+}
+
+/// The answers that a service sends.
+pub fn answers_of(alloc: Global) -> Records {
+    Records::new(alloc, Marking::by_length(RECORD_BYTES))
 }
 
 /// Asks a request, and waits for its answer.
@@ -123,7 +129,7 @@ fn ask_to_stop<'w, R: Net>(rt: &R, alloc: Global, socket: &'w str) -> Result<(),
 pub fn ask<'w>(
     alloc: Global,
     stream: &mut UnixStream,
-    input: &mut Input,
+    records: &mut Records,
     request: &Request,
     socket: &'w str,
 ) -> Result<Answer, Fault<'w>> {
@@ -134,24 +140,31 @@ pub fn ask<'w>(
         return Err(Fault::NoAnswer { socket });
     }
     for _ in 0..u64::MAX {
-        match input.next_answer(alloc) {
-            Next::Record(Ok(answer)) => return Ok(answer),
-            Next::Record(Err(_)) | Next::TooLong => return Err(Fault::NoAnswer { socket }),
-            Next::Partial => feed(stream, input, socket)?,
+        if let Some(record) = records.next() {
+            return match read_answer(alloc, record.as_bytes()) {
+                Ok(answer) => Ok(answer),
+                Err(_) => Err(Fault::NoAnswer { socket }),
+            };
         }
+        feed(stream, records, socket)?;
     }
     Err(Fault::NoAnswer { socket })
 }
 
 // Takes a piece of what the service sends.
-fn feed<'w>(stream: &mut UnixStream, input: &mut Input, socket: &'w str) -> Result<(), Fault<'w>> {
+fn feed<'w>(
+    stream: &mut UnixStream,
+    records: &mut Records,
+    socket: &'w str,
+) -> Result<(), Fault<'w>> {
     let mut piece = [0u8; PIECE_BYTES];
     let size = match stream.read(&mut piece) {
         Ok(size) if size > 0 => size,
         _ => return Err(Fault::NoAnswer { socket }),
     };
-    match input.feed(&piece[..size]) {
-        Ok(()) => Ok(()),
-        Err(_) => Err(Fault::NoMemory),
+    match records.feed(&piece[..size]) {
+        Ok(taken) if taken == size => Ok(()),
+        Ok(_) | Err(FeedRefused::TooLong) => Err(Fault::NoAnswer { socket }),
+        Err(FeedRefused::NoMemory) => Err(Fault::NoMemory),
     }
 }

@@ -73,10 +73,12 @@ impl<'s, 'j, 'b, D: BlockDisk, J: Naming> Drop for Answering<'s, 'j, 'b, D, J> {
     }
 }
 
-/// A connection's session with the journal, and whether its peer may end the service.
+/// A connection's session with the journal, whether its peer may end the service, and how many
+/// requests were answered.
 pub struct Visit<'b, J: Naming> {
     session: Session<'b, J, AnyMap>,
     may_stop: bool,
+    answered: u64,
 }
 
 impl<'b, J: Naming> Drop for Visit<'b, J> {
@@ -84,6 +86,7 @@ impl<'b, J: Naming> Drop for Visit<'b, J> {
         let Visit {
             session: _,
             may_stop: _,
+            answered: _,
         } = self;
     }
 }
@@ -112,7 +115,11 @@ impl<'s, 'j, 'b, D: BlockDisk, J: Naming + Send> Service for Answering<'s, 'j, '
 
     fn begin<W: Wait>(&self, rt: &W, may_stop: bool) -> Option<Visit<'b, J>> {
         let session = self.disk.journal.session(rt).ok()?;
-        Some(Visit { session, may_stop })
+        Some(Visit {
+            session,
+            may_stop,
+            answered: 0,
+        })
     }
 
     fn turn<R: Clock + Wait>(
@@ -132,6 +139,7 @@ impl<'s, 'j, 'b, D: BlockDisk, J: Naming + Send> Service for Answering<'s, 'j, '
             &mut Incoming(peer),
             &mut Outgoing(peer),
             buffer,
+            &mut visit.answered,
         );
         match progress {
             Ok(Progress::Paused) => Turned::Paused,

@@ -17,5 +17,6 @@
 mod steps;
 mod threads;
 
-pub use steps::{Gate, INSTALLER, LOGGER, OneStep, OpenGate};
+pub use journal_gate::{Gate, OpenGate};
+pub use steps::{INSTALLER, LOGGER, OneStep};
 pub use threads::start;

@@ -1,4 +1,5 @@
 // The repeated steps of a thread of the daemon.
+use journal_gate::Gate;
 use journal_world::{Refusal, Step};
 use std::rt::Clock;
 use std::sync::Wait;
@@ -18,20 +19,6 @@ pub trait OneStep {
 
     /// Is called after an idle step, and may wait until there is something to do.
     fn idle<W: Wait>(&self, rt: &W);
-}
-
-/// A gate that a thread passes before each of its steps.
-pub trait Gate {
-    /// Lets the thread `who` make its step number `n`, counted from 0. It may wait.
-    fn pass<W: Wait>(&self, rt: &W, who: u64, n: u64);
-}
-
-/// A gate that holds nobody.
-#[derive(Clone, Copy, Debug, Default, Drop)]
-pub struct OpenGate;
-
-impl Gate for OpenGate {
-    fn pass<W: Wait>(&self, _rt: &W, _who: u64, _n: u64) {}
 }
 
 // Makes steps, each after the gate, until one is refused for another reason than memory. If memory

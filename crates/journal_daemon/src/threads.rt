@@ -1,8 +1,9 @@
 // The two threads.
 ghost use Rattle.std.specs.Prelude.{IsOkUnless};
 
-use crate::steps::{Gate, INSTALLER, LOGGER, OneStep, run};
+use crate::steps::{INSTALLER, LOGGER, OneStep, run};
 use journal_disk::BlockDisk;
+use journal_gate::Gate;
 use journal_history::Naming;
 use journal_memory::Cause;
 use journal_twophase::{Journal, JournalRefusal};

@@ -7,6 +7,4 @@ pub mod Ending
 pub mod Reading
 pub mod Flushing
 pub mod Settling
-pub mod Growing
-pub mod Answering
-pub mod Turning
+pub mod Standing

@@ -1,116 +1,95 @@
--- Answers by the marks of a longer history, and what is answered once so many commits are stable.
-use Rattle.std.proofs.Common.{ℕ, ◌≡◌, ◌≤◌, nat_le, if◌then◌else◌, Bool, true, false, Result, Ok, Err, List, refl, sym, subst, arith}
-use Rattle.std.proofs.lemmas.Bool.Decides.{nat_tests}
-use mathlib.Core.List.{IsPrefix}
+-- Answers that are held until their commits are stable.
+use Rattle.std.proofs.Common.{ℕ, ◌≡◌, ◌≤◌, Bool, true, false, Option, Some, None, Result, Ok, Err, List, [], refl, sym, subst, ◌∙◌, arith}
+use Rattle.std.specs.Prelude.{IsTrue, IfSome}
+use Rattle.std.proofs.lemmas.Bool.{false≢true}
 use Rattle.journal_world.specs.Addresses.{Shape}
 use Rattle.journal_world.specs.Histories.{Entry, floor}
-use Rattle.journal_world.proofs.Marks.{floor-append-le}
 use Rattle.journal_history.specs.Tokens.{SessionState}
+use Rattle.journal_inode.specs.declared.node.Time.{Time}
 use Rattle.journal_records.specs.declared.fault.ReadFault.{ReadFault}
-use Rattle.journal_records.specs.declared.request.Part.{Part}
 use Rattle.journal_records.specs.declared.request.Request.{Request}
 use Rattle.journal_records.specs.declared.request.Request.TheVariants as asked
 use Rattle.journal_records.specs.declared.answer.Answer.{Answer}
 use Rattle.journal_records.specs.declared.answer.Answer.TheVariants.{Committed, Refused, Unsure, Values, Hello, Opening, Flushed, Stat, Stopping, Counters, Bits}
 use Rattle.journal_records.specs.declared.refused.Refused.TheVariants.{ReadOnly}
-use Rattle.journal_port.specs.Answers.{Offer, IsCommitAnswer, IsCommitReply, is_denied, IsReadAnswer, IsHelloAnswer, IsFlushAnswer, IsStatAnswer, IsStopAnswer, IsCountersAnswer, IsScanAnswer, scan_of, IsAnswerTo, settled}
-use Rattle.journal_port.specs.Served.{refused_for, IsFoundAnswer}
+use Rattle.journal_protocol.specs.declared.held_reply.HeldWait.{HeldWait}
+use Rattle.journal_protocol.specs.declared.held_reply.HeldReply.{HeldReply}
+use Rattle.journal_protocol.specs.Protocols.{IsPaid, IsHeldReply}
+use Rattle.journal_port.specs.declared.protocol.AwaitedCommits.{AwaitedCommits}
+use Rattle.journal_port.specs.declared.protocol.UnsureAnswer.{UnsureAnswer}
+use Rattle.journal_port.specs.Answers.{Offer, IsCommitReply, is_denied, IsHelloAnswer, IsCountersAnswer, IsScanAnswer, scan_of, IsAnswerTo}
+use Rattle.journal_port.specs.Served.{refused_for, IsFoundAnswer, IsReplyTo, IsText, service, replaces, HoldsAnswer, IsHeldFor}
+use Rattle.journal_port.specs.Staying.{reply_later}
 
-pub floor_later : (marks later : List Entry) → IsPrefix marks later → floor marks ≤ floor later
-floor_later marks later p = subst (λ (h : List Entry). floor marks ≤ floor h) p.1 (floor-append-le marks p.0)
+-- A commit that is not known to be stable is answered so by any marks, and as committed by those
+-- that cover it
+abbrev Settles : (Answer → Type 0) → List Entry → ℕ → ℕ → Type 0
+Settles is later place count = is (Unsure place count) × (count ≤ floor later → is (Committed place count))
 
--- ---- by more marks
-
-commit_later : (layout : Shape) (parts : List Part) (waits : Bool) (marks later : List Entry) (old new : SessionState) (told : Answer) → IsPrefix marks later
-    → IsCommitAnswer layout parts waits marks old new told → IsCommitAnswer layout parts waits later old new told
-commit_later layout parts waits marks later old new (Committed place count) more is =
-    (is.0, λ w. let stands : count ≤ floor marks = is.1 w in let le : floor marks ≤ floor later = floor_later marks later more in omega (arith, stands, le))
-commit_later layout parts waits marks later old new (Unsure place count) more is = is
-commit_later layout parts waits marks later old new (Refused n) more is = is
-commit_later layout parts waits marks later old new (Values values) more is = is
-commit_later layout parts waits marks later old new (Hello size) more is = is
-commit_later layout parts waits marks later old new (Flushed stable) more is = is
-commit_later layout parts waits marks later old new (Stat commits stable) more is = is
-commit_later layout parts waits marks later old new Stopping more is = is
-commit_later layout parts waits marks later old new (Opening opening) more is = is
-commit_later layout parts waits marks later old new (Counters counters) more is = is
-commit_later layout parts waits marks later old new (Bits bits) more is = is
-
-asked_later : (layout : Shape) (denied : Bool) (parts : List Part) (waits : Bool) (marks later : List Entry) (old new : SessionState) (told : Answer) → IsPrefix marks later
-    → IsCommitReply layout denied parts waits marks old new told → IsCommitReply layout denied parts waits later old new told
-asked_later layout true parts waits marks later old new told more is = is
-asked_later layout false parts waits marks later old new told more is = commit_later layout parts waits marks later old new told more is
-
-pub answer_later : (layout : Shape) (offer : Offer) (marks later : List Entry) (request : Request) (old new : SessionState) (told : Answer) → IsPrefix marks later
-    → IsAnswerTo layout offer marks request old new told → IsAnswerTo layout offer later request old new told
-answer_later layout offer marks later (asked.Hello version) old new told more is = is
-answer_later layout offer marks later (asked.Commit parts waits) old new told more is = asked_later layout (is_denied offer.rights parts.items) parts.items waits marks later old new told more is
-answer_later layout offer marks later (asked.Read addrs) old new told more is = is
-answer_later layout offer marks later asked.Flush old new told more is = is
-answer_later layout offer marks later asked.Stat old new told more is = is
-answer_later layout offer marks later asked.Stop old new told more is = is
-answer_later layout offer marks later asked.Counters old new told more is = is
-answer_later layout offer marks later (asked.Scan block first value most) old new told more is = is
-
-pub found_later : (layout : Shape) (offer : Offer) (marks later : List Entry) (found : Result Request ReadFault) (old new : SessionState) (told : Answer) → IsPrefix marks later
-    → IsFoundAnswer layout offer marks found old new told → IsFoundAnswer layout offer later found old new told
-found_later layout offer marks later (Ok request) old new told more is = answer_later layout offer marks later request old new told more is
-found_later layout offer marks later (Err why) old new told more is = is
-
--- ---- where so many are stable
-
--- what no unsure answer meets is met by what was answered
-settled_other : (P : Answer → Type 0) (stable : ℕ) (told : Answer) → ((place count : ℕ) → P (Unsure place count) → ⊥) → P told → P (settled stable told)
-settled_other P stable (Unsure place count) never is = absurd (never place count is)
-settled_other P stable (Committed place count) never is = is
-settled_other P stable (Refused n) never is = is
-settled_other P stable (Values values) never is = is
-settled_other P stable (Hello size) never is = is
-settled_other P stable (Flushed n) never is = is
-settled_other P stable (Stat commits n) never is = is
-settled_other P stable Stopping never is = is
-settled_other P stable (Opening opening) never is = is
-settled_other P stable (Counters counters) never is = is
-settled_other P stable (Bits bits) never is = is
-
-commit_settled : (layout : Shape) (parts : List Part) (waits : Bool) (marks : List Entry) (stable : ℕ) (old new : SessionState) (told : Answer) → stable ≤ floor marks
-    → IsCommitAnswer layout parts waits marks old new told → IsCommitAnswer layout parts waits marks old new (settled stable told)
-commit_settled layout parts waits marks stable old new (Unsure place count) marked is = by_test (nat_le count stable) refl
+unsure_is : (layout : Shape) (offer : Offer) (marks later : List Entry) (request : Request) (old new : SessionState) (place count : ℕ) → IsAnswerTo layout offer marks request old new (Unsure place count)
+    → Settles (IsAnswerTo layout offer later request old new) later place count
+unsure_is layout offer marks later (asked.Hello version) old new place count is = absurd is
+unsure_is layout offer marks later (asked.Commit parts waits) old new place count is = of (is_denied offer.rights parts.items) is
   where
-    by_test : (b : Bool) → nat_le count stable ≡ b → IsCommitAnswer layout parts waits marks old new (if b then Committed place count else Unsure place count)
-    by_test true le = (is.1, λ w. grind (arith, nat_tests, le, marked))
-    by_test false le = is
-commit_settled layout parts waits marks stable old new (Committed place count) marked is = is
-commit_settled layout parts waits marks stable old new (Refused n) marked is = is
-commit_settled layout parts waits marks stable old new (Values values) marked is = is
-commit_settled layout parts waits marks stable old new (Hello size) marked is = is
-commit_settled layout parts waits marks stable old new (Flushed n) marked is = is
-commit_settled layout parts waits marks stable old new (Stat commits n) marked is = is
-commit_settled layout parts waits marks stable old new Stopping marked is = is
-commit_settled layout parts waits marks stable old new (Opening opening) marked is = is
-commit_settled layout parts waits marks stable old new (Counters counters) marked is = is
-commit_settled layout parts waits marks stable old new (Bits bits) marked is = is
+    of : (denied : Bool) → IsCommitReply layout denied parts.items waits marks old new (Unsure place count) → Settles (IsCommitReply layout denied parts.items waits later old new) later place count
+    of true h = let e : Unsure place count ≡ Refused ReadOnly = h.1 in absurd cc
+    of false h = (h, λ low. (h.1, λ w. low))
+unsure_is layout offer marks later (asked.Read addrs) old new place count is = absurd is
+unsure_is layout offer marks later asked.Flush old new place count is = absurd is
+unsure_is layout offer marks later asked.Stat old new place count is = absurd is
+unsure_is layout offer marks later asked.Stop old new place count is = absurd is
+unsure_is layout offer marks later asked.Counters old new place count is = absurd is
+unsure_is layout offer marks later (asked.Scan block first value most) old new place count is = absurd is
 
-asked_settled : (layout : Shape) (denied : Bool) (parts : List Part) (waits : Bool) (marks : List Entry) (stable : ℕ) (old new : SessionState) (told : Answer) → stable ≤ floor marks
-    → IsCommitReply layout denied parts waits marks old new told → IsCommitReply layout denied parts waits marks old new (settled stable told)
-asked_settled layout true parts waits marks stable old new told marked is = settled_other (λ a. (new ≡ old) × (a ≡ Refused ReadOnly)) stable told (λ p c no_such. absurd (let e : Unsure p c ≡ Refused ReadOnly = no_such.1 in cc)) is
-asked_settled layout false parts waits marks stable old new told marked is = commit_settled layout parts waits marks stable old new told marked is
+reply_settled : (layout : Shape) (offer : Offer) (marks later : List Entry) (bytes : List ℕ) (old new : SessionState) (place count : ℕ) → IsReplyTo layout offer marks bytes old new (Unsure place count)
+    → Settles (IsReplyTo layout offer later bytes old new) later place count
+reply_settled layout offer marks later bytes old new place count is =
+    let s = of is.0 is.2 in
+    ((is.0, is.1, s.0), λ low. (is.0, is.1, s.1 low))
+  where
+    of : (found : Result Request ReadFault) → IsFoundAnswer layout offer marks found old new (Unsure place count) → Settles (IsFoundAnswer layout offer later found old new) later place count
+    of (Ok request) h = unsure_is layout offer marks later request old new place count h
+    of (Err why) h = let e : Unsure place count ≡ Refused (refused_for why) = h.1 in absurd cc
 
-pub answer_settled : (layout : Shape) (offer : Offer) (marks : List Entry) (stable : ℕ) (request : Request) (old new : SessionState) (told : Answer) → stable ≤ floor marks
-    → IsAnswerTo layout offer marks request old new told → IsAnswerTo layout offer marks request old new (settled stable told)
-answer_settled layout offer marks stable (asked.Hello version) old new told marked is = settled_other (IsHelloAnswer layout offer.number version old new) stable told (λ p c no_such. no_such) is
-answer_settled layout offer marks stable (asked.Commit parts waits) old new told marked is = asked_settled layout (is_denied offer.rights parts.items) parts.items waits marks stable old new told marked is
-answer_settled layout offer marks stable (asked.Read addrs) old new told marked is = settled_other (IsReadAnswer layout addrs.items old new) stable told (λ p c no_such. no_such) is
-answer_settled layout offer marks stable asked.Flush old new told marked is = settled_other (IsFlushAnswer old new) stable told (λ p c no_such. no_such) is
-answer_settled layout offer marks stable asked.Stat old new told marked is = settled_other (IsStatAnswer old new) stable told (λ p c no_such. no_such) is
-answer_settled layout offer marks stable asked.Stop old new told marked is = settled_other (IsStopAnswer offer.rights.may_stop old new) stable told (λ p c no_such. no_such) is
-answer_settled layout offer marks stable asked.Counters old new told marked is = settled_other (IsCountersAnswer offer.tells old new) stable told (λ p c no_such. no_such) is
-answer_settled layout offer marks stable (asked.Scan block first value most) old new told marked is = settled_other (IsScanAnswer layout (scan_of block first value most) old new) stable told (λ p c no_such. no_such) is
+-- by no marks, and so by any
+pub by_any : (layout : Shape) (offer : Offer) (later : List Entry) (bytes : List ℕ) (old new : SessionState) (told : Answer) → IsReplyTo layout offer [] bytes old new told → IsReplyTo layout offer later bytes old new told
+by_any layout offer later bytes old new told is = reply_later layout offer [] later bytes old new told (omega arith) is
 
-pub found_settled : (layout : Shape) (offer : Offer) (marks : List Entry) (stable : ℕ) (found : Result Request ReadFault) (old new : SessionState) (told : Answer) → stable ≤ floor marks
-    → IsFoundAnswer layout offer marks found old new told → IsFoundAnswer layout offer marks found old new (settled stable told)
-found_settled layout offer marks stable (Ok request) old new told marked is = answer_settled layout offer marks stable request old new told marked is
-found_settled layout offer marks stable (Err why) old new told marked is = settled_other (λ a. (new ≡ old) × (a ≡ Refused (refused_for why))) stable told (λ p c no_such. absurd (let e : Unsure p c ≡ Refused (refused_for why) = no_such.1 in cc)) is
+-- ---- what is held
+
+abbrev pub commits_of : AwaitedCommits → ℕ
+commits_of awaited = awaited.commits
+
+module _ (layout : Shape) (offer : Offer) (moment : Time) (bytes : List ℕ) (old new : SessionState) (soon : HeldReply UnsureAnswer AwaitedCommits) where
+  -- an answer that has no wait is the same by the marks of each history that has greater ones
+  free : (told : Answer) → IsReplyTo layout offer [] bytes old new told → HoldsAnswer told soon → IsHeldReply (service layout offer) replaces commits_of moment bytes old new soon
+  free told is h = record {
+    paid = λ history p. (told, by_any layout offer history bytes old new told is, h.held);
+    replaced = subst (λ (o : Option (HeldWait UnsureAnswer AwaitedCommits)). IfSome o (λ (wait : HeldWait UnsureAnswer AwaitedCommits). (history : List Entry) (text : List ℕ) → replaces wait.call text → (service layout offer).answers history moment bytes old new text)) (sym h.free) tt;
+    ends = λ e. (h.free, subst (λ (a : Answer). IsText a soon.reply.items) (h.ends e) h.held);
+  }
+
+  pub holds_found : (told : Answer) → IsReplyTo layout offer [] bytes old new told → IsHeldFor told soon → IsHeldReply (service layout offer) replaces commits_of moment bytes old new soon
+  holds_found (Unsure place count) is (wait, h) = record {
+    paid = λ history p.
+        let enough : wait.receipt.commits ≤ floor history = subst (IsPaid commits_of (floor history)) h.waits p in
+        (Committed place count, (reply_settled layout offer [] history bytes old new place count is).1 (omega (arith, enough, h.enough)), h.held);
+    replaced = subst (λ (o : Option (HeldWait UnsureAnswer AwaitedCommits)). IfSome o (λ (w : HeldWait UnsureAnswer AwaitedCommits). (history : List Entry) (text : List ℕ) → replaces w.call text → (service layout offer).answers history moment bytes old new text)) (sym h.waits)
+        (λ history text same. (Unsure place count, (reply_settled layout offer [] history bytes old new place count is).0, subst (IsText (Unsure place count)) (sym same) h.replaced));
+    ends = λ e. absurd (false≢true (sym h.goes_on ∙ e));
+  }
+  holds_found (Committed place count) is h = free (Committed place count) is h
+  holds_found (Refused n) is h = free (Refused n) is h
+  holds_found (Values values) is h = free (Values values) is h
+  holds_found (Hello size) is h = free (Hello size) is h
+  holds_found (Flushed stable) is h = free (Flushed stable) is h
+  holds_found (Stat commits stable) is h = free (Stat commits stable) is h
+  holds_found Stopping is h = free Stopping is h
+  holds_found (Opening opening) is h = free (Opening opening) is h
+  holds_found (Counters counters) is h = free (Counters counters) is h
+  holds_found (Bits bits) is h = free (Bits bits) is h
+
+-- ---- what some requests are
 
 -- a hello is answered as one
 pub is_hello : (layout : Shape) (offer : Offer) (marks : List Entry) (request : Request) (version : ℕ) (session : SessionState) (told : Answer) → request ≡ asked.Hello version

@@ -1,5 +1,5 @@
 -- What a request is owed as an answer.
-use Rattle.std.specs.Prelude.{ℕ, ◌≡◌, ◌≢◌, ◌<◌, ◌≤◌, ◌⊎◌, ◌==◌, nat_le, Bool, true, false, if◌then◌else◌, IsTrue, List, [], ◌∷◌, length, Contains, All}
+use Rattle.std.specs.Prelude.{ℕ, ◌≡◌, ◌≢◌, ◌<◌, ◌≤◌, ◌⊎◌, ◌==◌, Bool, true, false, if◌then◌else◌, IsTrue, List, [], ◌∷◌, length, Contains, All}
 use Rattle.std.specs.List.{zip, flat_map}
 use Rattle.std.specs.List.Sorted.{IsNonDecreasingBy, IsPermutation}
 use Rattle.journal_world.specs.declared.refusal.Refusal.{Refusal}
@@ -253,9 +253,3 @@ IsAnswerTo layout offer marks Stat old new answer = IsStatAnswer old new answer
 IsAnswerTo layout offer marks Stop old new answer = IsStopAnswer offer.rights.may_stop old new answer
 IsAnswerTo layout offer marks Counters old new answer = IsCountersAnswer offer.tells old new answer
 IsAnswerTo layout offer marks (Scan block first value most) old new answer = IsScanAnswer layout (scan_of block first value most) old new answer
-
--- what is answered where so many commits are stable: of one that was not known to be, that it is,
--- where it is among them
-abbrev pub settled : ℕ → Answer → Answer
-settled stable (Unsure place count) = if nat_le count stable then Committed place count else Unsure place count
-settled stable other = other

@@ -1,5 +1,5 @@
 // A request to commit.
-ghost use Rattle.std.specs.Prelude.{◌≡◌};
+ghost use Rattle.std.specs.Prelude.{◌≡◌, []};
 ghost use Rattle.std.specs.List.Sorted.{IsNonDecreasingBy};
 ghost use Rattle.journal_port.specs.Requests.{order_of};
 ghost use Rattle.journal_port.specs.Answers.{IsEnd, IsCommitAnswer, answer_of};
@@ -23,7 +23,7 @@ pub(crate) fn commit<'b, D: BlockDisk, J: Naming, W: Wait>(
     parts: Vec<Part>,
     waits: bool,
 ) -> Answer
-    ensures { IsCommitAnswer J.layout parts.items waits session.new.seen session.old session.new result }
+    ensures { IsCommitAnswer J.layout parts.items waits [] session.old session.new result }
 {
     let mut parts = parts;
     match sort(journal, &mut parts) {
@@ -42,7 +42,7 @@ fn commit_in_order<'b, D: BlockDisk, J: Naming, W: Wait>(
     waits: bool,
 ) -> Answer
     requires { IsNonDecreasingBy (order_of J.layout) parts.now }
-    ensures { IsCommitAnswer J.layout parts.now waits session.new.seen session.old session.new result }
+    ensures { IsCommitAnswer J.layout parts.now waits [] session.old session.new result }
 {
     let mut txn = journal.begin(alloc, session);
     // Called for its contract: the session has seen an opening.

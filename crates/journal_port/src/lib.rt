@@ -6,29 +6,29 @@
 //! then gives each address that is written the part's value. The request is answered at once: no
 //! slot is held between two requests, so a client that sleeps or dies stops nobody.
 //!
-//! `serve` answers a connection's requests: it reads pieces, answers all whole records of a piece
-//! in order, waits once until those are stable that are to be, and writes the answers before it
-//! reads on. `serve_to_pause` does the same for a turn: until the connection ends, or is to pause
-//! between two records (`Pace`), so that its thread serves others. `serve` is such turns, one
-//! after another: so a connection that pauses is answered as one that does not.
+//! `Port` is a protocol of `journal_protocol`, which serves connections: it says what a record is
+//! answered, and which commits come first. `serve_to_pause` serves a connection by it, and answers
+//! a record that is too long. `specs/Answers.antt` says what each request is answered, and
+//! `specs/Served.antt` what a connection is.
 #![tactic(auto)]
 
 mod commit;
 mod counting;
 mod greet;
+mod laws;
 mod order;
-mod pace;
 mod parts;
+mod protocol;
 mod read;
 mod respond;
 mod rights;
 mod scan;
 mod serving;
-mod streams;
-mod turns;
 
 pub use counting::Counting;
-pub use pace::{NoPause, Pace};
+pub use journal_protocol::{ConnFault, End, NoPause, Pace, Progress, Served};
+pub use laws::records_stand_after_their_lengths;
+pub use protocol::{AwaitedCommits, UnsureAnswer};
 pub use respond::{Port, Terms};
 pub use rights::Rights;
-pub use serving::{ConnFault, End, Progress, Served, end_session, serve, serve_to_pause};
+pub use serving::serve_to_pause;

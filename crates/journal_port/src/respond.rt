@@ -1,11 +1,10 @@
 // A request, and its answer.
-ghost use Rattle.std.specs.Prelude.{◌≡◌, ◌≤◌, IfOk, IfErr};
+ghost use Rattle.std.specs.Prelude.{◌≡◌, ◌≤◌, [], IfOk, IfErr};
 ghost use Rattle.journal_world.specs.Histories.{floor};
 ghost use Rattle.journal_world.specs.Files.{shape};
 ghost use Rattle.journal_history.specs.Tokens.{OnlyExtends};
-ghost use Rattle.journal_records.specs.declared.answer.Answer.TheVariants.{Unsure};
 ghost use Rattle.journal_twophase.specs.Waits.{IsWaitRefusal};
-ghost use Rattle.journal_port.specs.Answers.{IsAnswerTo, IsCommitReply, is_denied, IsFlushed, IsFlushAnswer, IsStatAnswer, IsStopAnswer, offer, settled};
+ghost use Rattle.journal_port.specs.Answers.{IsAnswerTo, IsCommitReply, is_denied, IsFlushed, IsFlushAnswer, IsStatAnswer, IsStopAnswer, offer};
 
 use crate::commit::commit;
 use crate::counting::{Counting, count};
@@ -57,8 +56,7 @@ impl<'s, 'b, D: BlockDisk, J: Naming, C: Counting> Drop for Port<'s, 'b, D, J, C
 }
 
 // Answers a request under the session, but does not wait until a commit is stable: one that is to
-// wait is answered `Unsure`, and `settled` then says what it is answered. No slot is held before or
-// after it.
+// wait is answered `Unsure`. No slot is held before or after it.
 //
 // A commit that stands is answered `Committed`, with its place. A read is answered `Values`, which
 // are what one map gives, at the end of what the session had seen once it was done. A flush is
@@ -79,7 +77,7 @@ pub(crate) fn answer_no_wait<'b, D: BlockDisk, J: Naming, C: Counting, W: Wait>(
     session: &mut Session<'b, J, AnyMap>,
     request: Request,
 ) -> Answer
-    ensures { IsAnswerTo J.layout (offer port.now.terms (C.tells port.now.counting.now)) session.new.seen request session.old session.new result }
+    ensures { IsAnswerTo J.layout (offer port.now.terms (C.tells port.now.counting.now)) [] request session.old session.new result }
 {
     let (alloc, journal, terms) = (port.alloc, port.journal, port.terms);
     match request {
@@ -115,31 +113,12 @@ fn commit_or_deny<'b, D: BlockDisk, J: Naming, C: Counting, W: Wait>(
     parts: Vec<Part>,
     waits: bool,
 ) -> Answer
-    ensures { IsCommitReply J.layout (is_denied port.now.terms.rights parts.items) parts.items waits session.new.seen session.old session.new result }
+    ensures { IsCommitReply J.layout (is_denied port.now.terms.rights parts.items) parts.items waits [] session.old session.new result }
 {
     if port.terms.rights.deny(&parts) {
         return Answer::Refused(Refused::ReadOnly);
     }
     commit(rt, port.alloc, port.journal, session, parts, waits)
-}
-
-// Waits until all that the session has seen is stable, and answers how many commits are known to
-// be, also where the wait is refused.
-pub(crate) fn await_stable<'b, D: BlockDisk, J: Naming, W: Wait>(
-    rt: &W,
-    journal: &Journal<'b, D, AnyMap, J>,
-    session: &mut Session<'b, J, AnyMap>,
-) -> u64
-    ensures extends { OnlyExtends session.old session.new }
-    ensures marked { result ≤ floor session.new.seen }
-{
-    match journal.flush(rt, session) {
-        Ok(note) => note.count().get(),
-        Err(_) => {
-            let mark = journal.stat(rt).floor;
-            known_stable(session, mark)
-        }
-    }
 }
 
 // The mark, where the session knows of it, else 0.
@@ -151,17 +130,6 @@ fn known_stable<'b, J: Naming>(session: &mut Session<'b, J, AnyMap>, mark: u64) 
         mark
     } else {
         0
-    }
-}
-
-// What a commit that is to wait is answered, where so many are stable.
-pub(crate) fn settled(place: u64, commits: u64, stable: u64) -> Answer
-    ensures { result ≡ settled stable (Unsure place commits) }
-{
-    if commits <= stable {
-        Answer::Committed { place, commits }
-    } else {
-        Answer::Unsure { place, commits }
     }
 }
 

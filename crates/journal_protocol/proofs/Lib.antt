@@ -1,11 +1,7 @@
 pub mod Answering
 pub mod Behind
 pub mod Counting
-pub mod Pausing
-pub mod PieceSteps
 pub mod Sends
 pub mod Serving
 pub mod Settling
-pub mod Slices
 pub mod Staying
-pub mod Turns

@@ -1,61 +1,25 @@
--- Turns whose replies were held, and sent.
-use Rattle.std.proofs.Common.{◌≡◌, ◌≢◌, Bool, true, false, ℕ, ◌+◌, ◌≤◌, ◌<◌, List, [], ◌∷◌, ◌++◌, Option, Some, None, length, take, drop, refl, sym, ap, subst, ◌∙◌, append_assoc, arith, length-append}
-use Rattle.std.specs.Prelude.{is_some, not, IfSome}
+-- Replies that are held, in order, and sent.
+use Rattle.std.proofs.Common.{◌≡◌, ◌≢◌, Bool, true, false, ℕ, ◌+◌, ◌-◌, ◌^◌, ◌≤◌, List, [], ◌∷◌, ◌++◌, Option, Some, None, length, take, drop, refl, sym, ap, subst, ◌∙◌, append_assoc, arith, length-append}
+use Rattle.std.specs.Prelude.{is_some, min, not, IfSome}
 use Rattle.std.proofs.lemmas.Bool.{false≢true}
 use Rattle.std.proofs.lemmas.List.{append-nil}
 use Rattle.std.proofs.Math.Seq.{take-append_seam, drop-append_seam}
 use Rattle.std.specs.Io.KnownBytes.{Appends}
 use Rattle.std.proofs.KnownBytes.{Appends-nil, Appends-trans}
-use Rattle.journal_world.specs.Histories.{Entry, floor}
-use Rattle.journal_history.specs.Tokens.{SessionState, OnlyExtends}
-use Rattle.journal_inode.specs.declared.node.Time.{Time}
 use Rattle.journal_rpc.specs.Stream.{Stream}
-use Rattle.journal_rpc.specs.Calls.{Message, message}
+use Rattle.journal_world.specs.Histories.{Entry, floor}
+use Rattle.journal_history.specs.Tokens.{SessionState}
+use Rattle.journal_inode.specs.declared.node.Time.{Time}
 use Rattle.journal_protocol.specs.declared.held_reply.HeldReply.{HeldReply}
 use Rattle.journal_protocol.specs.declared.reply_batch.BatchEntry.{BatchEntry}
 use Rattle.journal_protocol.specs.declared.reply_batch.ReplyBatch.{ReplyBatch}
-use Rattle.journal_protocol.specs.declared.replying.Turn.{Turn}
-use Rattle.journal_protocol.specs.declared.replying.Turn.TheVariants as turns
-use Rattle.journal_protocol.specs.Protocols.{Answering, Replacing, IsLawful, IsRefusable}
-use Rattle.journal_protocol.specs.Output.{IsReplyBy, AllReplies}
-use Rattle.journal_protocol.specs.Serving.{SoFar}
-use Rattle.journal_protocol.specs.ReplyBatches.{IsNoWaitReply, Doing, doing, IsHeld, IsInOrder, total, AreFree, IsCovered, AreCovered, AreWaitedFor, held_of, Settles, SendsSettled, SendsInPart, SendsBehind, SendsBehindInPart}
-use Rattle.journal_protocol.specs.Sending.{AppendsFront, Filled, EndsTurn, Lost, SentSome, Sent, SentUpToBad, SentInPart}
+use Rattle.journal_protocol.specs.Protocols.{Service, Replacing, IsRefusable, IsHeldReply, IsAnswered}
+use Rattle.journal_protocol.specs.Output.{AllReplies, Talk, talk, going, IsTold}
+use Rattle.journal_protocol.specs.ReplyBatches.{IsNoWaitReply, doing, IsHeld, IsInOrder, total, AreFree, IsCovered, AreCovered, AreWaitedFor, held_of, Settles, SendsSettled, SendsInPart, SendsBehind, SendsBehindInPart}
+use Rattle.journal_protocol.specs.Sending.{AppendsFront, GrowsBy}
 use Rattle.journal_protocol.proofs.Answering.{one_more}
-use Rattle.journal_protocol.proofs.Staying.{all_replies_grow}
-use Rattle.journal_protocol.proofs.Turns.{fewer_wait, loses, sends_more, sends_all, sends_up_to_bad, breaks_off}
-use Rattle.journal_protocol.proofs.Settling.{one_behind, replies_told, replies_later, replies_stay, settles_same, settles_somehow, front_kept, total-append, covered-append, free_covered, covered_more, free-append}
-
--- ---- a turn, once its replies are told
-
-module _ {A R : Type 0} (replies : Answering) (replaces : Replacing A) (commits : R → ℕ) (tells : Time → Type 0) (laws : IsLawful replies) (history : List Entry) (old new : Stream) (before middle now : SessionState) (hs : List (BatchEntry A)) (bytes text : List ℕ) (count counted : ℕ)
-    (settles : Settles replaces history hs bytes text) (more : OnlyExtends middle now) (quiet : hs ≡ [] → now ≡ middle) where
-  told : (rs : List (List ℕ)) (held : List ℕ) → bytes ≡ held → AllReplies (IsHeld replies replaces commits tells) rs (doing before hs) (doing middle []) held → AllReplies (IsReplyBy replies tells history) rs before now text
-  told rs held same h =
-      replies_later replies tells laws history rs before middle now text more (λ none. quiet (empty rs h none))
-      (replies_told replies replaces commits tells history rs (doing before hs) (doing middle []) held text h refl (subst (λ (b : List ℕ). Settles replaces history hs b text) same settles))
-    where
-      empty : (qs : List (List ℕ)) → AllReplies (IsHeld replies replaces commits tells) qs (doing before hs) (doing middle []) held → qs ≡ [] → hs ≡ []
-      empty [] k e = sym (ap (λ (d : Doing A). d.behind) k.0)
-      empty (q ∷ qs) k e = absurd cc
-
-  pub turn_told : (turn : Turn) → EndsTurn (IsHeld replies replaces commits tells) turn old new (doing before hs) (doing middle []) [] bytes count counted → EndsTurn (IsReplyBy replies tells history) turn old new before now [] text count counted
-  turn_told turns.Emptied e = record { text = text; replied = told old.records e.text e.is e.replied; is = refl; rest = e.rest; counts = e.counts }
-  turn_told turns.Filled e = record { text = text; answered = e.answered; replied = told e.answered e.text e.is e.replied; is = refl; some = e.some; rest = e.rest; counts = e.counts }
-  turn_told turns.Stopped e =
-      record { text = text; answered = e.answered; bad = e.bad; behind = e.behind; records = e.records; no_call = e.no_call; replied = told e.answered e.text e.is e.replied; is = refl; counts = e.counts }
-
--- what was sent before stays so
-pub sent_stays : (replies : Answering) (tells : Time → Type 0) (laws : IsLawful replies) (history longer : List Entry) (old new : Stream) (before now : SessionState) (held holds : Option (List ℕ)) (count counted : ℕ) → floor history ≤ floor longer
-    → SentSome (IsReplyBy replies tells history) old new before now held holds count counted → SentSome (IsReplyBy replies tells longer) old new before now held holds count counted
-sent_stays replies tells laws history longer old new before now held holds count counted grows h = record {
-  text = h.text;
-  answered = h.answered;
-  replied = replies_stay replies tells laws history longer h.answered before now h.text grows h.replied;
-  sent = h.sent;
-  rest = h.rest;
-  counts = h.counts;
-}
+use Rattle.journal_protocol.proofs.Counting.{counts_one}
+use Rattle.journal_protocol.proofs.Settling.{one_behind, replies_told, settles_same, settles_somehow, front_kept, total-append, covered-append, free_covered, covered_more, free-append}
 
 -- ---- what is held, in order
 
@@ -285,96 +249,57 @@ sends_part_behind replaces history h text back b c settles is two =
 
 -- ---- calls that are done, and held
 
-module _ {A R : Type 0} (replies : Answering) (replaces : Replacing A) (commits : R → ℕ) (tells : Time → Type 0) (rs : List (List ℕ)) (start middle : SessionState) (hs : List (BatchEntry A)) (text : List ℕ) (h : AllReplies (IsHeld replies replaces commits tells) rs (doing start hs) (doing middle []) text) where
+module _ {C A R : Type 0} (s : Service C) (replaces : Replacing A) (commits : R → ℕ) (tells : Time → Type 0) (rs : List (List ℕ)) (start : SessionState) (hs : List (BatchEntry A)) (text : List ℕ) where
   -- one more
-  pub holds_one : (r : List ℕ) (call : Message) (now : SessionState) (soon : HeldReply A R) (all : List (BatchEntry A)) → message r ≡ Some call → IsNoWaitReply replies replaces commits tells call middle now soon → all ≡ hs ++ held_of commits soon ∷ []
-      → AllReplies (IsHeld replies replaces commits tells) (rs ++ r ∷ []) (doing start all) (doing now []) (text ++ soon.reply.items)
-  holds_one r call now soon all is done e =
+  pub holds_one : (middle now : SessionState) → AllReplies s.reads (IsHeld s replaces commits tells) rs (doing (going start) hs) (doing (going middle) []) text
+      → (r : List ℕ) (call : C) (soon : HeldReply A R) (over : Bool) (all : List (BatchEntry A)) → s.reads r ≡ Some call → IsNoWaitReply s replaces commits tells call middle now soon → soon.ends ≡ over → all ≡ hs ++ held_of commits soon ∷ []
+      → AllReplies s.reads (IsHeld s replaces commits tells) (rs ++ r ∷ []) (doing (going start) all) (doing (talk now over) []) (text ++ soon.reply.items)
+  holds_one middle now h r call soon over all is done ends e =
       let known = held_of commits soon in
-      let held : IsHeld replies replaces commits tells call (doing middle (known ∷ [])) (doing now []) soon.reply.items = record { soon = soon; done = done; known = refl; is = refl } in
-      subst (λ (b : List (BatchEntry A)). AllReplies (IsHeld replies replaces commits tells) (rs ++ r ∷ []) (doing start b) (doing now []) (text ++ soon.reply.items)) (sym e)
-      (one_more (IsHeld replies replaces commits tells) rs r call (doing start (hs ++ known ∷ [])) (doing middle (known ∷ [])) (doing now []) text soon.reply.items
-      (one_behind replies replaces commits tells known rs (doing start hs) (doing middle []) text h) is held)
+      let held : IsHeld s replaces commits tells call (doing (going middle) (known ∷ [])) (doing (talk now over) []) soon.reply.items = record { goes = refl; soon = soon; done = done; ends = sym ends; known = refl; is = refl } in
+      subst (λ (b : List (BatchEntry A)). AllReplies s.reads (IsHeld s replaces commits tells) (rs ++ r ∷ []) (doing (going start) b) (doing (talk now over) []) (text ++ soon.reply.items)) (sym e)
+      (one_more s.reads (IsHeld s replaces commits tells) rs r call (doing (going start) (hs ++ known ∷ [])) (doing (going middle) (known ∷ [])) (doing (talk now over) []) text soon.reply.items
+      (one_behind s replaces commits tells known rs (doing (going start) hs) (doing (going middle) []) text h) is held)
 
   -- nobody waited for them
-  pub told_somehow : IsRefusable replaces → total hs ≡ length text → (history : List Entry) → (all : List ℕ) × AllReplies (IsReplyBy replies tells history) rs start middle all
-  told_somehow refusable fits history =
-      let s = settles_somehow replaces history refusable hs text fits in
-      (s.0, replies_told replies replaces commits tells history rs (doing start hs) (doing middle []) text s.0 h refl s.1)
+  pub told_somehow : (now : Talk) → AllReplies s.reads (IsHeld s replaces commits tells) rs (doing (going start) hs) (doing now []) text
+      → IsRefusable replaces → total hs ≡ length text → (history : List Entry) → (all : List ℕ) × AllReplies s.reads (IsTold s tells history) rs (going start) now all
+  told_somehow now h refusable fits history =
+      let t = settles_somehow replaces history refusable hs text fits in
+      (t.0, replies_told s replaces commits tells history rs (doing (going start) hs) (doing now []) text t.0 h refl t.1)
+
+-- the same replies, in other room
+pub holds_same : {C A R : Type 0} (s : Service C) (replaces : Replacing A) (commits : R → ℕ) (tells : Time → Type 0) (rs : List (List ℕ)) (start middle now : SessionState) (hs all : List (BatchEntry A)) (text whole : List ℕ) → now ≡ middle → all ≡ hs → whole ≡ text
+    → AllReplies s.reads (IsHeld s replaces commits tells) rs (doing (going start) hs) (doing (going middle) []) text → AllReplies s.reads (IsHeld s replaces commits tells) rs (doing (going start) all) (doing (going now) []) whole
+holds_same {A = A} s replaces commits tells rs start middle now hs all text whole same known is h =
+    subst (λ (x : SessionState). AllReplies s.reads (IsHeld s replaces commits tells) rs (doing (going start) all) (doing (going x) []) whole) (sym same)
+    (subst (λ (b : List (BatchEntry A)). AllReplies s.reads (IsHeld s replaces commits tells) rs (doing (going start) b) (doing (going middle) []) whole) (sym known)
+    (subst (λ (t : List ℕ). AllReplies s.reads (IsHeld s replaces commits tells) rs (doing (going start) hs) (doing (going middle) []) t) (sym is) h))
+
+-- A record was taken, and answered
+pub holds_next : {C A R : Type 0} (s : Service C) (replaces : Replacing A) (commits : R → ℕ) (tells : Time → Type 0) (rs : List (List ℕ)) (start middle now : SessionState) (hs all : List (BatchEntry A)) (text whole : List ℕ) (old mid next : Stream) (count sofar counted : ℕ)
+    (r : List ℕ) (call : C) (soon : HeldReply A R) (over : Bool) → AllReplies s.reads (IsHeld s replaces commits tells) rs (doing (going start) hs) (doing (going middle) []) text → old ≡ record mid { records = rs ++ mid.records } → GrowsBy count (length rs) sofar
+    → mid ≡ record next { records = r ∷ next.records } → s.reads r ≡ Some call → IsNoWaitReply s replaces commits tells call middle now soon → soon.ends ≡ over → all ≡ hs ++ held_of commits soon ∷ [] → whole ≡ text ++ soon.reply.items → counted ≡ min (sofar + 1) (2 ^ 64 - 1)
+    → AllReplies s.reads (IsHeld s replaces commits tells) (rs ++ r ∷ []) (doing (going start) all) (doing (talk now over) []) whole × (old ≡ record next { records = (rs ++ r ∷ []) ++ next.records }) × GrowsBy count (length (rs ++ r ∷ [])) counted
+holds_next s replaces commits tells rs start middle now hs all text whole old mid next count sofar counted r call soon over h rest counts taken reads done ends known is grown = (
+  subst (λ (t : List ℕ). AllReplies s.reads (IsHeld s replaces commits tells) (rs ++ r ∷ []) (doing (going start) all) (doing (talk now over) []) t) (sym is)
+      (holds_one s replaces commits tells rs start hs text middle now h r call soon over all reads done ends known),
+  rest ∙ ap (λ (t : Stream). record t { records = rs ++ t.records }) taken ∙ ap (λ (qs : List (List ℕ)). record next { records = qs }) (sym (append_assoc rs (r ∷ []) next.records)),
+  counts_one count sofar counted rs r counts grown,
+)
+
+-- what a record was answered, where it is a call
+pub answered_some : {C A R : Type 0} (s : Service C) (replaces : Replacing A) (commits : R → ℕ) (moment : Time) (bytes : List ℕ) (old new : SessionState) (o : Option (HeldReply A R)) (soon : HeldReply A R) → o ≡ Some soon
+    → IsAnswered s replaces commits moment bytes old new o → (call : C) × (s.reads bytes ≡ Some call) × IsHeldReply s replaces commits moment call old new soon
+answered_some {A = A} {R = R} s replaces commits moment bytes old new o soon is h = subst (λ (p : Option (HeldReply A R)). IsAnswered s replaces commits moment bytes old new p) is h
+
+-- and where it is none
+pub answered_none : {C A R : Type 0} (s : Service C) (replaces : Replacing A) (commits : R → ℕ) (moment : Time) (bytes : List ℕ) (old new : SessionState) (o : Option (HeldReply A R)) → o ≡ None
+    → IsAnswered s replaces commits moment bytes old new o → (s.reads bytes ≡ None) × (new ≡ old)
+answered_none {A = A} {R = R} s replaces commits moment bytes old new o is h = subst (λ (p : Option (HeldReply A R)). IsAnswered s replaces commits moment bytes old new p) is h
 
 -- so many bytes more
 pub fits_one : {A R : Type 0} (commits : R → ℕ) (hs others : List (BatchEntry A)) (text : List ℕ) (soon : HeldReply A R) → total hs ≡ length text → others ≡ hs ++ held_of commits soon ∷ [] → total others ≡ length (text ++ soon.reply.items)
 fits_one commits hs others text soon fits e =
     let one : total (held_of commits soon ∷ []) ≡ length soon.reply.items = omega arith in
     omega (arith, fits, ap total e, total-append hs (held_of commits soon ∷ []), one, length-append text soon.reply.items)
-
--- ---- marks along the way
-
-pub all_grow : (replies : Answering) (tells : Time → Type 0) (laws : IsLawful replies) (history : List Entry) (rs : List (List ℕ)) (old new : SessionState) (text : List ℕ) → AllReplies (IsReplyBy replies tells history) rs old new text → floor old.seen ≤ floor new.seen
-all_grow replies tells laws history rs old new text h = all_replies_grow replies tells laws history rs old new text h
-
-pub turn_grows : (replies : Answering) (tells : Time → Type 0) (laws : IsLawful replies) (history : List Entry) (turn : Turn) (old new : Stream) (before now : SessionState) (held holds : List ℕ) (count counted : ℕ)
-    → EndsTurn (IsReplyBy replies tells history) turn old new before now held holds count counted → floor before.seen ≤ floor now.seen
-turn_grows replies tells laws history turns.Emptied old new before now held holds count counted e = all_grow replies tells laws history old.records before now e.text e.replied
-turn_grows replies tells laws history turns.Filled old new before now held holds count counted e = all_grow replies tells laws history e.answered before now e.text e.replied
-turn_grows replies tells laws history turns.Stopped old new before now held holds count counted e = all_grow replies tells laws history e.answered before now e.text e.replied
-
--- a connection so far stays so
-pub so_far_stays : (replies : Answering) (tells : Time → Type 0) (laws : IsLawful replies) (history longer : List Entry) (from left held holds : Option (List ℕ)) (waiting : Stream) (start now : SessionState) (count counted : ℕ) → floor history ≤ floor longer
-    → SoFar (IsReplyBy replies tells history) from left held holds waiting start now count counted → SoFar (IsReplyBy replies tells longer) from left held holds waiting start now count counted
-so_far_stays replies tells laws history longer from left held holds waiting start now count counted grows h = record {
-  input = h.input;
-  text = h.text;
-  read = h.read;
-  wrote = h.wrote;
-  answered = h.answered;
-  replied = replies_stay replies tells laws history longer h.answered start now h.text grows h.replied;
-  is = h.is;
-  none = h.none;
-  counts = h.counts;
-  short = h.short;
-}
-
--- the same where more was answered since
-pub so_far_grown : (replies : Answering) (tells : Time → Type 0) (laws : IsLawful replies) (from left held holds : Option (List ℕ)) (waiting : Stream) (start middle now : SessionState) (count counted : ℕ) (rs : List (List ℕ)) (text : List ℕ)
-    → AllReplies (IsReplyBy replies tells now.seen) rs middle now text → SoFar (IsReplyBy replies tells middle.seen) from left held holds waiting start middle count counted
-    → SoFar (IsReplyBy replies tells now.seen) from left held holds waiting start middle count counted
-so_far_grown replies tells laws from left held holds waiting start middle now count counted rs text replied h =
-    so_far_stays replies tells laws middle.seen now.seen from left held holds waiting start middle count counted (all_grow replies tells laws now.seen rs middle now text replied) h
-
--- memory was refused in a turn
-pub loses_turn : (replies : Answering) (tells : Time → Type 0) (laws : IsLawful replies) (old mid : Stream) (before between now : SessionState) (held half : Option (List ℕ)) (count sofar : ℕ)
-    → SentSome (IsReplyBy replies tells between.seen) old mid before between held half count sofar → Lost (IsReplyBy replies tells now.seen) mid between now → SentInPart (IsReplyBy replies tells now.seen) old before now held half
-loses_turn replies tells laws old mid before between now held half count sofar h e =
-    loses (IsReplyBy replies tells now.seen) old mid before between now held half count sofar
-    (sent_stays replies tells laws between.seen now.seen old mid before between held half count sofar (all_grow replies tells laws now.seen e.answered between now e.text e.replied) h) e
-
--- A turn behind others, whose replies are held and then sent
-module _ {A R : Type 0} (replies : Answering) (replaces : Replacing A) (commits : R → ℕ) (tells : Time → Type 0) (laws : IsLawful replies) (turn : Turn) (old mid new : Stream) (before between done now : SessionState) (held half : Option (List ℕ)) (h : ReplyBatch A R) (count sofar counted : ℕ)
-    (so_far : SentSome (IsReplyBy replies tells between.seen) old mid before between held half count sofar)
-    (come : EndsTurn (IsHeld replies replaces commits tells) turn mid new (doing between h.replies.items) (doing done []) [] h.bytes.items sofar counted)
-    (more : OnlyExtends done now) (quiet : h.replies.items ≡ [] → now ≡ done) where
-  module _ (text : List ℕ) (settles : Settles replaces now.seen h.replies.items h.bytes.items text) where
-    told_so : EndsTurn (IsReplyBy replies tells now.seen) turn mid new between now [] text sofar counted
-    told_so = turn_told replies replaces commits tells laws now.seen mid new between done now h.replies.items h.bytes.items text sofar counted settles more quiet turn come
-
-    kept_so : SentSome (IsReplyBy replies tells now.seen) old mid before between held half count sofar
-    kept_so = sent_stays replies tells laws between.seen now.seen old mid before between held half count sofar (turn_grows replies tells laws now.seen turn mid new between now [] text sofar counted told_so) so_far
-
-  pub more_of_turn : (holds : Option (List ℕ)) → turn ≡ turns.Filled → SendsSettled replaces now.seen h half holds → SentSome (IsReplyBy replies tells now.seen) old new before now held holds count counted
-  more_of_turn holds is s = sends_more (IsReplyBy replies tells now.seen) turn old mid new before between now held half [] s.text s.text count sofar counted (kept_so s.text s.settles) refl refl (told_so s.text s.settles) holds is s.sent
-
-  pub all_of_turn : (holds : Option (List ℕ)) → turn ≡ turns.Emptied → SendsSettled replaces now.seen h half holds → Sent (IsReplyBy replies tells now.seen) old new before now held holds count counted
-  all_of_turn holds is s = sends_all (IsReplyBy replies tells now.seen) turn old mid new before between now held half [] s.text s.text count sofar counted (kept_so s.text s.settles) refl refl (told_so s.text s.settles) holds is s.sent
-
-  pub stopped_turn : (holds : Option (List ℕ)) → turn ≡ turns.Stopped → SendsSettled replaces now.seen h half holds → SentUpToBad (IsReplyBy replies tells now.seen) old before now held holds count counted
-  stopped_turn holds is s = sends_up_to_bad (IsReplyBy replies tells now.seen) turn old mid new before between now held half [] s.text s.text count sofar counted (kept_so s.text s.settles) refl refl (told_so s.text s.settles) holds is s.sent
-
-  pub part_of_turn : (holds : Option (List ℕ)) → SendsInPart replaces now.seen h half holds → SentInPart (IsReplyBy replies tells now.seen) old before now held holds
-  part_of_turn holds s = breaks_off (IsReplyBy replies tells now.seen) turn old mid new before between now held half [] s.text s.text count sofar counted (kept_so s.text s.settles) refl refl (told_so s.text s.settles) holds s.sent
-
-  pub fewer_of_turn : turn ≡ turns.Filled → length new.records < length mid.records
-  fewer_of_turn is =
-      let e : Filled (IsHeld replies replaces commits tells) mid new (doing between h.replies.items) (doing done []) [] h.bytes.items sofar counted =
-      subst (λ (t : Turn). EndsTurn (IsHeld replies replaces commits tells) t mid new (doing between h.replies.items) (doing done []) [] h.bytes.items sofar counted) is come in
-      fewer_wait mid new e.answered e.rest e.some

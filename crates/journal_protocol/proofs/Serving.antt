@@ -1,243 +1,259 @@
--- A connection, a piece after another.
-use Rattle.std.proofs.Common.{◌≡◌, ◌≢◌, ℕ, Bool, true, false, List, [], ◌∷◌, ◌++◌, Option, Some, None, refl, sym, ap, subst, ◌∙◌, append_assoc, inl, inr, length, arith}
-use Rattle.std.proofs.lemmas.List.{append-nil}
-use Rattle.std.specs.Prelude.{MatchBool, ◌<◌, ◌^◌}
-use Rattle.std.specs.Io.KnownBytes.{Consumes, Keeps, IsAtEnd}
+-- A connection, a step after another.
+use Rattle.std.proofs.Common.{◌≡◌, ◌≢◌, ℕ, zero, suc, ◌+◌, ◌<◌, ◌≤◌, Bool, true, false, List, [], ◌∷◌, ◌++◌, Option, Some, None, length, take, drop, refl, sym, ap, subst, ◌∙◌, append_assoc, inl, inr, arith}
+use Rattle.std.proofs.lemmas.List.{append-nil, take-append-drop}
+use lib.ListN.{length-append}
+use Rattle.std.specs.Io.KnownBytes.{Consumes, Appends, Keeps, IsAtEnd}
 use Rattle.std.proofs.KnownBytes.{Consumes-nil, Appends-nil, Consumes-trans, Appends-trans}
+use Rattle.journal_rpc.specs.declared.marking.Marking.{Marking}
 use Rattle.journal_rpc.specs.declared.part.Part.TheVariants.{TooLong}
-use Rattle.journal_rpc.specs.Stream.{Stream, fresh, after}
+use Rattle.journal_rpc.specs.Stream.{Stream, fresh, after, waiting_limit, IsBetween}
 use Rattle.journal_rpc.proofs.Streams.{after-append, after_none}
-use Rattle.journal_rpc.specs.Calls.{Message}
-use Rattle.journal_history.specs.Tokens.{SessionState}
+use Rattle.journal_world.specs.Histories.{Entry, floor}
+use Rattle.journal_history.specs.Tokens.{SessionState, OnlyExtends}
+use Rattle.journal_inode.specs.declared.node.Time.{Time}
 use Rattle.journal_protocol.specs.declared.connection.End.{End}
-use Rattle.journal_protocol.specs.declared.connection.End.TheVariants.{EndOfInput, Truncated, BadRecord}
-use Rattle.journal_protocol.specs.Output.{RepliesUpToBad, AllReplies, records_of, answered_of, AllCalls}
-use Rattle.journal_protocol.specs.Connections.{Exchanges, Closes, IsEnd, IsBeginning, IsBefore}
-use Rattle.journal_protocol.specs.Serving.{SoFar, Finished, Failed}
-use Rattle.journal_protocol.specs.Sending.{GrowsBy, Sent, SentUpToBad, SentInPart}
-use Rattle.journal_protocol.proofs.Answering.{then_replies, all_then, stops}
-use Rattle.journal_protocol.proofs.Behind.{behind, after_behind, first_records}
-use Rattle.journal_protocol.proofs.Counting.{calls_all, counts_all, counts_front, counts_more, counts_fit}
-
-pub on_true : (P Q : Type 0) (b : Bool) → b ≡ true → MatchBool b P Q → P
-on_true P Q true e h = h
-on_true P Q false e h = absurd cc
-
-pub on_false : (P Q : Type 0) (b : Bool) → b ≡ false → MatchBool b P Q → Q
-on_false P Q true e h = absurd cc
-on_false P Q false e h = h
+use Rattle.journal_protocol.specs.declared.connection.End.TheVariants.{EndOfInput, Truncated, BadRecord, Stopped}
+use Rattle.journal_protocol.specs.declared.connection.Progress.{Progress}
+use Rattle.journal_protocol.specs.declared.pieces.Taken.{Taken}
+use Rattle.journal_protocol.specs.declared.pieces.Taken.TheVariants.{Front, Overlong}
+use Rattle.journal_protocol.specs.declared.replying.Outcome.{Outcome}
+use Rattle.journal_protocol.specs.declared.replying.Turn.{Turn}
+use Rattle.journal_protocol.specs.declared.replying.Turn.TheVariants as turns
+use Rattle.journal_protocol.specs.declared.reply_batch.BatchEntry.{BatchEntry}
+use Rattle.journal_protocol.specs.declared.reply_batch.ReplyBatch.{ReplyBatch}
+use Rattle.journal_protocol.specs.Protocols.{Service, Replacing, IsLawful}
+use Rattle.journal_protocol.specs.Output.{IsReplyBy, AllReplies, records_of, Talk, talk, going, IsTold}
+use Rattle.journal_protocol.specs.ReplyBatches.{Doing, doing, IsHeld, SendsSettled, SendsInPart}
+use Rattle.journal_protocol.specs.Sending.{GrowsBy, AppendsFront, StartsBad, IsTurn, is_over, Turned, Lost, Takes}
+use Rattle.journal_protocol.specs.Serving.{Start, starts, SoFar, Pauses, IsLast, Finished, GivenUp, ComesTo, Closes, Progresses, IsFencedAsTold}
+use Rattle.journal_protocol.proofs.Answering.{all_then}
+use Rattle.journal_protocol.proofs.Behind.{behind, after_behind, first_records, is_fresh}
+use Rattle.journal_protocol.proofs.Counting.{counts_more}
+use Rattle.journal_protocol.proofs.Settling.{replies_stay, replies_done, told_grow, replies_later, replies_told}
+use Rattle.journal_protocol.proofs.Staying.{all_grow}
 
 pub Keeps-Consumes : (a b : Option (List ℕ)) → Keeps a b → Consumes a b []
 Keeps-Consumes None b h = tt
 Keeps-Consumes (Some x) None h = absurd h
 Keeps-Consumes (Some x) (Some y) h = sym h
 
--- nothing has come
-pub begins_so_far : {S : Type 0} (answers : Message → S → S → List ℕ → Type 0) (from before : Option (List ℕ)) (waiting : Stream) (start : S) (count : ℕ)
-    → waiting ≡ fresh → SoFar answers from from before before waiting start start count count
-begins_so_far answers from before waiting start count e =
-    record {
-      input = [];
-      text = [];
-      read = Consumes-nil from;
-      wrote = Appends-nil before;
-      answered = [];
-      replied = (refl, refl);
-      is = after_none fresh [] refl ∙ sym e;
-      none = ap (λ (s : Stream). s.records) e;
-      counts = λ lt. omega arith;
-      short = λ long. absurd (start_not_long waiting e long);
-    }
-  where
-    start_not_long : (s : Stream) → s ≡ fresh → s.part ≡ TooLong → ⊥
-    start_not_long s e long = absurd cc
+-- ---- what is taken of a piece
 
-module _ {S : Type 0} (answers : Message → S → S → List ℕ → Type 0) (from left left2 before held holds : Option (List ℕ)) (waiting fed : Stream) (start mid now : S) (piece : List ℕ) (k n m : ℕ)
-    (h : SoFar answers from left before held waiting start mid k n) (c : Consumes left left2 piece) where
-  whole : fed ≡ after waiting piece → after fresh (h.input ++ piece) ≡ behind h.answered fed
-  whole f = after-append fresh h.input piece ∙ ap (λ (s : Stream). after s piece) h.is ∙ after_behind h.answered waiting piece ∙ ap (behind h.answered) (sym f)
+takes_some : (old new : Stream) (count : ℕ) (piece : List ℕ) → old.records ≡ [] → 0 < length piece → new ≡ after old (take count piece) → (count < length piece → waiting_limit ≤ length new.records) → 0 < count
+takes_some old new zero piece none some is all =
+    let few : length new.records ≡ 0 = ap (λ (s : Stream). length s.records) (is ∙ after_none old [] refl) ∙ ap (λ (rs : List (List ℕ)). length rs) none in
+    absurd (omega (arith, few, all some))
+takes_some old new (suc count) piece none some is all = omega arith
 
-  -- a piece came, and what is complete was answered
-  pub goes_on : (next : Stream) → fed ≡ after waiting piece → fed.part ≢ TooLong → Sent answers fed next mid now held holds n m → SoFar answers from left2 before holds next start now k m
-  goes_on next f short e =
-      record {
-        input = h.input ++ piece;
-        text = h.text ++ e.text;
-        read = Consumes-trans from left left2 h.input piece h.read c;
-        wrote = Appends-trans before held holds h.text e.text h.wrote e.sent;
-        answered = h.answered ++ fed.records;
-        replied = all_then answers h.answered fed.records start mid now h.text e.text h.replied e.replied;
-        is = whole f ∙ ap (λ (rs : List (List ℕ)). record fed { records = rs }) (sym (append-nil (h.answered ++ fed.records))) ∙ ap (behind (h.answered ++ fed.records)) (sym e.rest);
-        none = ap (λ (s : Stream). s.records) e.rest;
-        counts = counts_more h.answered fed.records k n m h.counts e.counts;
-        short = λ long. short (sym (ap (λ (s : Stream). s.part) e.rest) ∙ long);
-      }
+pub takes_front : (old new : Stream) (count : ℕ) (piece : List ℕ) → old.records ≡ [] → 0 < length piece → (count ≤ length piece) × (new ≡ after old (take count piece)) × (new.part ≢ TooLong)
+    → (count < length piece → waiting_limit ≤ length new.records) → Takes (Front count) old new piece
+takes_front old new count piece none some fed all = (takes_some old new count piece none some fed.1 all, fed.0, fed.1, fed.2)
 
-  -- all the records were answered
-  all_output : (rs : List (List ℕ)) (text : List ℕ) (input : List ℕ) → (after fresh input).records ≡ rs → AllReplies answers rs start now text → RepliesUpToBad answers (records_of input) start now text
-  all_output rs text input records all =
-      subst (λ (qs : List (List ℕ)). RepliesUpToBad answers qs start now text) (append-nil rs ∙ sym records)
-      (subst (λ (t : List ℕ). RepliesUpToBad answers (rs ++ []) start now t) (append-nil text)
-      (then_replies answers rs [] start now now text [] all (refl, refl)))
+-- ---- lists
 
-  -- the last piece had a header past the limit
-  pub ends_long : (next : Stream) → fed ≡ after waiting piece → fed.part ≡ TooLong → Sent answers fed next mid now held holds n m → Finished answers from left2 before holds start now k m BadRecord
-  ends_long next f long e =
-      let rs = h.answered ++ fed.records in
-      let text = h.text ++ e.text in
-      let all = all_then answers h.answered fed.records start mid now h.text e.text h.replied e.replied in
-      let records : (after fresh (h.input ++ piece)).records ≡ rs = ap (λ (s : Stream). s.records) (whole f) in
-      let count : answered_of (after fresh (h.input ++ piece)).records ≡ length rs = ap answered_of records ∙ counts_all answers rs start now text all in
-      record {
-        input = h.input ++ piece;
-        text = text;
-        read = Consumes-trans from left left2 h.input piece h.read c;
-        wrote = Appends-trans before held holds h.text e.text h.wrote e.sent;
-        replied = all_output rs text (h.input ++ piece) records all;
-        counts = subst (λ (j : ℕ). GrowsBy k j m) (sym count) (counts_more h.answered fed.records k n m h.counts e.counts);
-        ended = inl (ap (λ (s : Stream). s.part) (whole f) ∙ long);
-      }
+-- one at least
+pub snoc_some : (rs : List (List ℕ)) (r : List ℕ) → rs ++ r ∷ [] ≢ []
+snoc_some [] r e = absurd cc
+snoc_some (q ∷ rs) r e = absurd cc
 
-  -- a record was no call
-  pub ends_bad : fed ≡ after waiting piece → SentUpToBad answers fed mid now held holds n m → Finished answers from left2 before holds start now k m BadRecord
-  ends_bad f e =
-      let front = h.answered ++ e.answered in
-      let text = h.text ++ e.text in
-      let all = all_then answers h.answered e.answered start mid now h.text e.text h.replied e.replied in
-      let records : (after fresh (h.input ++ piece)).records ≡ front ++ e.bad ∷ e.behind =
-      ap (λ (s : Stream). s.records) (whole f) ∙ ap (λ (rs : List (List ℕ)). h.answered ++ rs) e.records ∙ sym (append_assoc h.answered e.answered (e.bad ∷ e.behind)) in
-      let count : answered_of (after fresh (h.input ++ piece)).records ≡ length front = ap answered_of records ∙ counts_front answers front e.bad e.behind start now text all e.no_call in
-      let stopped = then_replies answers front (e.bad ∷ e.behind) start now now text [] all (stops answers e.bad e.behind now e.no_call) in
-      record {
-        input = h.input ++ piece;
-        text = text;
-        read = Consumes-trans from left left2 h.input piece h.read c;
-        wrote = Appends-trans before held holds h.text e.text h.wrote e.sent;
-        replied = subst (λ (rs : List (List ℕ)). RepliesUpToBad answers rs start now text) (sym records) (subst (λ (t : List ℕ). RepliesUpToBad answers (front ++ e.bad ∷ e.behind) start now t) (append-nil text) stopped);
-        counts = subst (λ (j : ℕ). GrowsBy k j m) (sym count) (counts_more h.answered e.answered k n m h.counts e.counts);
-        ended = inr (front, e.bad, e.behind, records, e.no_call);
-      }
+-- so fewer wait
+fewer : (rs left all : List (List ℕ)) → all ≡ rs ++ left → rs ≢ [] → length left < length all
+fewer [] left all is some = absurd (some refl)
+fewer (r ∷ rs) left all is some =
+    let long : length all ≡ length (r ∷ (rs ++ left)) = ap (λ (qs : List (List ℕ)). length qs) is in
+    omega (arith, long, length-append rs left)
 
-  -- some records of the piece were answered, or their replies were not all written
-  pub breaks : fed ≡ after waiting piece → SentInPart answers fed mid now held holds → Failed answers from left2 before holds start now
-  breaks f e =
-      record {
-        input = h.input ++ piece;
-        text = h.text ++ e.sent.front;
-        read = Consumes-trans from left left2 h.input piece h.read c;
-        wrote = Appends-trans before held holds h.text e.sent.front h.wrote e.sent.appends;
-        begun = record {
-          answered = h.answered ++ e.answered;
-          others = e.behind;
-          front = ap (λ (s : Stream). s.records) (whole f) ∙ ap (λ (rs : List (List ℕ)). h.answered ++ rs) e.records ∙ sym (append_assoc h.answered e.answered e.behind);
-          whole = h.text ++ e.text;
-          replied = all_then answers h.answered e.answered start mid now h.text e.text h.replied e.replied;
-          written = (e.sent.rest, append_assoc h.text e.sent.front e.sent.rest ∙ ap (λ (t : List ℕ). h.text ++ t) (sym e.sent.is));
-        };
-      }
+-- a turn that fills leaves fewer
+pub fills : {C S : Type 0} (reads : List ℕ → Option C) (answers : C → S → S → List ℕ → Type 0) (turn : Turn) (old new : Stream) (before now : S) (text : List ℕ) (count counted : ℕ) → turn ≡ turns.Filled → (h : Turned reads answers turn old new before now text count counted)
+    → (length new.records < length old.records) × (h.left ≡ new.records)
+fills reads answers turn old new before now text count counted is h =
+    let t : IsTurn reads turns.Filled h.answered h.left new.records = subst (λ (x : Turn). IsTurn reads x h.answered h.left new.records) is h.turn_is in
+    let lt = fewer h.answered h.left old.records (ap (λ (s : Stream). s.records) h.rest) t.0 in
+    (subst (λ (rs : List (List ℕ)). length rs < length old.records) t.1 lt, t.1)
 
--- a piece was read at most, and none of it was answered
-pub gives_up : {S : Type 0} (answers : Message → S → S → List ℕ → Type 0) (from left left2 before held : Option (List ℕ)) (waiting : Stream) (start now : S) (piece : List ℕ) (k n : ℕ)
-    → SoFar answers from left before held waiting start now k n → Consumes left left2 piece → Failed answers from left2 before held start now
-gives_up answers from left left2 before held waiting start now piece k n h c =
-    let more = first_records (after fresh h.input) piece in
-    let records : (after fresh h.input).records ≡ h.answered = ap (λ (s : Stream). s.records) h.is ∙ ap (λ (rs : List (List ℕ)). h.answered ++ rs) h.none ∙ append-nil h.answered in
-    record {
-      input = h.input ++ piece;
-      text = h.text;
-      read = Consumes-trans from left left2 h.input piece h.read c;
-      wrote = h.wrote;
-      begun = record {
-        answered = h.answered;
-        others = more.0;
-        front = ap (λ (s : Stream). s.records) (after-append fresh h.input piece) ∙ more.1 ∙ ap (λ (rs : List (List ℕ)). rs ++ more.0) records;
-        whole = h.text;
-        replied = h.replied;
-        written = ([], append-nil h.text);
-      };
-    }
+-- one that empties leaves none
+pub leaves_none : {C S : Type 0} (reads : List ℕ → Option C) (answers : C → S → S → List ℕ → Type 0) (turn : Turn) (old new : Stream) (before now : S) (text : List ℕ) (count counted : ℕ) → turn ≡ turns.Emptied → Turned reads answers turn old new before now text count counted → new.records ≡ []
+leaves_none reads answers turn old new before now text count counted is h = (subst (λ (x : Turn). IsTurn reads x h.answered h.left new.records) is h.turn_is).1
 
--- nothing has come yet
-pub reads_nothing : {S : Type 0} (answers : Message → S → S → List ℕ → Type 0) (from left left2 before held : Option (List ℕ)) (waiting : Stream) (start now : S) (k n : ℕ)
-    → SoFar answers from left before held waiting start now k n → Consumes left left2 [] → SoFar answers from left2 before held waiting start now k n
-reads_nothing answers from left left2 before held waiting start now k n h c = record {
-  input = h.input;
-  text = h.text;
-  read = subst (Consumes from left2) (append-nil h.input) (Consumes-trans from left left2 h.input [] h.read c);
-  wrote = h.wrote;
-  answered = h.answered;
-  replied = h.replied;
-  is = h.is;
-  none = h.none;
-  counts = h.counts;
-  short = h.short;
-}
+-- a front of a piece was taken
+pub taken_front : (taken : Taken) (old new : Stream) (piece : List ℕ) → Takes taken old new piece → (slice : List ℕ) × (more : List ℕ) × (piece ≡ slice ++ more) × (new ≡ after old slice)
+taken_front (Front n) old new piece h = (take n piece, drop n piece, sym (take-append-drop n piece), h.2)
+taken_front Overlong old new piece h = (piece, [], sym (append-nil piece), h.0)
 
--- nothing was left to read
-pub ends_quiet : {S : Type 0} (answers : Message → S → S → List ℕ → Type 0) (from left left2 before held : Option (List ℕ)) (waiting : Stream) (start now : S) (piece : List ℕ) (k n : ℕ) (end : End)
-    → SoFar answers from left before held waiting start now k n → Consumes left left2 piece → piece ≡ [] → IsAtEnd left2 → Closes end waiting → Finished answers from left2 before held start now k n end
-ends_quiet answers from left left2 before held waiting start now piece k n end h c empty quiet closes =
-    let records : (after fresh h.input).records ≡ h.answered = ap (λ (s : Stream). s.records) h.is ∙ ap (λ (rs : List (List ℕ)). h.answered ++ rs) h.none ∙ append-nil h.answered in
-    let count : answered_of (after fresh h.input).records ≡ length h.answered = ap answered_of records ∙ counts_all answers h.answered start now h.text h.replied in
-    record {
+pub as_front : (taken : Taken) (old new : Stream) (piece : List ℕ) (n : ℕ) → Takes taken old new piece → taken ≡ Front n → Takes (Front n) old new piece
+as_front taken old new piece n h is = subst (λ (t : Taken). Takes t old new piece) is h
+
+pub as_overlong : (taken : Taken) (old new : Stream) (piece : List ℕ) → Takes taken old new piece → taken ≡ Overlong → Takes Overlong old new piece
+as_overlong taken old new piece h is = subst (λ (t : Taken). Takes t old new piece) is h
+
+-- ---- a connection so far
+
+pub comes_to : {C : Type 0} (s : Service C) (tells : Time → Type 0) (o p : Outcome) (start : Start) (left holds : Option (List ℕ)) (pending : List ℕ) (waiting : Stream) (now : SessionState) (n : ℕ) → o ≡ p → ComesTo s tells o start left holds pending waiting now n → ComesTo s tells p start left holds pending waiting now n
+comes_to s tells o p start left holds pending waiting now n is h = subst (λ (x : Outcome). ComesTo s tells x start left holds pending waiting now n) is h
+
+module _ {C : Type 0} (s : Service C) (tells : Time → Type 0) where
+  -- nothing has come
+  pub pauses_at_once : (from held : Option (List ℕ)) (session : SessionState) (count : ℕ) → Pauses s tells (starts from held session count) from held session count
+  pauses_at_once from held session count =
+      record { input = []; text = []; read = Consumes-nil from; wrote = Appends-nil held; answered = []; replied = (refl, refl); is = after_none (fresh s.marking) [] refl; counts = λ lt. omega arith }
+
+  module _ (start : Start) (left holds : Option (List ℕ)) where
+    -- of the same stream
+    pub on_stream : (pending : List ℕ) (waiting other : Stream) (now : Talk) (n : ℕ) → waiting ≡ other → SoFar s tells start left holds pending waiting now n → SoFar s tells start left holds pending other now n
+    on_stream pending waiting other now n is h = subst (λ (w : Stream). SoFar s tells start left holds pending w now n) is h
+
+    -- a piece was read
+    pub reads_piece : (left2 : Option (List ℕ)) (piece : List ℕ) (waiting : Stream) (now : Talk) (n : ℕ) → Consumes left left2 piece → SoFar s tells start left holds [] waiting now n → SoFar s tells start left2 holds piece waiting now n
+    reads_piece left2 piece waiting now n c h = record {
       input = h.input;
       text = h.text;
-      read = subst (Consumes from left2) (ap (λ (p : List ℕ). h.input ++ p) empty ∙ append-nil h.input) (Consumes-trans from left left2 h.input piece h.read c);
+      read = subst (λ (t : List ℕ). Consumes start.from left2 (t ++ piece)) (append-nil h.input) (Consumes-trans start.from left left2 (h.input ++ []) piece h.read c);
       wrote = h.wrote;
-      replied = subst (λ (qs : List (List ℕ)). RepliesUpToBad answers qs start now h.text) (append-nil h.answered ∙ sym records)
-          (subst (λ (t : List ℕ). RepliesUpToBad answers (h.answered ++ []) start now t) (append-nil h.text)
-          (then_replies answers h.answered [] start now now h.text [] h.replied (refl, refl)));
-      counts = subst (λ (j : ℕ). GrowsBy k j n) (sym count) h.counts;
-      ended = of end closes;
+      answered = h.answered;
+      replied = h.replied;
+      is = h.is;
+      counts = h.counts;
     }
-  where
-    s : Stream
-    s = after fresh h.input
 
-    begun : s.begun ≡ waiting.begun
-    begun = ap (λ (t : Stream). t.begun) h.is
+    -- a front of what is not looked at came to the stream
+    pub feeds : (pending slice more : List ℕ) (waiting : Stream) (now : Talk) (n : ℕ) → pending ≡ slice ++ more → SoFar s tells start left holds pending waiting now n → SoFar s tells start left holds more (after waiting slice) now n
+    feeds pending slice more waiting now n is h = record {
+      input = h.input ++ slice;
+      text = h.text;
+      read = subst (Consumes start.from left) (ap (λ (p : List ℕ). h.input ++ p) is ∙ sym (append_assoc h.input slice more)) h.read;
+      wrote = h.wrote;
+      answered = h.answered;
+      replied = h.replied;
+      is = after-append (fresh s.marking) h.input slice ∙ ap (λ (t : Stream). after t slice) h.is ∙ after_behind h.answered waiting slice;
+      counts = h.counts;
+    }
 
-    part : s.part ≡ waiting.part
-    part = ap (λ (t : Stream). t.part) h.is
+    -- what was taken of a piece came to the stream
+    pub takes_slice : (taken : Taken) (piece : List ℕ) (old new : Stream) (now : Talk) (n : ℕ) (t : Takes taken old new piece) → SoFar s tells start left holds piece old now n → SoFar s tells start left holds (taken_front taken old new piece t).1 new now n
+    takes_slice taken piece old new now n t h =
+        let f = taken_front taken old new piece t in
+        on_stream f.1 (after old f.0) new now n (sym f.3) (feeds piece f.0 f.1 old now n f.2 h)
 
-    calls : AllCalls s.records
-    calls = subst AllCalls (sym (ap (λ (t : Stream). t.records) h.is ∙ ap (λ (rs : List (List ℕ)). h.answered ++ rs) h.none ∙ append-nil h.answered)) (calls_all answers h.answered start now h.text h.replied)
+    pub feeds_front : (k : ℕ) (piece : List ℕ) (old new : Stream) (now : Talk) (n : ℕ) → new ≡ after old (take k piece) → SoFar s tells start left holds piece old now n → SoFar s tells start left holds (drop k piece) new now n
+    feeds_front k piece old new now n is h = on_stream (drop k piece) (after old (take k piece)) new now n (sym is) (feeds piece (take k piece) (drop k piece) old now n (sym (take-append-drop k piece)) h)
 
-    of : (e : End) → Closes e waiting → IsEnd e h.input left2
-    of EndOfInput b = (quiet, calls, record { begun = begun ∙ b.begun; part = part ∙ b.part })
-    of Truncated b = (quiet, calls, λ t. b (record { begun = sym begun ∙ t.begun; part = sym part ∙ t.part }), λ long. h.short (sym part ∙ long))
-    of BadRecord b = absurd b
+    -- no record is begun, and none waits
+    pub pauses_here : (waiting : Stream) (now : SessionState) (n : ℕ) → waiting.records ≡ [] → IsBetween waiting → SoFar s tells start left holds [] waiting (going now) n → Pauses s tells start left holds now n
+    pauses_here waiting now n none between h = on_stream [] waiting (fresh s.marking) (going now) n (is_fresh s.marking h.input h.answered waiting h.is none between) h
 
--- nothing was read, and nothing written
-pub fails_at_once : {S : Type 0} (answers : Message → S → S → List ℕ → Type 0) (from held : Option (List ℕ)) (old : S) → Failed answers from from held held old old
-fails_at_once answers from held old = record {
-  input = [];
-  text = [];
-  read = Consumes-nil from;
-  wrote = Appends-nil held;
-  begun = record {
-    answered = [];
-    others = [];
-    front = ap (λ (s : Stream). s.records) (after_none fresh [] refl);
-    whole = [];
-    replied = (refl, refl);
-    written = ([], refl);
-  };
-}
+    -- nothing was left to read
+    pub ends_quiet : (end : End) (waiting : Stream) (now : SessionState) (n : ℕ) → Closes end waiting → IsAtEnd left → waiting.records ≡ [] → waiting.part ≢ TooLong → SoFar s tells start left holds [] waiting (going now) n → Finished s tells start left holds end now n
+    ends_quiet end waiting now n closes quiet none short h = record { pending = []; waiting = waiting; over = false; so_far = h; last = of end closes }
+      where
+        of : (e : End) → Closes e waiting → IsLast s e left [] waiting false
+        of EndOfInput b = (quiet, refl, none, b)
+        of Truncated b = (quiet, refl, none, b, short)
+        of BadRecord b = absurd b
+        of Stopped b = absurd b
 
--- ---- what is told of a connection whose session has only seen more since its last reply, a fact at a time
+    -- the next record is too long
+    pub ends_long : (pending : List ℕ) (waiting : Stream) (now : SessionState) (n : ℕ) → waiting.records ≡ [] → waiting.part ≡ TooLong → SoFar s tells start left holds pending waiting (going now) n → Finished s tells start left holds BadRecord now n
+    ends_long pending waiting now n none long h = record { pending = pending; waiting = waiting; over = false; so_far = h; last = inl (none, long) }
 
-module _ (answers : SessionState → Message → SessionState → SessionState → List ℕ → Type 0) (from left held holds : Option (List ℕ)) (old now : SessionState) where
-  module _ (answered : ℕ) (end : End) (h : IsBefore now (λ last. Finished (answers last) from left held holds old last 0 answered end)) where
-    pub tells_replies : Exchanges from left held holds (λ input text. IsBefore now (λ l. RepliesUpToBad (answers l) (records_of input) old l text))
-    tells_replies = (h.2.input, h.2.text, h.2.read, h.2.wrote, (h.0, h.1, h.2.replied))
+  -- ---- what is done of the records that wait
 
-    pub tells_count : Exchanges from left held holds (λ input text. answered_of (records_of input) < 2 ^ 64 → answered ≡ answered_of (records_of input))
-    tells_count = (h.2.input, h.2.text, h.2.read, h.2.wrote, counts_fit (answered_of (records_of h.2.input)) (answered_of (records_of h.2.input)) answered refl h.2.counts)
+  module _ (laws : IsLawful s) (start : Start) (left half : Option (List ℕ)) (pending : List ℕ) (mid : Stream) (between : SessionState) (n : ℕ) (h : SoFar s tells start left half pending mid (going between) n) where
+    -- a front of them was done, and their replies written in part
+    breaks : (now : SessionState) (holds : Option (List ℕ)) (taken others : List (List ℕ)) (text : List ℕ) → mid.records ≡ taken ++ others → AllReplies s.reads (IsReplyBy s.does tells now.seen) taken between now text → AppendsFront half holds text
+        → GivenUp s tells start left holds now
+    breaks now holds taken others text is done sent =
+        let more = first_records (after (fresh s.marking) h.input) pending in
+        let grows = all_grow s tells laws now.seen taken between now text done in
+        let before = replies_done s tells laws now.seen h.answered (going start.session) (going between) h.text (replies_stay s tells laws between.seen now.seen h.answered (going start.session) (going between) h.text grows h.replied) in
+        record {
+          input = h.input ++ pending;
+          text = h.text ++ sent.front;
+          read = h.read;
+          wrote = Appends-trans start.held half holds h.text sent.front h.wrote sent.appends;
+          answered = h.answered ++ taken;
+          others = others ++ more.0;
+          front = ap (λ (t : Stream). t.records) (after-append (fresh s.marking) h.input pending)
+              ∙ more.1
+              ∙ ap (λ (rs : List (List ℕ)). rs ++ more.0) (ap (λ (t : Stream). t.records) h.is ∙ ap (λ (rs : List (List ℕ)). h.answered ++ rs) is ∙ sym (append_assoc h.answered taken others))
+              ∙ append_assoc (h.answered ++ taken) others more.0;
+          whole = h.text ++ text;
+          replied = all_then s.reads (IsReplyBy s.does tells now.seen) h.answered taken start.session between now h.text text before done;
+          written = (sent.rest, append_assoc h.text sent.front sent.rest ∙ ap (λ (t : List ℕ). h.text ++ t) (sym sent.is));
+        }
 
-    pub tells_end : Exchanges from left held holds (λ input text. IsEnd end input left)
-    tells_end = (h.2.input, h.2.text, h.2.read, h.2.wrote, h.2.ended)
+    -- none of them was
+    pub gives_up : GivenUp s tells start left half between
+    gives_up = breaks between half [] mid.records [] refl (refl, refl) (record { front = []; rest = []; is = refl; appends = Appends-nil half })
 
-  pub tells_beginning : IsBefore now (λ last. Failed (answers last) from left held holds old last)
-      → Exchanges from left held holds (λ input text. IsBefore now (λ l. IsBeginning (answers l) (records_of input) old l text))
-  tells_beginning h = (h.2.input, h.2.text, h.2.read, h.2.wrote, (h.0, h.1, h.2.begun))
+    -- some were, and a reply was lost
+    pub turn_loses : (now : SessionState) → Lost s.reads (IsReplyBy s.does tells now.seen) mid between now → GivenUp s tells start left half now
+    turn_loses now e = breaks now half e.answered e.left e.text e.records e.replied (record { front = []; rest = e.text; is = refl; appends = Appends-nil half })
+
+    -- a turn, whose replies are held and then sent
+    module _ {A R : Type 0} (replaces : Replacing A) (commits : R → ℕ) (turn : Turn) (new : Stream) (done now : SessionState) (held : ReplyBatch A R) (m : ℕ)
+        (come : Turned s.reads (IsHeld s replaces commits tells) turn mid new (doing (going between) held.replies.items) (doing (talk done (is_over turn)) []) held.bytes.items n m)
+        (more : OnlyExtends done now) (quiet : held.replies.items ≡ [] → now ≡ done) where
+      replied_so : (text : List ℕ) → AllReplies s.reads (IsTold s tells now.seen) come.answered (going between) (talk done (is_over turn)) text → AllReplies s.reads (IsTold s tells now.seen) come.answered (going between) (talk now (is_over turn)) text
+      replied_so text told = replies_later s tells laws now.seen come.answered (going between) done now (is_over turn) text more (λ none. quiet (empty come.answered come.replied none)) told
+        where
+          empty : (qs : List (List ℕ)) → AllReplies s.reads (IsHeld s replaces commits tells) qs (doing (going between) held.replies.items) (doing (talk done (is_over turn)) []) held.bytes.items → qs ≡ [] → held.replies.items ≡ []
+          empty [] k e = sym (ap (λ (d : Doing A). d.behind) k.0)
+          empty (q ∷ qs) k e = absurd cc
+
+      pub turn_goes : (holds : Option (List ℕ)) → SendsSettled replaces now.seen held half holds → SoFar s tells start left holds pending (record new { records = come.left }) (talk now (is_over turn)) m
+      turn_goes holds e =
+          let told = replied_so e.text (replies_told s replaces commits tells now.seen come.answered (doing (going between) held.replies.items) (doing (talk done (is_over turn)) []) held.bytes.items e.text come.replied refl e.settles) in
+          let grows = told_grow s tells laws now.seen come.answered (going between) (talk now (is_over turn)) e.text told in
+          record {
+            input = h.input;
+            text = h.text ++ e.text;
+            read = h.read;
+            wrote = Appends-trans start.held half holds h.text e.text h.wrote e.sent;
+            answered = h.answered ++ come.answered;
+            replied = all_then s.reads (IsTold s tells now.seen) h.answered come.answered (going start.session) (going between) (talk now (is_over turn)) h.text e.text
+                (replies_stay s tells laws between.seen now.seen h.answered (going start.session) (going between) h.text grows h.replied) told;
+            is = h.is ∙ ap (λ (t : Stream). behind h.answered t) come.rest ∙ ap (λ (rs : List (List ℕ)). record new { records = rs }) (sym (append_assoc h.answered come.answered come.left));
+            counts = counts_more h.answered come.answered start.count n m h.counts come.counts;
+          }
+
+      pub turn_breaks : (holds : Option (List ℕ)) → SendsInPart replaces now.seen held half holds → GivenUp s tells start left holds now
+      turn_breaks holds e =
+          let told = replied_so e.text (replies_told s replaces commits tells now.seen come.answered (doing (going between) held.replies.items) (doing (talk done (is_over turn)) []) held.bytes.items e.text come.replied refl e.settles) in
+          breaks now holds come.answered come.left e.text (ap (λ (t : Stream). t.records) come.rest) (replies_done s tells laws now.seen come.answered (going between) (talk now (is_over turn)) e.text told) e.sent
+
+  -- ---- by how a turn ends
+
+  module _ (laws : IsLawful s) {A R : Type 0} (replaces : Replacing A) (commits : R → ℕ) (start : Start) (left half holds : Option (List ℕ)) (pending : List ℕ) (turn : Turn) (mid new : Stream) (between done now : SessionState) (held : ReplyBatch A R) (n m : ℕ)
+      (come : Turned s.reads (IsHeld s replaces commits tells) turn mid new (doing (going between) held.replies.items) (doing (talk done (is_over turn)) []) held.bytes.items n m)
+      (more : OnlyExtends done now) (quiet : held.replies.items ≡ [] → now ≡ done) (sent : SendsSettled replaces now.seen held half holds) (h : SoFar s tells start left half pending mid (going between) n) where
+    goes : SoFar s tells start left holds pending (record new { records = come.left }) (talk now (is_over turn)) m
+    goes = turn_goes laws start left half pending mid between n h replaces commits turn new done now held m come more quiet holds sent
+
+    at : (other : Turn) → turn ≡ other → SoFar s tells start left holds pending (record new { records = come.left }) (talk now (is_over other)) m × IsTurn s.reads other come.answered come.left new.records
+    at other is = (
+      subst (λ (x : Turn). SoFar s tells start left holds pending (record new { records = come.left }) (talk now (is_over x)) m) is goes,
+      subst (λ (x : Turn). IsTurn s.reads x come.answered come.left new.records) is come.turn_is,
+    )
+
+    whole : come.left ≡ new.records → record new { records = come.left } ≡ new
+    whole is = ap (λ (rs : List (List ℕ)). record new { records = rs }) is
+
+    pub empties : turn ≡ turns.Emptied → SoFar s tells start left holds pending new (going now) m
+    empties is = let t = at turns.Emptied is in on_stream start left holds pending (record new { records = come.left }) new (going now) m (whole (t.1.0 ∙ sym t.1.1)) t.0
+
+    pub fills_up : turn ≡ turns.Filled → SoFar s tells start left holds pending new (going now) m
+    fills_up is = let t = at turns.Filled is in on_stream start left holds pending (record new { records = come.left }) new (going now) m (whole t.1.1) t.0
+
+    pub ends_bad : turn ≡ turns.Stopped → Finished s tells start left holds BadRecord now m
+    ends_bad is = let t = at turns.Stopped is in record { pending = pending; waiting = record new { records = come.left }; over = false; so_far = t.0; last = inr t.1 }
+
+    pub ends_stopped : turn ≡ turns.Ended → Finished s tells start left holds Stopped now m
+    ends_stopped is = let t = at turns.Ended is in record { pending = pending; waiting = record new { records = come.left }; over = true; so_far = t.0; last = refl }
+
+-- ---- by how far a turn has come
+
+pub progresses : {C : Type 0} (s : Service C) (tells : Time → Type 0) (o p : Progress) (start : Start) (left holds : Option (List ℕ)) (now : SessionState) (n : ℕ) → o ≡ p → Progresses s tells o start left holds now n → Progresses s tells p start left holds now n
+progresses s tells o p start left holds now n is h = subst (λ (x : Progress). Progresses s tells x start left holds now n) is h
+
+pub is_told : (o p : Progress) (session : SessionState) → o ≡ p → IsFencedAsTold o session → IsFencedAsTold p session
+is_told o p session is h = subst (λ (x : Progress). IsFencedAsTold x session) is h

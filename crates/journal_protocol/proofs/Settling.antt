@@ -1,6 +1,6 @@
 -- What is told of replies that were held back.
-use Rattle.std.proofs.Common.{◌≡◌, ℕ, ◌+◌, ◌≤◌, List, [], ◌∷◌, ◌++◌, Option, Some, None, Result, Ok, Err, OnOk, length, take, drop, refl, sym, ap, subst, ◌∙◌, append_assoc, inl, inr, arith, take-append-drop, length-append}
-use Rattle.std.specs.Prelude.{IfSome, is_ok, if◌then◌else◌, ◌⊎◌}
+use Rattle.std.proofs.Common.{◌≡◌, Bool, false, ℕ, ◌+◌, ◌≤◌, List, [], ◌∷◌, ◌++◌, Option, Some, None, Result, Ok, Err, OnOk, length, take, drop, refl, sym, ap, subst, ◌∙◌, append_assoc, inl, inr, arith, take-append-drop, length-append}
+use Rattle.std.specs.Prelude.{IsTrue, IfSome, is_ok, if◌then◌else◌, ◌⊎◌}
 use Rattle.std.proofs.lemmas.List.{append-nil, append_cancel_left, length-take-le}
 use Rattle.std.proofs.Math.Seq.{take-append_seam}
 use Rattle.journal_world.specs.Histories.{Entry, floor}
@@ -8,14 +8,15 @@ use Rattle.journal_world.proofs.Marks.{floor-append-le}
 use Rattle.journal_history.specs.Tokens.{SessionState, OnlyExtends}
 use Rattle.journal_inode.specs.declared.node.Time.{Time}
 use Rattle.journal_world.proofs.Prefixes.{IsPrefix-trans}
-use Rattle.journal_rpc.specs.Calls.{Message}
 use Rattle.journal_protocol.specs.declared.held_reply.HeldWait.{HeldWait}
 use Rattle.journal_protocol.specs.declared.held_reply.HeldReply.{HeldReply}
 use Rattle.journal_protocol.specs.declared.reply_batch.BatchWait.{BatchWait}
 use Rattle.journal_protocol.specs.declared.reply_batch.BatchEntry.{BatchEntry}
-use Rattle.journal_protocol.specs.Protocols.{Answering, Replacing, IsPaid, IsLawful, IsRefusable}
-use Rattle.journal_protocol.specs.Output.{IsReplyBy, AllReplies}
+use Rattle.journal_protocol.specs.Protocols.{Service, Replacing, IsPaid, IsLawful, IsRefusable}
+use Rattle.journal_protocol.specs.Output.{IsReplyBy, AllReplies, Talk, talk, IsTold}
 use Rattle.journal_protocol.specs.ReplyBatches.{wait_of, held_of, IsNoWaitReply, Doing, doing, IsHeld, total, AreFree, IsCovered, AreCovered, SettlesOne, Settles}
+use Rattle.journal_protocol.proofs.Answering.{all_so}
+use Rattle.journal_protocol.proofs.Staying.{all_grow}
 
 -- ---- lists
 
@@ -36,85 +37,112 @@ OnlyExtends-trans a b c first second = record { number = second.number ∙ first
 
 -- ---- replies, one after another
 
--- what answers in one way answers in another
-pub all_so : {S : Type 0} (one other : Message → S → S → List ℕ → Type 0) → ((call : Message) (old new : S) (text : List ℕ) → one call old new text → other call old new text)
-    → (rs : List (List ℕ)) (old new : S) (text : List ℕ) → AllReplies one rs old new text → AllReplies other rs old new text
-all_so one other so [] old new text h = h
-all_so one other so (r ∷ rs) old new text h =
-    let k = h.2 in
-    (h.0, h.1, (k.0, k.1, k.2, so h.0 old k.0 k.1 k.3, all_so one other so rs k.0 new k.2 k.4, k.5))
-
-module _ (replies : Answering) (tells : Time → Type 0) (laws : IsLawful replies) where
+module _ {C : Type 0} (s : Service C) (tells : Time → Type 0) (laws : IsLawful s) where
   -- marks only grow
-  pub reply_stays : (history longer : List Entry) → floor history ≤ floor longer → (call : Message) (old new : SessionState) (text : List ℕ) → IsReplyBy replies tells history call old new text → IsReplyBy replies tells longer call old new text
-  reply_stays history longer grows call old new text h =
-      record { moment = h.moment; told = h.told; done = h.done; answers = laws.stays h.moment call old h.done history longer text h.answers grows; later = h.later }
+  pub replies_stay : (history longer : List Entry) (rs : List (List ℕ)) (old new : Talk) (text : List ℕ) → floor history ≤ floor longer
+      → AllReplies s.reads (IsTold s tells history) rs old new text → AllReplies s.reads (IsTold s tells longer) rs old new text
+  replies_stay history longer rs old new text grows h = all_so s.reads (IsTold s tells history) (IsTold s tells longer) (λ (t : Talk). t) one rs old new text h
+    where
+      one : (call : C) (before after : Talk) (reply : List ℕ) → IsTold s tells history call before after reply → IsTold s tells longer call before after reply
+      one call before after reply k =
+          let r = k.reply in
+          record {
+            goes = k.goes;
+            reply = record { moment = r.moment; told = r.told; done = r.done; answers = laws.stays r.moment call before.session r.done history longer reply r.answers grows; later = r.later };
+            ends = k.ends;
+          }
 
-  pub replies_stay : (history longer : List Entry) (rs : List (List ℕ)) (old new : SessionState) (text : List ℕ) → floor history ≤ floor longer
-      → AllReplies (IsReplyBy replies tells history) rs old new text → AllReplies (IsReplyBy replies tells longer) rs old new text
-  replies_stay history longer rs old new text grows h = all_so _ _ (reply_stays history longer grows) rs old new text h
+  -- what was answered was done
+  pub replies_done : (history : List Entry) (rs : List (List ℕ)) (old new : Talk) (text : List ℕ) → AllReplies s.reads (IsTold s tells history) rs old new text → AllReplies s.reads (IsReplyBy s.does tells history) rs old.session new.session text
+  replies_done history rs old new text h = all_so s.reads (IsTold s tells history) (IsReplyBy s.does tells history) (λ (t : Talk). t.session) one rs old new text h
+    where
+      one : (call : C) (before after : Talk) (reply : List ℕ) → IsTold s tells history call before after reply → IsReplyBy s.does tells history call before.session after.session reply
+      one call before after reply k =
+          let r = k.reply in
+          record { moment = r.moment; told = r.told; done = r.done; answers = laws.done history r.moment call before.session r.done reply r.answers; later = r.later }
 
-  -- the session has seen more behind the last
-  pub replies_later : (history : List Entry) (rs : List (List ℕ)) (old middle new : SessionState) (text : List ℕ) → OnlyExtends middle new → (rs ≡ [] → new ≡ middle)
-      → AllReplies (IsReplyBy replies tells history) rs old middle text → AllReplies (IsReplyBy replies tells history) rs old new text
-  replies_later history [] old middle new text more none h = (none refl ∙ h.0, h.1)
-  replies_later history (r ∷ []) old middle new text more none h =
+  -- the marks grow along them
+  pub told_grow : (history : List Entry) (rs : List (List ℕ)) (old new : Talk) (text : List ℕ) → AllReplies s.reads (IsTold s tells history) rs old new text → floor old.session.seen ≤ floor new.session.seen
+  told_grow history rs old new text h = all_grow s tells laws history rs old.session new.session text (replies_done history rs old new text h)
+
+  -- the session has seen more after the last
+  pub replies_later : (history : List Entry) (rs : List (List ℕ)) (old : Talk) (middle new : SessionState) (over : Bool) (text : List ℕ) → OnlyExtends middle new → (rs ≡ [] → new ≡ middle)
+      → AllReplies s.reads (IsTold s tells history) rs old (talk middle over) text → AllReplies s.reads (IsTold s tells history) rs old (talk new over) text
+  replies_later history [] old middle new over text more none h = (ap (λ (x : SessionState). talk x over) (none refl) ∙ h.0, h.1)
+  replies_later history (r ∷ []) old middle new over text more none h =
       let k = h.2 in
       let last = k.3 in
-      let reach : OnlyExtends last.done new = OnlyExtends-trans last.done k.0 new last.later (subst (λ (s : SessionState). OnlyExtends s new) k.4.0 more) in
-      (h.0, h.1, (new, k.1, k.2, record { moment = last.moment; told = last.told; done = last.done; answers = last.answers; later = reach }, (refl, k.4.1), k.5))
-  replies_later history (r ∷ q ∷ rs) old middle new text more none h =
+      let reply = last.reply in
+      let reach : OnlyExtends reply.done new = OnlyExtends-trans reply.done k.0.session new reply.later (subst (λ (t : Talk). OnlyExtends t.session new) k.4.0 more) in
+      let told : IsTold s tells history h.0 old (talk new over) k.1 = record {
+        goes = last.goes;
+        reply = record { moment = reply.moment; told = reply.told; done = reply.done; answers = reply.answers; later = reach };
+        ends = λ e. last.ends (subst (λ (t : Talk). IsTrue t.over) k.4.0 e);
+      } in
+      (h.0, h.1, (talk new over, k.1, k.2, told, (refl, k.4.1), k.5))
+  replies_later history (r ∷ q ∷ rs) old middle new over text more none h =
       let k = h.2 in
-      (h.0, h.1, (k.0, k.1, k.2, k.3, replies_later history (q ∷ rs) k.0 middle new k.2 more (λ e. absurd cc) k.4, k.5))
+      (h.0, h.1, (k.0, k.1, k.2, k.3, replies_later history (q ∷ rs) k.0 middle new over k.2 more (λ e. absurd cc) k.4, k.5))
 
 -- ---- replies that are held
 
-module _ {A R : Type 0} (replies : Answering) (replaces : Replacing A) (commits : R → ℕ) (tells : Time → Type 0) where
+module _ {C A R : Type 0} (s : Service C) (replaces : Replacing A) (commits : R → ℕ) (tells : Time → Type 0) where
   abbrev pub with_behind : Doing A → BatchEntry A → Doing A
-  with_behind d e = doing d.session (d.behind ++ e ∷ [])
+  with_behind d e = doing d.talk (d.behind ++ e ∷ [])
 
   -- what is known of one more stands behind
-  pub one_behind : (e : BatchEntry A) (rs : List (List ℕ)) (old new : Doing A) (bytes : List ℕ) → AllReplies (IsHeld replies replaces commits tells) rs old new bytes → AllReplies (IsHeld replies replaces commits tells) rs (with_behind old e) (with_behind new e) bytes
-  one_behind e [] old new bytes h = (ap (λ (d : Doing A). with_behind d e) h.0, h.1)
-  one_behind e (r ∷ rs) old new bytes h =
-      let k = h.2 in
-      let held : IsHeld replies replaces commits tells h.0 (with_behind old e) (with_behind k.0 e) k.1 = record { soon = k.3.soon; done = k.3.done; known = ap (λ (b : List (BatchEntry A)). b ++ e ∷ []) k.3.known; is = k.3.is } in
-      (h.0, h.1, (with_behind k.0 e, k.1, k.2, held, one_behind e rs k.0 new k.2 k.4, k.5))
+  pub one_behind : (e : BatchEntry A) (rs : List (List ℕ)) (old new : Doing A) (bytes : List ℕ) → AllReplies s.reads (IsHeld s replaces commits tells) rs old new bytes → AllReplies s.reads (IsHeld s replaces commits tells) rs (with_behind old e) (with_behind new e) bytes
+  one_behind e rs old new bytes h = all_so s.reads (IsHeld s replaces commits tells) (IsHeld s replaces commits tells) (λ (d : Doing A). with_behind d e) one rs old new bytes h
+    where
+      one : (call : C) (before after : Doing A) (reply : List ℕ) → IsHeld s replaces commits tells call before after reply → IsHeld s replaces commits tells call (with_behind before e) (with_behind after e) reply
+      one call before after reply k = record { goes = k.goes; soon = k.soon; done = k.done; ends = k.ends; known = ap (λ (b : List (BatchEntry A)). b ++ e ∷ []) k.known; is = k.is }
 
   -- a reply that is told
-  reply_told : (history : List Entry) (call : Message) (old new : SessionState) (soon : HeldReply A R) (text : List ℕ) → IsNoWaitReply replies replaces commits tells call old new soon
-      → SettlesOne replaces history (wait_of commits soon.wait) soon.reply.items text → IsReplyBy replies tells history call old new text
+  reply_told : (history : List Entry) (call : C) (old new : SessionState) (soon : HeldReply A R) (text : List ℕ) → IsNoWaitReply s replaces commits tells call old new soon
+      → SettlesOne replaces history (wait_of commits soon.wait) soon.reply.items text → IsReplyBy s.answers tells history call old new text
   reply_told history call old new soon text h settles =
       record { moment = h.moment; told = h.told; done = new; answers = of soon.wait refl settles; later = record { number = refl; mine = refl; seen = ([], append-nil new.seen) } }
     where
-      same : IsPaid commits (floor history) soon.wait → text ≡ soon.reply.items → replies history h.moment call old new text
-      same paid is = subst (replies history h.moment call old new) (sym is) (h.held.paid history paid)
+      same : IsPaid commits (floor history) soon.wait → text ≡ soon.reply.items → s.answers history h.moment call old new text
+      same paid is = subst (s.answers history h.moment call old new) (sym is) (h.held.paid history paid)
 
-      waited : (w : HeldWait A R) → soon.wait ≡ Some w → ((commits w.receipt ≤ floor history) × (text ≡ soon.reply.items)) ⊎ replaces w.call text → replies history h.moment call old new text
+      waited : (w : HeldWait A R) → soon.wait ≡ Some w → ((commits w.receipt ≤ floor history) × (text ≡ soon.reply.items)) ⊎ replaces w.call text → s.answers history h.moment call old new text
       waited w e (inl s) = same (subst (IsPaid commits (floor history)) (sym e) s.0) s.1
       waited w e (inr place) =
-          subst (λ (o : Option (HeldWait A R)). IfSome o (λ (v : HeldWait A R). (marks : List Entry) (other : List ℕ) → replaces v.call other → replies marks h.moment call old new other)) e h.held.replaced history text place
+          subst (λ (o : Option (HeldWait A R)). IfSome o (λ (v : HeldWait A R). (marks : List Entry) (other : List ℕ) → replaces v.call other → s.answers marks h.moment call old new other)) e h.held.replaced history text place
 
-      of : (o : Option (HeldWait A R)) → soon.wait ≡ o → SettlesOne replaces history (wait_of commits o) soon.reply.items text → replies history h.moment call old new text
+      of : (o : Option (HeldWait A R)) → soon.wait ≡ o → SettlesOne replaces history (wait_of commits o) soon.reply.items text → s.answers history h.moment call old new text
       of None e s = same (subst (IsPaid commits (floor history)) (sym e) tt) s
       of (Some w) e s = waited w e s
 
+  -- and one that ends the connection is told as it is held
+  talk_told : (history : List Entry) (call : C) (old new : Doing A) (bytes text : List ℕ) (k : IsHeld s replaces commits tells call old new bytes)
+      → SettlesOne replaces history (wait_of commits k.soon.wait) k.soon.reply.items text → IsTold s tells history call old.talk new.talk text
+  talk_told history call old new bytes text k settles = record {
+    goes = k.goes;
+    reply = reply_told history call old.talk.session new.talk.session k.soon text k.done settles;
+    ends = λ over.
+        let free = k.done.held.ends (subst IsTrue k.ends over) in
+        let same : text ≡ k.soon.reply.items = subst (λ (o : Option (HeldWait A R)). SettlesOne replaces history (wait_of commits o) k.soon.reply.items text) free.0 settles in
+        subst s.stops (sym same) free.1;
+  }
+
   -- the replies that are told
-  pub replies_told : (history : List Entry) (rs : List (List ℕ)) (old new : Doing A) (bytes text : List ℕ) → AllReplies (IsHeld replies replaces commits tells) rs old new bytes → new.behind ≡ []
-      → Settles replaces history old.behind bytes text → AllReplies (IsReplyBy replies tells history) rs old.session new.session text
+  pub replies_told : (history : List Entry) (rs : List (List ℕ)) (old new : Doing A) (bytes text : List ℕ) → AllReplies s.reads (IsHeld s replaces commits tells) rs old new bytes → new.behind ≡ []
+      → Settles replaces history old.behind bytes text → AllReplies s.reads (IsTold s tells history) rs old.talk new.talk text
   replies_told history [] old new bytes text h none settles =
       let empty : old.behind ≡ [] = ap (λ (d : Doing A). d.behind) (sym h.0) ∙ none in
       let nothing : Settles replaces history [] bytes text = subst (λ (hs : List (BatchEntry A)). Settles replaces history hs bytes text) empty settles in
-      (ap (λ (d : Doing A). d.session) h.0, nothing.1)
+      (ap (λ (d : Doing A). d.talk) h.0, nothing.1)
   replies_told history (r ∷ rs) old new bytes text h none settles =
       let k = h.2 in
       let held = k.3 in
-      let s : Settles replaces history (held_of commits held.soon ∷ k.0.behind) bytes text = subst (λ (hs : List (BatchEntry A)). Settles replaces history hs bytes text) held.known settles in
-      let cut = same_cut s.0 s.1 k.1 k.2 (sym s.4 ∙ k.5) (s.5 ∙ ap length (sym held.is)) in
-      let one : SettlesOne replaces history (wait_of commits held.soon.wait) held.soon.reply.items s.2 =
-      subst (λ (t : List ℕ). SettlesOne replaces history (wait_of commits held.soon.wait) t s.2) (cut.0 ∙ held.is) s.6 in
-      let rest : Settles replaces history k.0.behind k.2 s.3 = subst (λ (t : List ℕ). Settles replaces history k.0.behind t s.3) cut.1 s.7 in
-      (h.0, h.1, (k.0.session, s.2, s.3, reply_told history h.0 old.session k.0.session held.soon s.2 held.done one, replies_told history rs k.0 new k.2 s.3 k.4 none rest, s.8))
+      let t : Settles replaces history (held_of commits held.soon ∷ k.0.behind) bytes text = subst (λ (hs : List (BatchEntry A)). Settles replaces history hs bytes text) held.known settles in
+      let cut = same_cut t.0 t.1 k.1 k.2 (sym t.4 ∙ k.5) (t.5 ∙ ap length (sym held.is)) in
+      let one : SettlesOne replaces history (wait_of commits held.soon.wait) held.soon.reply.items t.2 =
+      subst (λ (u : List ℕ). SettlesOne replaces history (wait_of commits held.soon.wait) u t.2) (cut.0 ∙ held.is) t.6 in
+      let rest : Settles replaces history k.0.behind k.2 t.3 = subst (λ (u : List ℕ). Settles replaces history k.0.behind u t.3) cut.1 t.7 in
+      (h.0, h.1, (k.0.talk, t.2, t.3, talk_told history h.0 old k.0 k.1 t.2 held one, replies_told history rs k.0 new k.2 t.3 k.4 none rest, t.8))
 
 -- ---- what is told of replies that are held
 

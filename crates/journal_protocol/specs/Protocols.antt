@@ -1,17 +1,26 @@
 -- The answers of a protocol, whatever the protocol and its store.
-use Rattle.std.specs.Prelude.{◌≤◌, ℕ, List, Option, Some, None, IfSome}
+use Rattle.std.specs.Prelude.{◌≡◌, ◌≤◌, ℕ, IsTrue, List, Option, Some, None, IfSome}
 use mathlib.Core.List.{IsPrefix}
+use Rattle.journal_rpc.specs.declared.marking.Marking.{Marking}
 use Rattle.journal_world.specs.Histories.{Entry, floor}
 use Rattle.journal_history.specs.Tokens.{SessionState}
 use Rattle.journal_inode.specs.declared.node.Time.{Time}
-use Rattle.journal_rpc.specs.Calls.{Message}
 use Rattle.journal_protocol.specs.declared.held_reply.HeldWait.{HeldWait}
 use Rattle.journal_protocol.specs.declared.held_reply.HeldReply.{HeldReply}
 
 -- Which text is the reply to a call at a moment, by the marks of a history, from what the session
 -- had seen to what it has seen then
-abbrev pub Answering : Type 1
-Answering = List Entry → Time → Message → SessionState → SessionState → List ℕ → Type 0
+abbrev pub Answering : Type 0 → Type 1
+Answering C = List Entry → Time → C → SessionState → SessionState → List ℕ → Type 0
+
+-- A protocol's records: how they are marked, which are calls, which text is the reply to a call,
+-- what a call does whose reply was lost, and which replies end the connection
+pub record Service (C : Type 0) : Type 1 where
+  pub marking : Marking
+  pub reads : List ℕ → Option C
+  pub answers : Answering C
+  pub does : Answering C
+  pub stops : List ℕ → Type 0
 
 -- Which text is sent in place of a reply that waits, by what is remembered of its call: it says
 -- that the reply is not known to be stable
@@ -24,18 +33,31 @@ IsPaid commits n None = Unit {0}
 IsPaid commits n (Some wait) = commits wait.receipt ≤ n
 
 -- A reply to a call that is done up to its commit
-pub record IsHeldReply {A R : Type 0} (answers : Answering) (replaces : Replacing A) (commits : R → ℕ) (moment : Time) (call : Message) (old new : SessionState) (soon : HeldReply A R) : Type 0 where
+pub record IsHeldReply {C A R : Type 0} (s : Service C) (replaces : Replacing A) (commits : R → ℕ) (moment : Time) (call : C) (old new : SessionState) (soon : HeldReply A R) : Type 0 where
   -- it is the call's reply by the marks of each history whose mark covers what it waits for
-  pub paid : (history : List Entry) → IsPaid commits (floor history) soon.wait → answers history moment call old new soon.reply.items
+  pub paid : (history : List Entry) → IsPaid commits (floor history) soon.wait → s.answers history moment call old new soon.reply.items
   -- and by any marks, that which is sent in its place
-  pub replaced : IfSome soon.wait (λ wait. (history : List Entry) (text : List ℕ) → replaces wait.call text → answers history moment call old new text)
+  pub replaced : IfSome soon.wait (λ wait. (history : List Entry) (text : List ℕ) → replaces wait.call text → s.answers history moment call old new text)
+  -- one that ends the connection has no wait
+  pub ends : IsTrue soon.ends → (soon.wait ≡ None) × s.stops soon.reply.items
 
--- The laws of the replies of each protocol
-pub record IsLawful (answers : Answering) : Type 0 where
+-- A record was answered so, or is no call, which changes nothing
+abbrev pub IsAnswered : {C A R : Type 0} → Service C → Replacing A → (R → ℕ) → Time → List ℕ → SessionState → SessionState → Option (HeldReply A R) → Type 0
+IsAnswered s replaces commits moment bytes old new None = (s.reads bytes ≡ None) × (new ≡ old)
+IsAnswered {C} s replaces commits moment bytes old new (Some soon) = (call : C) × (s.reads bytes ≡ Some call) × IsHeldReply s replaces commits moment call old new soon
+
+-- A record's call was done, by each history with some text as its reply, and it was lost
+abbrev pub IsLost : {C : Type 0} → Service C → Time → List ℕ → SessionState → SessionState → Type 0
+IsLost {C} s moment bytes old new = (call : C) × (s.reads bytes ≡ Some call) × ((history : List Entry) → (reply : List ℕ) × s.does history moment call old new reply)
+
+-- The laws of the replies of each protocol, and of those that were lost
+pub record IsLawful {C : Type 0} (s : Service C) : Type 0 where
   -- the session has seen all that it had seen
-  pub grows : (history : List Entry) (now : Time) (call : Message) (old new : SessionState) (text : List ℕ) → answers history now call old new text → IsPrefix old.seen new.seen
+  pub grows : (history : List Entry) (now : Time) (call : C) (old new : SessionState) (text : List ℕ) → s.does history now call old new text → IsPrefix old.seen new.seen
   -- a reply stays the call's in each history that has greater marks
-  pub stays : (now : Time) (call : Message) (old new : SessionState) (history longer : List Entry) (text : List ℕ) → answers history now call old new text → floor history ≤ floor longer → answers longer now call old new text
+  pub stays : (now : Time) (call : C) (old new : SessionState) (history longer : List Entry) (text : List ℕ) → s.answers history now call old new text → floor history ≤ floor longer → s.answers longer now call old new text
+  -- what is answered is done
+  pub done : (history : List Entry) (now : Time) (call : C) (old new : SessionState) (text : List ℕ) → s.answers history now call old new text → s.does history now call old new text
 
 -- of each call that waits some text says that it is not known to be stable
 abbrev pub IsRefusable : {A : Type 0} → Replacing A → Type 0

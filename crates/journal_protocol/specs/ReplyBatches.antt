@@ -1,16 +1,16 @@
 -- Replies that are held back, and what is told of them.
-use Rattle.std.specs.Prelude.{◌≡◌, ◌≢◌, ◌≤◌, ℕ, ◌+◌, List, [], ◌∷◌, ◌++◌, length, drop, Option, Some, None, ◌⊎◌}
+use Rattle.std.specs.Prelude.{◌≡◌, ◌≢◌, ◌≤◌, ℕ, ◌+◌, false, List, [], ◌∷◌, ◌++◌, length, drop, Option, Some, None, ◌⊎◌}
 use Rattle.std.specs.Io.KnownBytes.{Appends}
 use Rattle.journal_world.specs.Histories.{Entry, floor}
 use Rattle.journal_history.specs.Tokens.{SessionState}
 use Rattle.journal_inode.specs.declared.node.Time.{Time}
-use Rattle.journal_rpc.specs.Calls.{Message}
-use Rattle.journal_protocol.specs.Protocols.{Answering, Replacing, IsHeldReply}
+use Rattle.journal_protocol.specs.Protocols.{Service, Replacing, IsHeldReply}
 use Rattle.journal_protocol.specs.declared.held_reply.HeldWait.{HeldWait}
 use Rattle.journal_protocol.specs.declared.held_reply.HeldReply.{HeldReply}
 use Rattle.journal_protocol.specs.declared.reply_batch.BatchWait.{BatchWait}
 use Rattle.journal_protocol.specs.declared.reply_batch.BatchEntry.{BatchEntry}
 use Rattle.journal_protocol.specs.declared.reply_batch.ReplyBatch.{ReplyBatch}
+use Rattle.journal_protocol.specs.Output.{Talk}
 use Rattle.journal_protocol.specs.Sending.{AppendsFront}
 
 -- ---- what is held
@@ -25,24 +25,26 @@ abbrev pub held_of : {A R : Type 0} → (R → ℕ) → HeldReply A R → BatchE
 held_of commits soon = record { length = length soon.reply.items; wait = wait_of commits soon.wait }
 
 -- the call was done at a moment that the clock may tell, up to its commit
-pub record IsNoWaitReply {A R : Type 0} (replies : Answering) (replaces : Replacing A) (commits : R → ℕ) (tells : Time → Type 0) (call : Message) (old new : SessionState) (soon : HeldReply A R) : Type 0 where
+pub record IsNoWaitReply {C A R : Type 0} (s : Service C) (replaces : Replacing A) (commits : R → ℕ) (tells : Time → Type 0) (call : C) (old new : SessionState) (soon : HeldReply A R) : Type 0 where
   pub moment : Time
   pub told : tells moment
-  pub held : IsHeldReply replies replaces commits moment call old new soon
+  pub held : IsHeldReply s replaces commits moment call old new soon
 
--- what a session has seen, and what is known of the replies behind that are held
+-- how far the talk is, and what is known of the replies that are held from there on
 pub record Doing (A : Type 0) : Type 0 where
-  pub session : SessionState
+  pub talk : Talk
   pub behind : List (BatchEntry A)
 
-abbrev pub doing : {A : Type 0} → SessionState → List (BatchEntry A) → Doing A
-doing session behind = record { session = session; behind = behind }
+abbrev pub doing : {A : Type 0} → Talk → List (BatchEntry A) → Doing A
+doing talk behind = record { talk = talk; behind = behind }
 
--- The text is the reply to the call as it is held, and what is known of it is the first that is
--- left
-pub record IsHeld {A R : Type 0} (replies : Answering) (replaces : Replacing A) (commits : R → ℕ) (tells : Time → Type 0) (call : Message) (old new : Doing A) (text : List ℕ) : Type 0 where
+-- The text is the reply to the call as it is held, what is known of it is the first that is left,
+-- and the talk is over where the reply ends it
+pub record IsHeld {C A R : Type 0} (s : Service C) (replaces : Replacing A) (commits : R → ℕ) (tells : Time → Type 0) (call : C) (old new : Doing A) (text : List ℕ) : Type 0 where
+  pub goes : old.talk.over ≡ false
   pub soon : HeldReply A R
-  pub done : IsNoWaitReply replies replaces commits tells call old.session new.session soon
+  pub done : IsNoWaitReply s replaces commits tells call old.talk.session new.talk.session soon
+  pub ends : new.talk.over ≡ soon.ends
   pub known : old.behind ≡ held_of commits soon ∷ new.behind
   pub is : text ≡ soon.reply.items
 

@@ -1,10 +1,9 @@
 // A connection, from its first byte to its end.
-ghost use Rattle.std.specs.Prelude.{◌≡◌, ◌<◌, ◌^◌, true, IsTrue, length, IfOk, OnErr};
+ghost use Rattle.std.specs.Prelude.{◌≡◌, ◌<◌, [], true, IsTrue, length, IfOk, OnErr};
 ghost use Rattle.journal_world.specs.Histories.{is_fenced};
 ghost use Rattle.journal_rpc.specs.Stream.{IsBetween};
-ghost use Rattle.journal_protocol.specs.Output.{IsReplyBy, RepliesUpToBad, records_of, answered_of};
-ghost use Rattle.journal_protocol.specs.Connections.{Exchanges, IsEnd, Closes, IsBeginning, IsBefore};
-ghost use Rattle.journal_protocol.specs.Serving.{Fails, Progresses, ServesTo, Finished, Failed, Telling, IsFencedAsTold};
+ghost use Rattle.journal_protocol.specs.Connections.{IsBefore};
+ghost use Rattle.journal_protocol.specs.Serving.{Start, starts, Pauses, Closes, ServesTo, Finished, GivenUp, Fails, Progresses, IsFencedAsTold};
 
 use crate::answerer::Answerer;
 use crate::clock::Clock;
@@ -12,8 +11,9 @@ use crate::pace::{NoPause, Pace};
 use crate::pieces::answer_piece;
 use crate::protocol::Protocol;
 use crate::reply_batch::ReplyBatch;
+use crate::replying::Outcome;
 use crate::streams::{NoPiece, read_piece};
-use journal_daemon::Gate;
+use journal_gate::Gate;
 use journal_rpc::Records;
 use std::io::{Read, Write};
 use std::sync::Wait;
@@ -29,9 +29,11 @@ pub enum End {
     EndOfInput,
     /// The input ended within a record, which has no reply.
     Truncated,
-    /// A record was no call, or was longer than `journal_rpc::RECORD_BYTES`. What came behind it
-    /// has no reply.
+    /// A record was no call, or was longer than a record may be. It has no reply, and neither has
+    /// what came after it.
     BadRecord,
+    /// A reply ended the connection. No record after its call has a reply.
+    Stopped,
 }
 
 /// How many records of a connection were answered, how it ended, and whether its session is fenced.
@@ -66,6 +68,8 @@ pub enum ConnFault {
     WriteFailed,
     /// Memory was refused for what was read, or for a reply.
     NoMemory,
+    /// No record can hold a reply.
+    NoRecord,
 }
 
 /// Answers the calls that the reader gives, in order, up to the first bad record, each at the
@@ -87,6 +91,7 @@ pub enum ConnFault {
 /// - `ReadFailed`: the reader failed.
 /// - `WriteFailed`: the writer failed, or took no byte.
 /// - `NoMemory`: memory was refused for what was read, or for a reply.
+/// - `NoRecord`: no record can hold a reply.
 pub fn serve_protocol<R: Read, W: Write, P: Protocol, C: Clock, G: Gate, H: Wait>(
     rt: &H,
     answerer: &Answerer<'_, P, C, G>,
@@ -94,21 +99,14 @@ pub fn serve_protocol<R: Read, W: Write, P: Protocol, C: Clock, G: Gate, H: Wait
     reader: &mut R,
     writer: &mut W,
 ) -> Result<Served, ConnFault>
-    // What was written is the replies to the records of what was read, in order, up to the first
-    // that is no call. Each is its call's reply at a moment of the clock, between the history that
-    // the session had seen after the reply before it and the one that it saw then. A change that
-    // has to be stable is marked in the history that the session had seen after the last reply. It
-    // has only seen more since, the fence.
-    ensures replies { IfOk result (λ served. Exchanges (R.remaining reader.old) (R.remaining reader.new) (W.contents writer.old) (W.contents writer.new)
-        (λ input text. IsBefore (P.seen session.new) (λ last. RepliesUpToBad (IsReplyBy (P.answers answerer.now.protocol.now) (C.tells answerer.now.clock.now) last.seen) (records_of input) (P.seen session.old) last text))) }
-
-    // They are counted.
-    ensures counted { IfOk result (λ served. Exchanges (R.remaining reader.old) (R.remaining reader.new) (W.contents writer.old) (W.contents writer.new)
-        (λ input text. answered_of (records_of input) < 2 ^ 64 → served.answered ≡ answered_of (records_of input))) }
-
-    // Each end comes only where it holds.
-    ensures ended { IfOk result (λ served. Exchanges (R.remaining reader.old) (R.remaining reader.new) (W.contents writer.old) (W.contents writer.new)
-        (λ input text. IsEnd served.end input (R.remaining reader.new))) }
+    // What was written is the replies to the first records of what was read, in order, up to where
+    // the connection ends. Each is its call's reply at a moment of the clock, between the history
+    // that the session had seen after the reply before it and the one that it saw then. A change
+    // that has to be stable is marked in the history that the session had seen after the last
+    // reply. It has only seen more since, the fence. The replies are counted, and each end comes
+    // only where it holds.
+    ensures replies { IfOk result (λ served. IsBefore (P.seen session.new) (λ last. Finished (P.service answerer.now.protocol.now) (C.tells answerer.now.clock.now)
+        (starts (R.remaining reader.old) (W.contents writer.old) (P.seen session.old) 0) (R.remaining reader.new) (W.contents writer.new) served.end last served.answered)) }
 
     // The fence stands where it says so.
     ensures fenced { IfOk result (λ served. IsTrue served.fenced → is_fenced (P.seen session.new).number (P.seen session.new).seen ≡ true) }
@@ -116,8 +114,8 @@ pub fn serve_protocol<R: Read, W: Write, P: Protocol, C: Clock, G: Gate, H: Wait
     // Where it gave up, what was written is a beginning of the replies to a front of the records of
     // what was read, and the session has seen what these come to, with the marks of what was
     // written, and then at most more.
-    ensures given_up { OnErr result (Exchanges (R.remaining reader.old) (R.remaining reader.new) (W.contents writer.old) (W.contents writer.new)
-        (λ input text. IsBefore (P.seen session.new) (λ last. IsBeginning (IsReplyBy (P.answers answerer.now.protocol.now) (C.tells answerer.now.clock.now) last.seen) (records_of input) (P.seen session.old) last text))) }
+    ensures given_up { OnErr result (Fails (P.service answerer.now.protocol.now) (C.tells answerer.now.clock.now)
+        (starts (R.remaining reader.old) (W.contents writer.old) (P.seen session.old) 0) (R.remaining reader.new) (W.contents writer.new) (P.seen session.new)) }
 {
     let Ok(mut buffer) = vec![in answerer.alloc; 0u8; PIECE_BYTES] else {
         let protocol = answerer.protocol;
@@ -138,11 +136,11 @@ fn serve_in_turns<R: Read, W: Write, P: Protocol, C: Clock, G: Gate, H: Wait>(
     buffer: &mut [u8],
 ) -> Result<Served, ConnFault>
     requires { 0 < length buffer.old }
-    ensures served { IfOk result (λ served. IsBefore (P.seen session.new) (λ last. Finished (Telling (P.answers answerer.now.protocol.now) (C.tells answerer.now.clock.now) last)
-        (R.remaining reader.old) (R.remaining reader.new) (W.contents writer.old) (W.contents writer.new) (P.seen session.old) last 0 served.answered served.end)) }
+    ensures served { IfOk result (λ served. IsBefore (P.seen session.new) (λ last. Finished (P.service answerer.now.protocol.now) (C.tells answerer.now.clock.now)
+        (starts (R.remaining reader.old) (W.contents writer.old) (P.seen session.old) 0) (R.remaining reader.new) (W.contents writer.new) served.end last served.answered)) }
     ensures fenced { IfOk result (λ served. IsTrue served.fenced → is_fenced (P.seen session.new).number (P.seen session.new).seen ≡ true) }
-    ensures given_up { OnErr result (Fails (P.answers answerer.now.protocol.now) (C.tells answerer.now.clock.now)
-        (R.remaining reader.old) (R.remaining reader.new) (W.contents writer.old) (W.contents writer.new) (P.seen session.old) (P.seen session.new)) }
+    ensures given_up { OnErr result (Fails (P.service answerer.now.protocol.now) (C.tells answerer.now.clock.now)
+        (starts (R.remaining reader.old) (W.contents writer.old) (P.seen session.old) 0) (R.remaining reader.new) (W.contents writer.new) (P.seen session.new)) }
 {
     let mut answered = 0;
     for _ in rt.forever() {
@@ -174,6 +172,7 @@ fn serve_in_turns<R: Read, W: Write, P: Protocol, C: Clock, G: Gate, H: Wait>(
 /// # Errors
 /// - `ReadFailed`, `WriteFailed`: the reader or the writer failed.
 /// - `NoMemory`: memory is refused for what was read, or for a reply.
+/// - `NoRecord`: no record can hold a reply.
 ///
 /// The session is fenced then, as at an end.
 pub fn serve_to_pause<R: Read, W: Write, P: Protocol, C: Clock, G: Gate, A: Pace, H: Wait>(
@@ -187,17 +186,18 @@ pub fn serve_to_pause<R: Read, W: Write, P: Protocol, C: Clock, G: Gate, A: Pace
     answered: &mut u64,
 ) -> Result<Progress, ConnFault>
     requires room { 0 < length buffer.old }
-    // Where it pauses, what was read is whole records, each a call, and what was written is the
-    // replies to them. Where it ends, this is as `serve_protocol` has it.
-    ensures served { IfOk result (λ progress. Progresses (P.answers answerer.now.protocol.now) (C.tells answerer.now.clock.now) progress
-        (R.remaining reader.old) (R.remaining reader.new) (W.contents writer.old) (W.contents writer.new) (P.seen session.old) (P.seen session.new) answered.old answered.new) }
+    // Where a connection paused as this begins, so that what was read is records, each a call that
+    // was answered, it pauses so again, or it ends as `serve_protocol` has it. Each connection does
+    // at its start.
+    ensures served { IfOk result (λ progress. (start : Start) → Pauses (P.service answerer.now.protocol.now) (C.tells answerer.now.clock.now) start (R.remaining reader.old) (W.contents writer.old) (P.seen session.old) answered.old
+        → Progresses (P.service answerer.now.protocol.now) (C.tells answerer.now.clock.now) progress start (R.remaining reader.new) (W.contents writer.new) (P.seen session.new) answered.new) }
 
     // There is a fence where it says so.
     ensures fenced { IfOk result (λ progress. IsFencedAsTold progress (P.seen session.new)) }
 
     // Where it gave up, this is as `serve_protocol` has it.
-    ensures given_up { OnErr result (Fails (P.answers answerer.now.protocol.now) (C.tells answerer.now.clock.now)
-        (R.remaining reader.old) (R.remaining reader.new) (W.contents writer.old) (W.contents writer.new) (P.seen session.old) (P.seen session.new)) }
+    ensures given_up { OnErr result ((start : Start) → Pauses (P.service answerer.now.protocol.now) (C.tells answerer.now.clock.now) start (R.remaining reader.old) (W.contents writer.old) (P.seen session.old) answered.old
+        → Fails (P.service answerer.now.protocol.now) (C.tells answerer.now.clock.now) start (R.remaining reader.new) (W.contents writer.new) (P.seen session.new)) }
     ensures buffer { length buffer.new ≡ length buffer.old }
 {
     let protocol = answerer.protocol;
@@ -232,20 +232,20 @@ fn answer_to_pause<R: Read, W: Write, P: Protocol, C: Clock, G: Gate, A: Pace, H
     answered: &mut u64,
 ) -> Result<Option<End>, ConnFault>
     requires { 0 < length buffer.old }
-    ensures served { IfOk result (λ end. ServesTo (Telling (P.answers answerer.now.protocol.now) (C.tells answerer.now.clock.now) (P.seen session.new)) end
-        (R.remaining reader.old) (R.remaining reader.new) (W.contents writer.old) (W.contents writer.new) (P.seen session.old) (P.seen session.new) answered.old answered.new) }
-    ensures given_up { OnErr result (Failed (Telling (P.answers answerer.now.protocol.now) (C.tells answerer.now.clock.now) (P.seen session.new))
-        (R.remaining reader.old) (R.remaining reader.new) (W.contents writer.old) (W.contents writer.new) (P.seen session.old) (P.seen session.new)) }
+    ensures served { IfOk result (λ end. (start : Start) → Pauses (P.service answerer.now.protocol.now) (C.tells answerer.now.clock.now) start (R.remaining reader.old) (W.contents writer.old) (P.seen session.old) answered.old
+        → ServesTo (P.service answerer.now.protocol.now) (C.tells answerer.now.clock.now) end start (R.remaining reader.new) (W.contents writer.new) (P.seen session.new) answered.new) }
+    ensures given_up { OnErr result ((start : Start) → Pauses (P.service answerer.now.protocol.now) (C.tells answerer.now.clock.now) start (R.remaining reader.old) (W.contents writer.old) (P.seen session.old) answered.old
+        → GivenUp (P.service answerer.now.protocol.now) (C.tells answerer.now.clock.now) start (R.remaining reader.new) (W.contents writer.new) (P.seen session.new)) }
     ensures buffer { length buffer.new ≡ length buffer.old }
 {
-    let mut records = Records::new(answerer.alloc);
-    let Ok(mut batch) = ReplyBatch::new(answerer.alloc) else {
-        return Err(ConnFault::NoMemory);
-    };
+    let marking = answerer.protocol.marking();
+    let mut records = Records::new(answerer.alloc, marking);
+    let mut batch = ReplyBatch::new(answerer.alloc);
     for _ in rt.forever() {
         if is_to_pause(&records, pace) {
             return Ok(None);
         }
+        pace.note_begun(records.begun_bytes());
         let count = match read_piece(reader, buffer) {
             Ok(count) => count,
             Err(NoPiece::NotYet) => continue,
@@ -254,7 +254,7 @@ fn answer_to_pause<R: Read, W: Write, P: Protocol, C: Clock, G: Gate, A: Pace, H
         if count == 0 {
             return Ok(Some(end_of(&records)));
         }
-        let goes_on = answer_piece(
+        let outcome = answer_piece(
             rt,
             answerer,
             session,
@@ -264,8 +264,10 @@ fn answer_to_pause<R: Read, W: Write, P: Protocol, C: Clock, G: Gate, A: Pace, H
             &buffer[..count],
             writer,
         )?;
-        if !goes_on {
-            return Ok(Some(End::BadRecord));
+        match outcome {
+            Outcome::GoesOn => {}
+            Outcome::Bad => return Ok(Some(End::BadRecord)),
+            Outcome::Ended => return Ok(Some(End::Stopped)),
         }
     }
     unreachable!()

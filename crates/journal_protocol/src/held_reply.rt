@@ -39,4 +39,6 @@ pub struct HeldReply<A, R> {
     pub reply: Vec<u8>,
     /// The wait, or `None` if the reply may be sent at once.
     pub wait: Option<HeldWait<A, R>>,
+    /// True if the connection ends with it: no later record is answered.
+    pub ends: bool,
 }

@@ -1,8 +1,9 @@
 //! A connection of a service, whatever the service: calls come in, and their replies go out.
 //!
-//! What a call is answered is a `Protocol`'s matter: it does a call on its store up to the call's
-//! commit, and says which wait comes before the reply may be sent. The store, its journal and the
-//! rule of its maps are the protocol's own, so nothing here names a file or a block.
+//! What a call is answered is a `Protocol`'s matter: it reads a record as a call, does the call on
+//! its store up to the call's commit, and says which wait comes before the reply may be sent. The
+//! store, its journal and the rule of its maps are the protocol's own, so nothing here names a file
+//! or a block. How the records are marked is the protocol's too (`journal_rpc::Marking`).
 //!
 //! `serve_protocol` answers the calls of one connection, over any reader and any writer. It reads
 //! pieces into one buffer, does the calls that are complete, in order, waits once until the last of
@@ -35,3 +36,4 @@ pub use connection::{ConnFault, End, Progress, Served, serve_protocol, serve_to_
 pub use held_reply::{Counted, HeldReply, HeldWait};
 pub use pace::{NoPause, Pace};
 pub use protocol::Protocol;
+pub use streams::{StreamFailed, write_whole};

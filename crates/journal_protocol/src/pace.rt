@@ -5,6 +5,10 @@ pub trait Pace {
     /// True if it is to pause now. Asked before each reading of a connection that has no record
     /// begun, and whose replies were all sent.
     fn is_to_pause(&self) -> bool;
+
+    /// Called before each other reading, with how many bytes are kept of a record that is begun. It
+    /// may wait until there is memory for more.
+    fn note_begun(&self, bytes: usize);
 }
 
 /// That a connection is served to its end without a pause.
@@ -15,4 +19,6 @@ impl Pace for NoPause {
     fn is_to_pause(&self) -> bool {
         false
     }
+
+    fn note_begun(&self, _bytes: usize) {}
 }

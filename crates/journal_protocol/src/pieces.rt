@@ -1,17 +1,18 @@
 // A piece of the input, as many of its records at a time as may wait.
-ghost use Rattle.std.specs.Prelude.{◌≡◌, ◌≢◌, ◌<◌, [], length, IfOk, OnErr, MatchBool};
-ghost use Rattle.journal_rpc.specs.Stream.{after};
+ghost use Rattle.std.specs.Prelude.{◌≡◌, ◌≢◌, ◌<◌, ℕ, List, [], length, Option, IfOk, OnErr};
 ghost use Rattle.journal_rpc.specs.declared.part.Part.TheVariants.{TooLong};
-ghost use Rattle.journal_protocol.specs.Output.{IsReplyBy};
-ghost use Rattle.journal_protocol.specs.Sending.{Takes, StreamGoesOn, EndsBad, SentInPart};
+ghost use Rattle.journal_protocol.specs.declared.replying.Outcome.TheVariants.{GoesOn};
+ghost use Rattle.journal_protocol.specs.Output.{going};
+ghost use Rattle.journal_protocol.specs.Sending.{Takes};
+ghost use Rattle.journal_protocol.specs.Serving.{Start, SoFar, ComesTo, GivenUp};
 
 use crate::answerer::Answerer;
 use crate::clock::Clock;
 use crate::connection::ConnFault;
 use crate::protocol::Protocol;
 use crate::reply_batch::ReplyBatch;
-use crate::replying::answer_and_send;
-use journal_daemon::Gate;
+use crate::replying::{Outcome, answer_and_send};
+use journal_gate::Gate;
 use journal_rpc::{FeedRefused, Records};
 use std::alloc::AllocError;
 use std::io::Write;
@@ -26,8 +27,7 @@ pub(crate) enum Taken {
     Overlong,
 }
 
-// Answers the calls of a piece, and sends the replies. `false` says that the connection ends with
-// it: a record is no call, or too long.
+// Answers the calls of a piece, and sends the replies.
 //
 // A piece of records that are short has far more of them than one of calls, and each takes memory.
 // So they are taken and answered some at a time.
@@ -40,39 +40,41 @@ pub(crate) fn answer_piece<P: Protocol, C: Clock, G: Gate, H: Wait, W: Write>(
     answered: &mut u64,
     piece: &[u8],
     writer: &mut W,
-) -> Result<bool, ConnFault>
+) -> Result<Outcome, ConnFault>
     requires none { records.old.records ≡ [] }
     requires short { records.old.part ≢ TooLong }
-    ensures sent { IfOk result (λ goes_on. MatchBool goes_on
-        (StreamGoesOn (IsReplyBy (P.answers answerer.now.protocol.now) (C.tells answerer.now.clock.now) (P.seen session.new).seen) (after records.old piece.now) records.new
-        (P.seen session.old) (P.seen session.new) (W.contents writer.old) (W.contents writer.new) answered.old answered.new)
-        (EndsBad (IsReplyBy (P.answers answerer.now.protocol.now) (C.tells answerer.now.clock.now) (P.seen session.new).seen) (after records.old piece.now) records.new
-        (P.seen session.old) (P.seen session.new) (W.contents writer.old) (W.contents writer.new) answered.old answered.new)) }
-    ensures in_part { OnErr result (SentInPart (IsReplyBy (P.answers answerer.now.protocol.now) (C.tells answerer.now.clock.now) (P.seen session.new).seen)
-        (after records.old piece.now) (P.seen session.old) (P.seen session.new) (W.contents writer.old) (W.contents writer.new)) }
+    ensures sent { IfOk result (λ outcome. (start : Start) (left : Option (List ℕ))
+        → SoFar (P.service answerer.now.protocol.now) (C.tells answerer.now.clock.now) start left (W.contents writer.old) piece.now records.old (going (P.seen session.old)) answered.old
+        → ComesTo (P.service answerer.now.protocol.now) (C.tells answerer.now.clock.now) outcome start left (W.contents writer.new) [] records.new (P.seen session.new) answered.new) }
+    ensures given_up { OnErr result ((start : Start) (left : Option (List ℕ))
+        → SoFar (P.service answerer.now.protocol.now) (C.tells answerer.now.clock.now) start left (W.contents writer.old) piece.now records.old (going (P.seen session.old)) answered.old
+        → GivenUp (P.service answerer.now.protocol.now) (C.tells answerer.now.clock.now) start left (W.contents writer.new) (P.seen session.new)) }
+    ensures short { IfOk result (λ outcome. outcome ≡ GoesOn → (records.new.records ≡ []) × (records.new.part ≢ TooLong)) }
 {
     let mut rest = piece;
     while !rest.is_empty() {
         let Ok(taken) = take_piece(records, rest) else {
             return Err(ConnFault::NoMemory);
         };
-        let good = answer_and_send(rt, answerer, session, records, batch, answered, writer)?;
-        if !good {
-            return Ok(false);
+        let outcome = answer_and_send(rt, answerer, session, records, batch, answered, writer)?;
+        match outcome {
+            Outcome::GoesOn => {}
+            Outcome::Bad => return Ok(Outcome::Bad),
+            Outcome::Ended => return Ok(Outcome::Ended),
         }
         match taken {
             Taken::Front(count) => {
                 let (_, more) = rest.split_at(count);
                 rest = more;
             }
-            Taken::Overlong => return Ok(false),
+            Taken::Overlong => return Ok(Outcome::Bad),
         }
     }
-    Ok(true)
+    Ok(Outcome::GoesOn)
 }
 
 // Takes as much of a piece as it has records that may wait.
-#[tactic(auto, using(crate::proofs::PieceSteps::takes_front))]
+#[tactic(auto, using(crate::proofs::Serving::takes_front))]
 fn take_piece(records: &mut Records, piece: &[u8]) -> Result<Taken, AllocError>
     requires none { records.old.records ≡ [] }
     requires some { 0 < length piece.now }

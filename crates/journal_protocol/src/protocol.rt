@@ -1,19 +1,19 @@
 // What the calls of connections are answered by.
-ghost use Rattle.std.specs.Prelude.{◌≡◌, ◌≤◌, ℕ, List, true, IsTrue, IfOk, OnOk, OnErr};
-ghost use Rattle.journal_world.specs.Histories.{Entry, floor, is_fenced};
+ghost use Rattle.std.specs.Prelude.{◌≡◌, ◌≤◌, true, IsTrue, IfOk, OnOk, OnErr};
+ghost use Rattle.journal_world.specs.Histories.{floor, is_fenced};
 ghost use Rattle.journal_history.specs.Tokens.{SessionState, OnlyExtends};
-ghost use Rattle.journal_rpc.specs.CallViews.{message_of};
 ghost use Rattle.journal_protocol.specs.Moments.{time_of};
-ghost use Rattle.journal_protocol.specs.Protocols.{Answering, Replacing, IsHeldReply, IsLawful, IsRefusable};
+ghost use Rattle.journal_protocol.specs.Protocols.{Service, Replacing, IsAnswered, IsLost, IsLawful, IsRefusable};
 
+use crate::connection::ConnFault;
 use crate::held_reply::{Counted, HeldReply};
-use journal_rpc::Call;
+use journal_rpc::Marking;
 use journal_world::{Moment, Refusal};
 use std::alloc::{AllocError, Global};
 use std::sync::Wait;
 
 /// A protocol over a store: what the calls of connections are answered by. The store, its journal
-/// and the rule of its maps are the protocol's own. Its calls are read by `journal_rpc`.
+/// and the rule of its maps are the protocol's own, and so is the reading of a record as a call.
 ///
 /// A reply is that of its call by the marks of a history: by those that the session has seen before
 /// it is sent. So a call is done up to its commit, its reply is held, and one wait serves many.
@@ -27,33 +27,40 @@ pub trait Protocol {
     /// A call whose reply waits, as `refused_reply` needs it.
     type Awaited: Drop;
 
+    // Its calls, as clauses see them.
+    ghost Call: { Type 0 };
+
     // The state of a session.
     ghost seen: { Self.Session → SessionState };
 
-    // Which text is the reply to a call at a moment, by the marks of a history, and the state of
-    // the session then.
-    ghost answers: { Self → Answering };
+    // How its records are marked, which are calls, and what each is replied.
+    ghost service: { Self → Service Call };
 
     // Which text is sent in place of a reply whose wait is refused.
     ghost replaces: { Self → Replacing Self.Awaited };
 
-    /// The reply to a call up to its commit, as a record, and the wait before it may be sent. It
-    /// may wait for the journal.
+    /// How its records are marked.
+    fn marking(&self) -> Marking
+        ensures { result ≡ (service self.now).marking };
+
+    /// The reply to a record's call up to its commit, as a record, and the wait before it may be
+    /// sent, or `None` if the record is no call. It may wait for the journal.
     ///
     /// # Errors
-    /// Memory for the reply is refused. The call is done all the same, and its reply is lost.
+    /// The reply is lost, and the call is done all the same.
+    /// - `NoMemory`: memory for the reply is refused.
+    /// - `NoRecord`: no record can hold the reply.
     fn answer_no_wait<W: Wait>(
         &self,
         rt: &W,
         alloc: Global,
         session: &mut Self::Session,
-        call: &Call<'_>,
+        bytes: &[u8],
         moment: Moment,
-    ) -> Result<HeldReply<Self::Awaited, Self::Receipt>, AllocError>
-        ensures held { IfOk result (IsHeldReply (answers self.now) (replaces self.now) Self.Receipt.commits (time_of moment) (message_of call.now)
+    ) -> Result<Option<HeldReply<Self::Awaited, Self::Receipt>>, ConnFault>
+        ensures held { IfOk result (IsAnswered (service self.now) (replaces self.now) Self.Receipt.commits (time_of moment) bytes.now
             (seen session.old) (seen session.new)) }
-        ensures lost { OnErr result ((history : List Entry) → (reply : List ℕ) × answers self.now history (time_of moment)
-            (message_of call.now) (seen session.old) (seen session.new) reply) };
+        ensures lost { OnErr result (IsLost (service self.now) (time_of moment) bytes.now (seen session.old) (seen session.new)) };
 
     /// The reply that is sent in place of one that has a wait, where the wait is refused.
     ///
@@ -91,7 +98,7 @@ pub trait Protocol {
         ensures extends { OnlyExtends (seen session.old) (seen session.new) };
 
     // The laws of the replies of each protocol.
-    ghost lawful: { (p : Self) → IsLawful (answers p) };
+    ghost lawful: { (p : Self) → IsLawful (service p) };
 
     ghost refusable: { (p : Self) → IsRefusable (replaces p) };
 }

@@ -12,7 +12,7 @@ use crate::connection::ConnFault;
 use crate::held_reply::{Counted, HeldReply, HeldWait};
 use crate::protocol::Protocol;
 use crate::streams::write_whole;
-use journal_daemon::Gate;
+use journal_gate::Gate;
 use journal_world::Refusal;
 use std::alloc::{AllocError, Global};
 use std::io::Write;
@@ -22,7 +22,7 @@ use std::sync::Wait;
 // stays small however much the calls ask for.
 const BYTES_AT_ONCE: usize = 65536;
 
-// So many replies are, so that the room for what is known of each is reserved once.
+// So many replies are, so that the room for what is known of each stays small.
 const REPLIES_AT_ONCE: usize = 1024;
 
 // The wait of a reply: what is remembered of its call, and how many commits are to be stable.
@@ -52,17 +52,14 @@ pub(crate) struct ReplyBatch<A, R> {
 }
 
 impl<A: Drop, R: Counted + Drop> ReplyBatch<A, R> {
-    /// Nothing is held, and there is room for what is known of the replies of a turn.
-    ///
-    /// # Errors
-    /// - Memory is refused.
-    pub fn new(alloc: Global) -> Result<ReplyBatch<A, R>, AllocError> {
-        Ok(ReplyBatch {
+    // Nothing is held. The call takes no memory.
+    pub fn new(alloc: Global) -> ReplyBatch<A, R> {
+        ReplyBatch {
             bytes: Vec::new(alloc),
-            replies: Vec::with_capacity(alloc, REPLIES_AT_ONCE)?,
+            replies: Vec::new(alloc),
             free: 0,
             latest: None,
-        })
+        }
     }
 
     // Nothing is held any more.
@@ -106,7 +103,11 @@ impl<A: Drop, R: Counted + Drop> ReplyBatch<A, R> {
         ensures replies { OnOk result (self.new.replies.items ≡ self.old.replies.items ++ held_of R.commits soon ∷ []) }
         ensures in_order { OnOk result (IsInOrder R.commits self.old → IsInOrder R.commits self.new) }
     {
-        let HeldReply { reply, wait } = soon;
+        let HeldReply {
+            reply,
+            wait,
+            ends: _,
+        } = soon;
         self.bytes.extend_from_slice(&reply)?;
         let length = reply.len();
         let wait = match wait {

@@ -5,9 +5,9 @@ ghost use Rattle.journal_protocol.specs.Sending.{AppendsFront};
 
 use std::io::{ErrorKind, Read, Write};
 
-// That a stream failed.
+/// That a stream failed.
 #[derive(Clone, Copy, Debug, PartialEq, Eq)]
-pub(crate) struct StreamFailed;
+pub struct StreamFailed;
 
 // Why no piece was read.
 #[derive(Clone, Copy, Debug, PartialEq, Eq)]
@@ -40,8 +40,11 @@ pub(crate) fn read_piece<R: Read>(reader: &mut R, buffer: &mut [u8]) -> Result<u
     Err(NoPiece::Failed)
 }
 
-// Writes the bytes. Where that fails, a front of them was written.
-pub(crate) fn write_whole<W: Write>(writer: &mut W, bytes: &[u8]) -> Result<(), StreamFailed>
+/// Writes the bytes.
+///
+/// # Errors
+/// The writer failed, or took no byte. A front of them was written.
+pub fn write_whole<W: Write>(writer: &mut W, bytes: &[u8]) -> Result<(), StreamFailed>
     ensures whole { OnOk result (Appends (W.contents writer.old) (W.contents writer.new) bytes.now) }
     ensures failed { OnErr result (AppendsFront (W.contents writer.old) (W.contents writer.new) bytes.now) }
 {

@@ -1,10 +1,7 @@
 -- The records of a stream.
-use Rattle.std.proofs.Common.{◌≡◌, ℕ, zero, suc, ◌+◌, ◌-◌, ◌<◌, ◌≤◌, inl, inr, List, [], ◌∷◌, ◌++◌, length, take, drop, get_or, Some, refl, sym, ap, ◌∙◌, append_assoc, arith}
+use Rattle.std.proofs.Common.{◌≡◌, ℕ, ◌+◌, ◌<◌, ◌≤◌, inl, inr, List, [], ◌∷◌, ◌++◌, length, take, drop, Some, refl, sym, ap, ◌∙◌, append_assoc, arith}
 use Rattle.std.specs.List.{AllByRecursion}
-use Rattle.std.specs.Int.{w32, from_be_bytes}
-use Rattle.std.proofs.lemmas.List.{length-append, take-append-drop, take_at, drop_at, length-take-le}
-use Rattle.std.proofs.lemmas.Nat.{be_bytes_4}
-use Rattle.std.proofs.Math.Nat.{lt_of_not-le}
+use Rattle.std.proofs.lemmas.List.{length-append, take_at, drop_at}
 use Rattle.journal_xdr.specs.Items.{Spelled}
 use Rattle.journal_xdr.specs.ItemLaws.{some_is}
 use Rattle.journal_xdr.specs.Basic.{word}
@@ -90,47 +87,6 @@ pieces bytes piece rest more rs qs one later = record {
   each = each_append rs qs one.each later.each;
   ends = later.ends;
 }
-
--- ---- what is found at the front
-
-front_fits : (n : ℕ) (bytes : List ℕ) → ((i : ℕ) → get_or bytes i 0 < 256) → (i : ℕ) → get_or (take n bytes) i 0 < 256
-front_fits zero bytes fits i = omega arith
-front_fits (suc n) [] fits i = omega arith
-front_fits (suc n) (b ∷ bytes) fits zero = fits 0
-front_fits (suc n) (b ∷ bytes) fits (suc i) = front_fits n bytes (λ j. fits (suc j)) i
-
--- four bytes are a number
-word_front : (bytes : List ℕ) → ((i : ℕ) → get_or bytes i 0 < 256) → 4 ≤ length bytes → Spelled word bytes (from_be_bytes w32 (take 4 bytes)) (drop 4 bytes)
-unfolding word
-word_front bytes fits long =
-    let head = take 4 bytes in
-    let is : (i : ℕ) → get_or head i 0 < 256 = front_fits 4 bytes fits in
-    record {
-      has = omega (arith, is 0, is 1, is 2, is 3);
-      parts = sym (take-append-drop 4 bytes) ∙ ap (λ (h : List ℕ). h ++ drop 4 bytes) (sym (be_bytes_4 head (from_be_bytes w32 head) (length-take-le 4 bytes long) is refl));
-    }
-
-pub none_is_short : (bytes : List ℕ) → ((i : ℕ) → get_or bytes i 0 < 256) → ((n : ℕ) (rest : List ℕ) → ¬ (Spelled word bytes n rest)) → length bytes < 4
-none_is_short bytes fits none = lt_of_not-le (λ long. none (from_be_bytes w32 (take 4 bytes)) (drop 4 bytes) (word_front bytes fits long))
-
--- a whole record is found
-pub found_whole : (bytes rest found : List ℕ) (n : ℕ) → Spelled word bytes n rest → n ≤ RECORD_BYTES → n ≤ length rest → found ≡ take n rest → IsShort found × ((more : List ℕ) × (bytes ≡ framed found ++ more))
-found_whole bytes rest found n s short long is =
-    let size : length found ≡ n = ap (λ (f : List ℕ). length f) is ∙ length-take-le n rest long in (
-      omega (arith, size, short),
-      (drop n rest, s.parts ∙ ap (λ k. word.spelling k ++ rest) (sym size) ∙ ap (λ (r : List ℕ). word.spelling (length found) ++ r) (sym (take-append-drop n rest) ∙ ap (λ (f : List ℕ). f ++ drop n rest) (sym is)) ∙ sym (append_assoc (word.spelling (length found)) found (drop n rest))),
-    )
-
--- ---- what stands behind a record that is taken
-
-pub behind_record : (bytes found more : List ℕ) (n : ℕ) → bytes ≡ framed found ++ more → n ≡ 4 + length found → drop n bytes ≡ more
-behind_record bytes found more n is size =
-    ap (drop n) is ∙ drop_at (framed found) more n (length-append (word.spelling (length found)) found ∙ omega (arith, size, length-word (length found)))
-
-pub record_inside : (bytes found more : List ℕ) → bytes ≡ framed found ++ more → 4 + length found ≤ length bytes
-record_inside bytes found more is =
-    let long : length bytes ≡ length (framed found) + length more = ap (λ (b : List ℕ). length b) is ∙ length-append (framed found) more in
-    omega (arith, long, length-append (word.spelling (length found)) found, length-word (length found))
 
 -- ---- the room for a record's length
 

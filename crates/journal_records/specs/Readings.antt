@@ -1,21 +1,16 @@
 -- The answers of reading.
-use Rattle.std.specs.Prelude.{◌≡◌, ℕ, List, ◌++◌, Some, None, Result, Ok, Err}
+use Rattle.std.specs.Prelude.{◌≡◌, ℕ, List, Some, None, Result, Ok, Err}
 use Rattle.journal_xdr.specs.Items.{Item, Spelled}
 use Rattle.journal_xdr.specs.Basic.{word}
 use Rattle.journal_records.specs.declared.fault.ReadFault.{ReadFault}
 use Rattle.journal_records.specs.declared.fault.ReadFault.TheVariants as fault
 use Rattle.journal_records.specs.declared.fault.WriteFault.{WriteFault}
 use Rattle.journal_records.specs.declared.fault.WriteFault.TheVariants as refused
-use Rattle.journal_records.specs.declared.input.Front.{Front}
-use Rattle.journal_records.specs.declared.input.Front.TheVariants as front
-use Rattle.journal_records.specs.declared.input.Next.{Next}
-use Rattle.journal_records.specs.declared.input.Next.TheVariants.{Record, Partial, TooLong}
 use Rattle.journal_records.specs.declared.request.Request.{Request}
 use Rattle.journal_records.specs.declared.answer.Answer.{Answer}
 use Rattle.journal_records.specs.Operations.{operation_of}
 use Rattle.journal_records.specs.Requests.{request, message_of}
 use Rattle.journal_records.specs.Answers.{answer, told_of}
-use Rattle.journal_records.specs.Frames.{framed, IsShort, IsPartial, BeginsTooLong}
 
 -- The answer of a reader, seen by view, is the reading of the bytes: new is the bytes after the
 -- value
@@ -50,20 +45,7 @@ ReadsAnswer bytes (Err fault.UnknownOperation) = ⊥
 ReadsAnswer bytes (Err fault.Malformed) = SpellsNone answer bytes
 ReadsAnswer bytes (Err fault.NoMemory) = Unit {0}
 
--- The part taken from the front of a stream, where reading gives a record's value: a whole record,
--- or nothing, if none is whole or the next is too long
-abbrev pub Takes : {X : Type 0} → (List ℕ → Result X ReadFault → Type 0) → List ℕ → List ℕ → Next X → Type 0
-Takes reading old new (Record found) = (bytes : List ℕ) × IsShort bytes × (old ≡ framed bytes ++ new) × reading bytes found
-Takes reading old new Partial = (new ≡ old) × IsPartial old
-Takes reading old new TooLong = (new ≡ old) × BeginsTooLong old
-
 -- it is refused since no record can hold it
 abbrev pub IsTooLong : {X : Type 0} → Result X WriteFault → Type 0
 IsTooLong (Err refused.TooLong) = Unit {0}
 IsTooLong other = ⊥
-
--- the part at the front of some bytes
-abbrev pub IsFront : List ℕ → Front → Type 0
-IsFront bytes (front.Whole found) = IsShort found.now × ((rest : List ℕ) × (bytes ≡ framed found.now ++ rest))
-IsFront bytes front.Partial = IsPartial bytes
-IsFront bytes front.TooLong = BeginsTooLong bytes

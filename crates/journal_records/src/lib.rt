@@ -7,8 +7,8 @@
 //! one another on a stream.
 //!
 //! `read_request` and `read_answer` read a record's bytes, or say why they are nothing.
-//! `write_request` and `write_answer` write a whole record. An `Input` takes a stream in pieces,
-//! however it is cut, and gives its records in order.
+//! `write_request` and `write_answer` write a whole record. A stream is cut to records by
+//! `journal_rpc::Records`, marked by `Marking::by_length`.
 #![tactic(auto)]
 
 mod answer;
@@ -16,7 +16,6 @@ mod array;
 mod elements;
 mod fault;
 mod greeting;
-mod input;
 mod laws;
 mod limits;
 mod operation;
@@ -29,7 +28,6 @@ mod writing;
 pub use answer::{Answer, Counter};
 pub use fault::{ReadFault, WriteFault};
 pub use greeting::{ObjectRegion, Opening, Version};
-pub use input::{Input, Next};
 pub use laws::{answers_are_spellings, cuttings_do_not_matter, requests_are_spellings};
 pub use limits::{
     ADDRESSES, BITS, COUNTERS, FIRST_VERSION, PARTS, RECORD_BYTES, VALUE_BYTES, VERSION,

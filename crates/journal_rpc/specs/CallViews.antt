@@ -26,7 +26,7 @@ asked_of asks.OtherVersion = OtherVersion
 asked_of (asks.Procedure program version procedure arguments) = Procedure program version procedure arguments.now
 
 abbrev pub message_of : code_call.Call → Message
-message_of c = record { xid = c.xid; asked = asked_of c.asked }
+message_of c = record { xid = c.xid; credential = auth_of c.credential; asked = asked_of c.asked }
 
 -- the answer of reading bytes as a call
 abbrev pub ReadsCall : List ℕ → Option code_call.Call → Type 0

@@ -1,5 +1,5 @@
 -- Calls (RFC 5531, sections 8.2 and 9), as whole byte lists.
-use Rattle.std.specs.Prelude.{◌≢◌, ℕ, ◌==◌, if◌then◌else◌, List, Option, Some}
+use Rattle.std.specs.Prelude.{◌≡◌, ◌≢◌, ℕ, ◌==◌, if◌then◌else◌, List, [], Option, Some}
 use Rattle.journal_xdr.specs.Items.{Item, ◌>>=◌, pair, mapped_item, Spelled}
 use Rattle.journal_xdr.specs.Basic.{word, opaque, constant}
 
@@ -41,28 +41,35 @@ pub data Asked : Type 0 where
   OtherVersion : Asked
   Procedure : (program version procedure : ℕ) → (arguments : List ℕ) → Asked
 
--- A call: its number, and what it asks
+-- A call: its number, what it says of its caller, and what it asks
 pub record Message : Type 0 where
   pub xid : ℕ
+  pub credential : Auth
   pub asked : Asked
 
--- The bytes ask this under this number: at their front is the beginning of a call in another
--- version, or a whole header of version 2, with any credential and verifier
-abbrev pub Asks : List ℕ → ℕ → Asked → Type 0
-Asks bytes xid OtherVersion = (rpc_version : ℕ) × (rest : List ℕ) × (rpc_version ≢ 2) × Spelled beginning bytes (record { xid = xid; rpc_version = rpc_version }) rest
-Asks bytes xid (Procedure program version procedure arguments) =
-    (credential : Auth) × (verifier : Auth)
+-- AUTH_NONE, with no bytes
+abbrev pub no_auth : Auth
+no_auth = record { flavor = 0; body = [] }
+
+-- The bytes ask this under this number, with this credential: at their front is the beginning of a
+-- call in another version, of which no credential is read, or a whole header of version 2, with any
+-- verifier
+abbrev pub Asks : List ℕ → ℕ → Auth → Asked → Type 0
+Asks bytes xid credential OtherVersion =
+    (rpc_version : ℕ) × (rest : List ℕ) × (credential ≡ no_auth) × (rpc_version ≢ 2) × Spelled beginning bytes (record { xid = xid; rpc_version = rpc_version }) rest
+Asks bytes xid credential (Procedure program version procedure arguments) =
+    (verifier : Auth)
     × Spelled (pair beginning target) bytes
     (record { xid = xid; rpc_version = 2 }, record { program = program; version = version; procedure = procedure; credential = credential; verifier = verifier }) arguments
 
 -- the bytes are this call
 abbrev pub IsCall : List ℕ → Message → Type 0
-IsCall bytes call = Asks bytes call.xid call.asked
+IsCall bytes call = Asks bytes call.xid call.credential call.asked
 
 -- the call that bytes are, if any, as it is computed
 abbrev pub procedure_message : ℕ → Option (Target × List ℕ) → Option Message
-procedure_message xid found = found >>= λ t. Some (record { xid = xid; asked = Procedure t.0.program t.0.version t.0.procedure t.1 })
+procedure_message xid found = found >>= λ t. Some (record { xid = xid; credential = t.0.credential; asked = Procedure t.0.program t.0.version t.0.procedure t.1 })
 
 unfoldable pub message : List ℕ → Option Message
 message bytes = beginning.reading bytes >>= λ b.
-    if b.0.rpc_version == 2 then procedure_message b.0.xid (target.reading b.1) else Some (record { xid = b.0.xid; asked = OtherVersion })
+    if b.0.rpc_version == 2 then procedure_message b.0.xid (target.reading b.1) else Some (record { xid = b.0.xid; credential = no_auth; asked = OtherVersion })

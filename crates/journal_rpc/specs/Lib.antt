@@ -1,3 +1,4 @@
+pub mod Markings
 pub mod Stream
 pub mod Cuts
 pub mod Parts

@@ -2,6 +2,7 @@
 use Rattle.std.specs.Prelude.{ℕ, true, List, [], ◌∷◌, ◌++◌, Result, Ok, Err}
 use Rattle.std.specs.List.{flat_map}
 use Rattle.journal_xdr.specs.Basic.{word}
+use Rattle.journal_rpc.specs.Markings.{record_marking}
 use Rattle.journal_rpc.specs.Cuts.{fragment}
 use Rattle.journal_rpc.specs.declared.protocol.AcceptStatus.{AcceptStatus}
 use Rattle.journal_rpc.specs.declared.protocol.AcceptStatus.TheVariants as status
@@ -14,7 +15,7 @@ words numbers = flat_map (λ n. word.spelling n) numbers
 
 -- a record of one fragment
 abbrev pub one_fragment : List ℕ → List ℕ
-one_fragment body = fragment true body
+one_fragment body = fragment record_marking true body
 
 -- The words after the number of a call that is accepted: the message type 1, a reply; 0, accepted;
 -- a verifier of flavor 0 with 0 bytes; and the result of the call

@@ -4,7 +4,7 @@ ghost use Rattle.journal_xdr.specs.Items.{ReadsItem};
 ghost use Rattle.journal_rpc.specs.Calls.{beginning, auth, target, Message, IsCall};
 ghost use Rattle.journal_rpc.specs.CallViews.{beginning_of, auth_of, target_of, message_of, asked_of, ReadsCall, Routes, routed, request_of};
 
-use crate::protocol::{AUTH_BYTES, CALL, RPC_VERSION};
+use crate::protocol::{AUTH_BYTES, AUTH_NONE, CALL, RPC_VERSION};
 use crate::replies::CallRefused;
 use journal_xdr::Reader;
 
@@ -13,6 +13,9 @@ use journal_xdr::Reader;
 pub struct Call<'a> {
     /// The number that the caller gave it.
     pub xid: u32,
+    /// What it says of its caller. Of a call in another version of RPC it is not read, and
+    /// AUTH_NONE stands for it.
+    pub credential: Auth<'a>,
     /// The procedure that it asks for.
     pub asked: Asked<'a>,
 }
@@ -22,7 +25,7 @@ pub struct Call<'a> {
 pub enum Asked<'a> {
     /// Something in another version of RPC than 2. The bytes after the version are not read.
     OtherVersion,
-    /// A procedure of a version of a program. Any credential and verifier are accepted.
+    /// A procedure of a version of a program. Any verifier is accepted.
     Procedure {
         /// The program's number.
         program: u32,
@@ -34,6 +37,12 @@ pub enum Asked<'a> {
         arguments: &'a [u8],
     },
 }
+
+// AUTH_NONE, with no bytes.
+const NO_AUTH: Auth<'static> = Auth {
+    flavor: AUTH_NONE,
+    body: &[],
+};
 
 /// A call's request to the program that it names.
 #[derive(Clone, Copy, Debug)]
@@ -51,11 +60,13 @@ struct Beginning {
     rpc_version: u32,
 }
 
-// A credential or a verifier (RFC 5531, section 8.2).
-#[derive(Clone, Copy)]
-struct Auth<'a> {
-    flavor: u32,
-    body: &'a [u8],
+/// A credential or a verifier (RFC 5531, section 8.2).
+#[derive(Clone, Copy, Debug)]
+pub struct Auth<'a> {
+    /// Its kind.
+    pub flavor: u32,
+    /// At most 400 bytes, which its kind gives a meaning.
+    pub body: &'a [u8],
 }
 
 // The rest of a call's header.
@@ -122,20 +133,23 @@ fn read_message(bytes: &[u8]) -> Option<Call<'_>>
 {
     let mut reader = Reader::new(bytes);
     let beginning = read_beginning(&mut reader)?;
-    let asked = if beginning.rpc_version == RPC_VERSION {
-        let target = read_target(&mut reader)?;
-        Asked::Procedure {
+    if beginning.rpc_version != RPC_VERSION {
+        return Some(Call {
+            xid: beginning.xid,
+            credential: NO_AUTH,
+            asked: Asked::OtherVersion,
+        });
+    }
+    let target = read_target(&mut reader)?;
+    Some(Call {
+        xid: beginning.xid,
+        credential: target.credential,
+        asked: Asked::Procedure {
             program: target.program,
             version: target.version,
             procedure: target.procedure,
             arguments: reader.rest(),
-        }
-    } else {
-        Asked::OtherVersion
-    };
-    Some(Call {
-        xid: beginning.xid,
-        asked,
+        },
     })
 }
 

@@ -5,13 +5,17 @@ ghost use Rattle.journal_rpc.specs.Cuts.{SpellsStream};
 ghost use Rattle.journal_rpc.specs.Parts.{HasMore};
 ghost use Rattle.journal_rpc.specs.declared.part.Part.TheVariants.{Body, TooLong};
 
+use crate::marking::Marking;
 use crate::part::Part;
-use crate::protocol::{LAST_FRAGMENT, RECORD_BYTES, WAITING_RECORDS};
+use crate::protocol::WAITING_RECORDS;
 use std::alloc::{AllocError, Global};
 use std::collections::VecDeque;
 use std::marker::Model;
 use std::mem;
 use thiserror::Error;
+
+// The most bytes that get room before they have come.
+const RESERVED_BYTES: usize = 16384;
 
 /// A record: the bytes of its fragments, in one piece.
 #[derive(Debug, Drop)]
@@ -42,17 +46,18 @@ pub enum FeedRefused {
     /// A growth was refused. Nothing has changed, and the piece may be fed again.
     #[error("no memory")]
     NoMemory,
-    /// A header took a record above `RECORD_BYTES`. The records before it stay, and no further
+    /// A header took a record above the limit. The records before it stay, and no further
     /// piece changes anything: each is refused in the same way.
     #[error("a record is too long")]
     TooLong,
 }
 
-/// The records of a stream that comes in pieces (RFC 5531, section 11). Contracts see the complete
-/// records, and the bytes of the next one.
+/// The records of a stream that comes in pieces. Contracts see the marking, the complete records,
+/// and the bytes of the next one.
 #[derive(Drop)]
 pub struct Records {
     alloc: Global,
+    marking: Marking,
     waiting: VecDeque<Record>,
     begun: Vec<u8>,
     part: Part,
@@ -65,18 +70,19 @@ impl Model for Records {
 
     ghost Value = { Stream };
 
-    ghost view = { λ stream. record { records = stream.waiting.items; begun = stream.begun.items; part = stream.part } };
+    ghost view = { λ stream. record { marking = stream.marking; records = stream.waiting.items; begun = stream.begun.items; part = stream.part } };
 
     ghost invariant = { λ stream. HasMore stream.part };
 }
 
 impl Records {
     /// A stream of which nothing has come. The call takes no memory.
-    pub fn new(alloc: Global) -> Records
-        ensures { result ≡ fresh }
+    pub fn new(alloc: Global, marking: Marking) -> Records
+        ensures { result ≡ fresh marking }
     {
         Records {
             alloc,
+            marking,
             waiting: VecDeque::new(alloc),
             begun: Vec::new(alloc),
             part: Part::Start,
@@ -89,6 +95,11 @@ impl Records {
             (λ first. self.old ≡ record self.new { records = first ∷ self.new.records }) }
     {
         self.waiting.pop_front()
+    }
+
+    /// How many bytes are kept of a record that is not complete.
+    pub fn begun_bytes(&self) -> usize {
+        self.begun.len()
     }
 
     /// True if no byte of an incomplete record has come: the stream may end here.
@@ -106,8 +117,8 @@ impl Records {
     ///
     /// # Errors
     /// - `NoMemory`: memory is refused. Nothing has changed, and the piece may be fed again.
-    /// - `TooLong`: a header takes a record above `RECORD_BYTES`. The records before it have come,
-    ///   and each later piece is refused too.
+    /// - `TooLong`: a header takes a record above the most bytes of one. The records before it have
+    ///   come, and each later piece is refused too.
     pub fn feed(&mut self, piece: &[u8]) -> Result<usize, FeedRefused>
         ensures ok { IfOk result (λ taken. (taken ≤ length piece.now)
             × (self.new ≡ after self.old (take taken piece.now)) × (self.new.part ≢ TooLong)) }
@@ -200,20 +211,20 @@ impl Records {
 
     // A header has come.
     fn open_fragment(&mut self, header: u32) -> Result<(), AllocError>
-        ensures ok { OnOk result (self.new ≡ stream_opened self.old.records self.old.begun header) }
+        ensures ok { OnOk result (self.new ≡ stream_opened self.old.marking self.old.records self.old.begun header) }
         ensures one { length self.new.records ≤ length self.old.records + 1 }
         ensures err { OnErr result (self.new ≡ self.old) }
     {
-        let last = header >= LAST_FRAGMENT;
-        let left = (header % LAST_FRAGMENT) as usize;
-        if self.begun.len() + left > RECORD_BYTES {
+        let (last, left) = self.marking.read_header(header);
+        if self.begun.len() + left > self.marking.most_bytes {
             self.part = Part::TooLong;
         } else if left == 0 {
             self.end_fragment(last)?;
         } else {
-            // All of the fragment gets room at once. Later fragments get none yet, so that a record
-            // of many small fragments takes no more memory than it has bytes.
-            self.begun.reserve(left)?;
+            // A short fragment gets room at once. A long one gets more as it comes, so a header
+            // alone takes little memory. Later fragments get none yet, so that a record of many
+            // small fragments takes no more memory than it has bytes.
+            self.begun.reserve(left.min(RESERVED_BYTES))?;
             self.part = Part::Body { last, left };
         }
         Ok(())
@@ -221,7 +232,7 @@ impl Records {
 
     // A fragment is at its end.
     fn end_fragment(&mut self, last: bool) -> Result<(), AllocError>
-        ensures ok { OnOk result (self.new ≡ stream_ended self.old.records self.old.begun last) }
+        ensures ok { OnOk result (self.new ≡ stream_ended self.old.marking self.old.records self.old.begun last) }
         ensures one { length self.new.records ≤ length self.old.records + 1 }
         ensures err { OnErr result (self.new ≡ self.old) }
     {

@@ -1,6 +1,7 @@
 -- A reply of a protocol over files, as one that is held.
-use Rattle.std.proofs.Common.{◌≡◌, ◌≤◌, ℕ, List, Option, Some, None, refl, sym, subst}
+use Rattle.std.proofs.Common.{◌≡◌, ◌≤◌, ℕ, Bool, false, List, Option, Some, None, refl, sym, subst}
 use Rattle.std.specs.Prelude.{IfSome}
+use Rattle.std.proofs.lemmas.Bool.{false≢true}
 use Rattle.journal_world.specs.Histories.{Entry, floor}
 use Rattle.journal_history.specs.Tokens.{SessionState, CommitPlace}
 use Rattle.journal_inode.specs.declared.node.Time.{Time}
@@ -12,7 +13,7 @@ use Rattle.journal_nfs3.specs.Served.{marked, awaiting}
 use Rattle.journal_nfs3.specs.Answers.{pending_wait_for}
 use Rattle.journal_protocol.specs.declared.held_reply.HeldWait.{HeldWait}
 use Rattle.journal_protocol.specs.Protocols.{IsPaid, IsHeldReply}
-use Rattle.journal_server.specs.FileProtocols.{FileAnswering, IsFileLawful, IsAwaitedCall, told_by, replaced_by, held_wait}
+use Rattle.journal_server.specs.FileProtocols.{FileAnswering, IsFileLawful, IsAwaitedCall, told_by, service_by, replaced_by, held_wait}
 
 -- how many commits are to be stable
 abbrev pub commits_of : CommitPlace → ℕ
@@ -32,8 +33,9 @@ module _ (answers : FileAnswering) (laws : IsFileLawful answers) (moment : Time)
   placed None d a = tt
   placed (Some wait) d a = λ history text place. place moment call old new wait.receipt soon.reply.items history refl a d
 
-  pub holds_file : IsHeldReply (told_by answers) (replaced_by answers) commits_of moment call old new (record { reply = soon.reply; wait = held_wait call.xid soon.wait })
+  pub holds_file : IsHeldReply (service_by answers) (replaced_by answers) commits_of moment call old new (record { reply = soon.reply; wait = held_wait call.xid soon.wait; ends = false })
   holds_file = record {
     paid = λ history p. laws.paid moment call old new (stable history) (pending_wait_for soon.wait) soon.reply.items done (paid_so history soon.wait p);
     replaced = placed soon.wait done awaited;
+    ends = λ never. absurd (false≢true never);
   }

@@ -1,3 +1,4 @@
 pub mod Holding
 pub mod Staying
 pub mod Steps
+pub mod Telling

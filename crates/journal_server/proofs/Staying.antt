@@ -28,16 +28,16 @@ module _ (version : FormatVersion) (tells : Time → Type 0) (verifier : List �
   reply_grows : (call : Message) (old new : SessionState) (text : List ℕ) → IsReply version tells verifier history call old new text → Grows old new
   reply_grows call old new text h = grows-trans old h.done new (call_grows version (marked history) verifier h.moment (asks call.asked) old h.done h.answers.outcome h.answers.comes) h.later.seen
 
-  all_grow : (records : List (List ℕ)) (old new : SessionState) (text : List ℕ) → RepliesUpToBad (IsReply version tells verifier history) records old new text → Grows old new
+  all_grow : (records : List (List ℕ)) (old new : SessionState) (text : List ℕ) → RepliesUpToBad message (IsReply version tells verifier history) records old new text → Grows old new
   all_grow [] old new text h = grows-same old new h.0
   all_grow (r ∷ rs) old new text h = of (λ mid more k. all_grow rs mid new more k) (message r) h
     where
-      of : ((mid : SessionState) (more : List ℕ) → RepliesUpToBad (IsReply version tells verifier history) rs mid new more → Grows mid new)
-          → (m : Option Message) → IsRepliedUnlessBad (IsReply version tells verifier history) m old new text (λ mid more. RepliesUpToBad (IsReply version tells verifier history) rs mid new more) → Grows old new
+      of : ((mid : SessionState) (more : List ℕ) → RepliesUpToBad message (IsReply version tells verifier history) rs mid new more → Grows mid new)
+          → (m : Option Message) → IsRepliedUnlessBad (IsReply version tells verifier history) m old new text (λ mid more. RepliesUpToBad message (IsReply version tells verifier history) rs mid new more) → Grows old new
       of rest None k = grows-same old new k.0
       of rest (Some call) k = grows-trans old k.0 new (reply_grows call old k.0 k.1 k.3) (rest k.0 k.2 k.4)
 
-pub replies_grow : (version : FormatVersion) (tells : Time → Type 0) (verifier : List ℕ) (records : List (List ℕ)) (old new : SessionState) (text : List ℕ) (history : List Entry) → RepliesUpToBad (IsReply version tells verifier history) records old new text → IsPrefix old.seen new.seen × (floor old.seen ≤ floor new.seen)
+pub replies_grow : (version : FormatVersion) (tells : Time → Type 0) (verifier : List ℕ) (records : List (List ℕ)) (old new : SessionState) (text : List ℕ) (history : List Entry) → RepliesUpToBad message (IsReply version tells verifier history) records old new text → IsPrefix old.seen new.seen × (floor old.seen ≤ floor new.seen)
 replies_grow version tells verifier records old new text history h =
     let p = all_grow version tells verifier history records old new text h in
     (p, floor_grows old new p)
@@ -72,7 +72,7 @@ marked_whole front whole place e p there low =
 
 pub stays_stable : (version : FormatVersion) (tells : Time → Type 0) (verifier : List ℕ) (call : Message) (operation : Operation) (r : Results) (old mid new : SessionState) (reply : List ℕ) (behind : List (List ℕ)) (more : List ℕ)
     → (replied : IsReply version tells verifier new.seen call old mid reply) → asks call.asked ≡ Ok operation → replied.answers.outcome ≡ Ok r → IsTrue (has_to_wait operation) → IsTrue (is_accepted r)
-    → RepliesUpToBad (IsReply version tells verifier new.seen) behind mid new more → (place : ℕ) × CommitsOnceAt old mid place × IsMarked new.seen place
+    → RepliesUpToBad message (IsReply version tells verifier new.seen) behind mid new more → (place : ℕ) × CommitsOnceAt old mid place × IsMarked new.seen place
 stays_stable version tells verifier call operation r old mid new reply behind more replied e f wt ok h =
     let now = call_marked version new.seen verifier replied.moment (asks call.asked) operation r old replied.done replied.answers.outcome e f wt ok replied.answers.comes in
     let grown = replies_grow version tells verifier behind mid new more new.seen h in

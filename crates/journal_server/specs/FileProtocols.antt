@@ -4,7 +4,8 @@ use mathlib.Core.List.{IsPrefix}
 use Rattle.journal_world.specs.Histories.{Entry, floor}
 use Rattle.journal_history.specs.Tokens.{SessionState, CommitPlace}
 use Rattle.journal_inode.specs.declared.node.Time.{Time}
-use Rattle.journal_rpc.specs.Calls.{Message}
+use Rattle.journal_rpc.specs.Markings.{record_marking}
+use Rattle.journal_rpc.specs.Calls.{Message, message}
 use Rattle.journal_file_types.specs.declared.pending_wait.PendingWait.{PendingWait}
 use Rattle.journal_file_types.specs.declared.pending_wait.PendingWait.TheVariants.{Wait}
 use Rattle.journal_filestore.specs.Done.{IsWaitOver}
@@ -15,7 +16,7 @@ use Rattle.journal_nfs3.specs.Served.{Standing, marked, awaiting}
 use Rattle.journal_nfs3.specs.Answers.{IsCallOf}
 use Rattle.journal_server.specs.declared.file_protocol.AwaitedCall.{AwaitedCall}
 use Rattle.journal_protocol.specs.declared.held_reply.HeldWait.{HeldWait}
-use Rattle.journal_protocol.specs.Protocols.{Answering, Replacing}
+use Rattle.journal_protocol.specs.Protocols.{Answering, Service, Replacing}
 
 -- Which text is the reply to a call at a moment, from what the session had seen to what it has seen
 -- then, and how far the reply is
@@ -23,8 +24,12 @@ abbrev pub FileAnswering : Type 1
 FileAnswering = Standing → Time → Message → SessionState → SessionState → List ℕ → Type 0
 
 -- the same of a reply that a mark of the history covers, where it has to be stable
-abbrev pub told_by : FileAnswering → Answering
+abbrev pub told_by : FileAnswering → Answering Message
 told_by answers history = answers (marked history)
+
+-- Its records are those of remote procedure calls, and no reply ends a connection
+abbrev pub service_by : FileAnswering → Service Message
+service_by answers = record { marking = record_marking; reads = message; answers = told_by answers; does = told_by answers; stops = λ text. ⊥ }
 
 -- the call is of this procedure of the nine
 abbrev pub IsAwaitedCall : Procedure → Message → Type 0

@@ -12,8 +12,8 @@ use journal_filestore::FileStore;
 use journal_history::{Naming, Receipt, Session};
 use journal_inode::{SoundFiles, Version};
 use journal_nfs3::{PendingReply, Procedure, ReplyWait};
-use journal_protocol::{HeldReply, HeldWait, Protocol};
-use journal_rpc::Call;
+use journal_protocol::{ConnFault, HeldReply, HeldWait, Protocol};
+use journal_rpc::{Call, Marking, read_call};
 use journal_world::{CommitCount, Moment, Refusal};
 use std::alloc::{AllocError, Global};
 use std::sync::Wait;
@@ -88,7 +88,8 @@ impl<'s, 'b, D: BlockDisk, J: Naming, V: Version, P> Drop for FilesOf<'s, 'b, D,
 
 impl<'s, 'b, D: BlockDisk, J: Naming, V: Version, P: FileProtocol<V>> Protocol
     for FilesOf<'s, 'b, D, J, V, P> {
-    ghost use Rattle.journal_server.specs.FileProtocols.{told_by, replaced_by};
+    ghost use Rattle.journal_rpc.specs.Calls.{Message};
+    ghost use Rattle.journal_server.specs.FileProtocols.{service_by, replaced_by};
     ghost use Rattle.journal_server.specs.FileLaws.{told_lawful, replaced_refusable};
 
     type Session = Session<'b, J, SoundFiles<V>>;
@@ -97,9 +98,11 @@ impl<'s, 'b, D: BlockDisk, J: Naming, V: Version, P: FileProtocol<V>> Protocol
 
     type Awaited = AwaitedCall;
 
+    ghost Call = { Message };
+
     ghost seen = { λ session. session };
 
-    ghost answers = { λ p. told_by (P.answers p.protocol.now) };
+    ghost service = { λ p. service_by (P.answers p.protocol.now) };
 
     ghost replaces = { λ p. replaced_by (P.answers p.protocol.now) };
 
@@ -107,20 +110,30 @@ impl<'s, 'b, D: BlockDisk, J: Naming, V: Version, P: FileProtocol<V>> Protocol
 
     ghost refusable = { λ p. replaced_refusable (P.answers p.protocol.now) (P.lawful p.protocol.now) };
 
+    fn marking(&self) -> Marking {
+        Marking::of_calls()
+    }
+
     fn answer_no_wait<W: Wait>(
         &self,
         rt: &W,
         alloc: Global,
         session: &mut Session<'b, J, SoundFiles<V>>,
-        call: &Call<'_>,
+        bytes: &[u8],
         moment: Moment,
-    ) -> Result<HeldReply<AwaitedCall, Receipt<'b, J, SoundFiles<V>>>, AllocError> {
+    ) -> Result<Option<HeldReply<AwaitedCall, Receipt<'b, J, SoundFiles<V>>>>, ConnFault> {
         let (files, protocol) = (self.files, self.protocol);
-        let PendingReply { reply, wait } = protocol.answer_no_wait(
-            rt, alloc, session, call, files, moment,
-        )?;
-        let wait = held_wait(call.xid, wait);
-        Ok(HeldReply { reply, wait })
+        let Some(call) = read_call(bytes) else {
+            return Ok(None);
+        };
+        match protocol.answer_no_wait(rt, alloc, session, &call, files, moment) {
+            Ok(PendingReply { reply, wait }) => Ok(Some(HeldReply {
+                reply,
+                wait: held_wait(call.xid, wait),
+                ends: false,
+            })),
+            Err(_) => Err(ConnFault::NoMemory),
+        }
     }
 
     fn refused_reply(

@@ -4,7 +4,7 @@ ghost use mathlib.Core.List.{IsPrefix};
 ghost use Rattle.journal_world.specs.Histories.{Entry, floor};
 ghost use Rattle.journal_history.specs.Tokens.{SessionState, OnlyExtends};
 ghost use Rattle.journal_inode.specs.declared.version.FormatVersion.{FormatVersion};
-ghost use Rattle.journal_rpc.specs.Calls.{Message};
+ghost use Rattle.journal_rpc.specs.Calls.{Message, message};
 ghost use Rattle.journal_nfs3_wire.specs.Arguments.{Operation};
 ghost use Rattle.journal_nfs3_wire.specs.Results.{Results};
 ghost use Rattle.journal_nfs3_wire.specs.Calls.{asks};
@@ -27,18 +27,18 @@ use journal_protocol::Clock;
 /// sections 3.3.7 and 3.3.21).
 pub fn what_was_stable_stays_stable<C: Clock>(clock: &C)
     ensures grows { (version : FormatVersion) (verifier : List ℕ) (records : List (List ℕ)) (old new : SessionState) (text : List ℕ)
-        (history : List Entry) → RepliesUpToBad (IsReply version (C.tells clock.now) verifier history) records old new text
+        (history : List Entry) → RepliesUpToBad message (IsReply version (C.tells clock.now) verifier history) records old new text
         → IsPrefix old.seen new.seen × (floor old.seen ≤ floor new.seen) }
     ensures stable { (version : FormatVersion) (verifier : List ℕ) (call : Message) (operation : Operation) (r : Results)
         (old mid new : SessionState) (reply : List ℕ) (behind : List (List ℕ)) (more : List ℕ)
         → (replied : IsReply version (C.tells clock.now) verifier new.seen call old mid reply) → asks call.asked ≡ Ok operation → replied.answers.outcome ≡ Ok r
         → IsTrue (has_to_wait operation) → IsTrue (is_accepted r)
-        → RepliesUpToBad (IsReply version (C.tells clock.now) verifier new.seen) behind mid new more
+        → RepliesUpToBad message (IsReply version (C.tells clock.now) verifier new.seen) behind mid new more
         → (place : ℕ) × CommitsOnceAt old mid place × IsMarked new.seen place }
     ensures later { (old last now : SessionState) (place : ℕ) → OnlyExtends last now → CommitsOnceAt old last place → IsMarked last.seen place
         → CommitsOnceAt old now place × IsMarked now.seen place }
     ensures front { (version : FormatVersion) (verifier : List ℕ) (history : List Entry) (records : List (List ℕ)) (old new : SessionState) (text : List ℕ)
-        → AllReplies (IsReply version (C.tells clock.now) verifier history) records old new text → RepliesUpToBad (IsReply version (C.tells clock.now) verifier history) records old new text }
+        → AllReplies message (IsReply version (C.tells clock.now) verifier history) records old new text → RepliesUpToBad message (IsReply version (C.tells clock.now) verifier history) records old new text }
 {
     let _ = clock;
 }

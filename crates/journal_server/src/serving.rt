@@ -1,15 +1,17 @@
 // A connection that the nine procedures answer.
 ghost use Rattle.std.specs.Prelude.{◌≡◌, ◌<◌, ◌^◌, true, IsTrue, IfOk, OnErr};
 ghost use Rattle.journal_world.specs.Histories.{is_fenced};
+ghost use Rattle.journal_rpc.specs.Markings.{record_marking};
+ghost use Rattle.journal_rpc.specs.Calls.{message};
 ghost use Rattle.journal_protocol.specs.Output.{RepliesUpToBad, records_of, answered_of};
 ghost use Rattle.journal_protocol.specs.Connections.{Exchanges, IsEnd, IsBeginning, IsBefore};
 ghost use Rattle.journal_server.specs.Output.{IsReply};
 
 use crate::file_protocol::FilesOf;
 use crate::files::NineProcedures;
-use journal_daemon::Gate;
 use journal_disk::BlockDisk;
 use journal_filestore::FileStore;
+use journal_gate::Gate;
 use journal_history::{Naming, Session};
 use journal_inode::{SoundFiles, Version};
 use journal_nfs3::Verifier;
@@ -64,15 +66,15 @@ pub fn serve<
     // has to be stable is marked in the history that the session had seen after the last reply. It
     // has only seen more since, the fence.
     ensures replies { IfOk result (λ served. Exchanges (R.remaining reader.old) (R.remaining reader.new) (W.contents writer.old) (W.contents writer.new)
-        (λ input text. IsBefore session.new (λ last. RepliesUpToBad (IsReply V.VERSION (C.tells clock.now) verifier.0 last.seen) (records_of input) session.old last text))) }
+        (λ input text. IsBefore session.new (λ last. RepliesUpToBad message (IsReply V.VERSION (C.tells clock.now) verifier.0 last.seen) (records_of record_marking input) session.old last text))) }
 
     // They are counted.
     ensures counted { IfOk result (λ served. Exchanges (R.remaining reader.old) (R.remaining reader.new) (W.contents writer.old) (W.contents writer.new)
-        (λ input text. answered_of (records_of input) < 2 ^ 64 → served.answered ≡ answered_of (records_of input))) }
+        (λ input text. answered_of message (records_of record_marking input) < 2 ^ 64 → served.answered ≡ answered_of message (records_of record_marking input))) }
 
     // Each end comes only where it holds.
     ensures ended { IfOk result (λ served. Exchanges (R.remaining reader.old) (R.remaining reader.new) (W.contents writer.old) (W.contents writer.new)
-        (λ input text. IsEnd served.end input (R.remaining reader.new))) }
+        (λ input text. IsEnd record_marking message served.end input (R.remaining reader.new))) }
 
     // The fence stands where it says so.
     ensures fenced { IfOk result (λ served. IsTrue served.fenced → is_fenced session.new.number session.new.seen ≡ true) }
@@ -81,7 +83,7 @@ pub fn serve<
     // what was read, and the session has seen what these come to, with the marks of what was
     // written, and then at most more.
     ensures given_up { OnErr result (Exchanges (R.remaining reader.old) (R.remaining reader.new) (W.contents writer.old) (W.contents writer.new)
-        (λ input text. IsBefore session.new (λ last. IsBeginning (IsReply V.VERSION (C.tells clock.now) verifier.0 last.seen) (records_of input) session.old last text))) }
+        (λ input text. IsBefore session.new (λ last. IsBeginning message (IsReply V.VERSION (C.tells clock.now) verifier.0 last.seen) (records_of record_marking input) session.old last text))) }
 {
     let protocol = NineProcedures { verifier };
     let protocol = FilesOf {

@@ -15,9 +15,9 @@ use crate::queue::{Balance, Cut, Drains, Job, PassState, Puts, QueueReceiver, Qu
 use crate::serving::serve;
 use crate::source::{Connection, Source};
 use crossbeam_channel::{Pass, bounded_with};
-use journal_daemon::Gate;
 use journal_disk::BlockDisk;
 use journal_filestore::FileStore;
+use journal_gate::Gate;
 use journal_history::Naming;
 use journal_inode::{SoundFiles, Version};
 use journal_memory::Cause;

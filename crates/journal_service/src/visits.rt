@@ -2,9 +2,9 @@
 
 use crate::clock::WallClock;
 use journal_connections::{Incoming, Outgoing, Peer, Service, Turned};
-use journal_daemon::OpenGate;
 use journal_disk::BlockDisk;
 use journal_filestore::FileStore;
+use journal_gate::OpenGate;
 use journal_history::{Naming, Session};
 use journal_inode::{SoundFiles, Version};
 use journal_protocol::{Answerer, Pace, Progress, Protocol, serve_to_pause};
@@ -82,6 +82,10 @@ impl<'p, 'c, 'l, 'r, R: Clock + Wait> Drop for Fair<'p, 'c, 'l, 'r, R> {
 impl<'p, 'c, 'l, 'r, R: Clock + Wait> Pace for Fair<'p, 'c, 'l, 'r, R> {
     fn is_to_pause(&self) -> bool {
         self.0.is_to_pause()
+    }
+
+    fn note_begun(&self, bytes: usize) {
+        self.0.note_begun(bytes);
     }
 }
 

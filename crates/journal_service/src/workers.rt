@@ -3,9 +3,9 @@
 use crate::clock::WallClock;
 use crate::fault::ServiceFault;
 use crate::front_end::{flush, listen_at, port_of, tell_port};
-use journal_daemon::OpenGate;
 use journal_disk::BlockDisk;
 use journal_filestore::FileStore;
+use journal_gate::OpenGate;
 use journal_history::Naming;
 use journal_inode::Version;
 use journal_nfs3::Verifier;

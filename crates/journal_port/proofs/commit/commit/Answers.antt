@@ -1,4 +1,4 @@
-use Rattle.std.proofs.Common.{List, inr, refl, sym, subst}
+use Rattle.std.proofs.Common.{List, [], inr, refl, sym, subst}
 use Rattle.std.specs.List.Sorted.{IsNonDecreasingBy}
 use Rattle.journal_world.specs.declared.refusal.Refusal.TheVariants.{NoMemory}
 use Rattle.journal_records.specs.declared.request.Part.{Part}
@@ -12,9 +12,9 @@ commit_in_order-requires g c = subst (IsNonDecreasingBy (order_of g.J.Naming.lay
 
 pub returns-in-Ok : goal.returns-in-Ok
 returns-in-Ok g c =
-    IsCommitAnswer-sorted g.J.Naming.layout c.args.parts.items c.sort.new.parts.items c.args.waits c.commit_in_order.new.session.seen c.args.session.now c.commit_in_order.new.session c.commit_in_order.result
+    IsCommitAnswer-sorted g.J.Naming.layout c.args.parts.items c.sort.new.parts.items c.args.waits [] c.args.session.now c.commit_in_order.new.session c.commit_in_order.result
     c.in-Ok.ensures.permutation c.in-Ok.ensures.compared c.in-Ok.ensures.written
-    (subst (λ (ps : List Part). IsCommitAnswer g.J.Naming.layout ps c.args.waits c.commit_in_order.new.session.seen c.args.session.now c.commit_in_order.new.session c.commit_in_order.result) c.deref.ensures.value c.commit_in_order.ensures)
+    (subst (λ (ps : List Part). IsCommitAnswer g.J.Naming.layout ps c.args.waits [] c.args.session.now c.commit_in_order.new.session c.commit_in_order.result) c.deref.ensures.value c.commit_in_order.ensures)
 
 pub returns : goal.returns
 returns g c = (OnlyExtends-refl c.args.session.now, inr (NoMemory, refl, tt))

@@ -1,44 +1,61 @@
-use Rattle.std.proofs.Common.{ℕ, take, refl, ap, ◌∙◌}
-use Rattle.std.proofs.KnownBytes.{Consumes-nil}
+use Rattle.std.proofs.Common.{◌≡◌, [], List, ℕ, take, refl, sym, ap, subst, ◌∙◌}
+use Rattle.journal_rpc.specs.declared.part.Part.{Part}
+use Rattle.journal_rpc.specs.declared.part.Part.TheVariants as part
+use Rattle.journal_rpc.specs.Stream.{Stream, fresh}
 use Rattle.journal_rpc.proofs.Streams.{on_err}
-use Rattle.journal_protocol.proofs.Serving.{begins_so_far, goes_on, breaks, gives_up, reads_nothing, ends_quiet, on_true, on_false, Keeps-Consumes}
-use Rattle.journal_protocol.proofs.Sends.{so_far_grown}
-use Rattle.journal_protocol.proofs.PieceSteps.{ends_with_bad}
-use Rattle.journal_protocol.proofs.Pausing.{is_pausing}
+use Rattle.journal_protocol.specs.declared.replying.Outcome.TheVariants.{GoesOn, Bad, Ended}
+use Rattle.journal_protocol.specs.Output.{going}
+use Rattle.journal_protocol.specs.Serving.{Start, SoFar, Pauses, GivenUp}
+use Rattle.journal_protocol.proofs.Serving.{Keeps-Consumes, on_stream, reads_piece, pauses_here, gives_up, ends_quiet, comes_to}
 use Rattle.journal_protocol.proofs.connection.answer_to_pause.Goals as goal
 
 pub loop-init : goal.loop-init
-loop-init g c = (begins_so_far _ _ _ c.new-records.result (g.P.Protocol.seen c.args.session.now) _ c.new-records.ensures, refl)
-
-pub returns-in_default-clause-given_up : goal.returns-in_default-clause-given_up
-returns-in_default-clause-given_up g c = gives_up _ _ _ _ _ _ _ _ _ _ _ _ (begins_so_far _ _ _ c.new-records.result (g.P.Protocol.seen c.args.session.now) 0 c.new-records.ensures) (Consumes-nil _)
+loop-init g c =
+    let is : c.new-records.result ≡ fresh (g.P.Protocol.service c.args.answerer.now.protocol.now).marking = c.new-records.ensures ∙ ap fresh c.marking-marking.ensures in (
+      λ start h. on_stream _ _ start _ _ [] _ c.new-records.result _ _ (sym is) h,
+      (ap (λ (t : Stream). t.records) is, λ long. let p : c.new-records.result.part ≡ part.Start = ap (λ (t : Stream). t.part) is in absurd cc),
+      refl,
+    )
 
 pub returns-then-is_to_pause-clause-served : goal.returns-then-is_to_pause-clause-served
-returns-then-is_to_pause-clause-served g c = is_pausing _ _ _ _ _ _ _ _ _ _ (c.is_to_pause.ensures.between c.if-is_to_pause.true) c.loop.invariant.0
+returns-then-is_to_pause-clause-served g c = λ start h. pauses_here _ _ start _ _ _ _ _ c.loop.invariant.1.0 (c.is_to_pause.ensures.between c.if-is_to_pause.true) (c.loop.invariant.0 start h)
 
 pub loop-preserved-in-Err-NotYet : goal.loop-preserved-in-Err-NotYet
-loop-preserved-in-Err-NotYet g c = (reads_nothing _ _ _ _ _ _ _ _ _ _ _ c.loop.invariant.0 (Keeps-Consumes _ _ c.in-Err-NotYet.ensures.failed), c.read_piece.auto.buffer ∙ c.loop.invariant.1)
+loop-preserved-in-Err-NotYet g c =
+    (λ start h. reads_piece _ _ start _ _ _ [] _ _ _ (Keeps-Consumes _ _ c.in-Err-NotYet.ensures.failed) (c.loop.invariant.0 start h), c.loop.invariant.1, c.read_piece.auto.buffer ∙ c.loop.invariant.2)
 
 pub returns-in-Err-Failed-clause-given_up : goal.returns-in-Err-Failed-clause-given_up
-returns-in-Err-Failed-clause-given_up g c = gives_up _ _ _ _ _ _ _ _ _ _ _ _ c.loop.invariant.0 (Keeps-Consumes _ _ c.in-Err-Failed.ensures.failed)
+returns-in-Err-Failed-clause-given_up g c = λ start h.
+    gives_up _ _ (g.met.P.Protocol.lawful c.args.answerer.now.protocol.now) start _ _ _ _ _ _ (reads_piece _ _ start _ _ _ [] _ _ _ (Keeps-Consumes _ _ c.in-Err-Failed.ensures.failed) (c.loop.invariant.0 start h))
 
 pub returns-then-count-eq0-clause-served : goal.returns-then-count-eq0-clause-served
-returns-then-count-eq0-clause-served g c =
-    let read = c.in-Ok-read_piece.ensures in
-    ends_quiet _ _ _ _ _ _ _ _ _ _ _ _ _ c.loop.invariant.0 read.piece (ap (λ (k : ℕ). take k c.read_piece.new.buffer) c.if-count-eq0.true) (read.at_end c.if-count-eq0.true) c.end_of.ensures.end
+returns-then-count-eq0-clause-served g c = λ start h.
+    let read = c.in-Ok.ensures in
+    let none : take c.in-Ok.count c.read_piece.new.buffer ≡ [] = ap (λ (k : ℕ). take k c.read_piece.new.buffer) c.if-count-eq0.true in
+    ends_quiet _ _ start _ _ _ _ _ _ c.end_of.ensures.end (read.at_end c.if-count-eq0.true) c.loop.invariant.1.0 c.loop.invariant.1.1
+    (subst (λ (p : List ℕ). SoFar (g.P.Protocol.service c.args.answerer.now.protocol.now) (g.C.Clock.tells c.args.answerer.now.clock.now) start (g.R.Read.remaining c.read_piece.new.reader) (g.W.Write.contents c.loop.writer) p c.loop.records (going (g.P.Protocol.seen c.loop.session)) c.loop.answered) none
+    (reads_piece _ _ start _ _ _ _ _ _ _ read.piece (c.loop.invariant.0 start h)))
 
-pub returns-in_err-goes_on-clause-given_up : goal.returns-in_err-goes_on-clause-given_up
-returns-in_err-goes_on-clause-given_up g c =
-    let sent = c.in_err-goes_on.ensures.in_part in
-    on_err _ _ (breaks _ _ _ _ _ _ _ _ _ _ _ _ _ _ _ 0 (so_far_grown _ _ (g.met.P.Protocol.lawful c.args.answerer.now.protocol.now) _ _ _ _ _ _ _ _ _ _ _ _ sent.replied c.loop.invariant.0) c.in-Ok-read_piece.ensures.piece refl sent)
+pub answer_piece-requires : goal.answer_piece-requires
+answer_piece-requires g c = record { none = c.loop.invariant.1.0; short = c.loop.invariant.1.1 }
 
-pub returns-then-not-goes_on-clause-served : goal.returns-then-not-goes_on-clause-served
-returns-then-not-goes_on-clause-served g c =
-    ends_with_bad _ _ (g.met.P.Protocol.lawful c.args.answerer.now.protocol.now) _ _ _ _ _ _ _ _ _ _ _ _ _ _ _ c.loop.invariant.0 c.in-Ok-read_piece.ensures.piece (on_false _ _ _ c.if-not-goes_on.true c.in_ok-goes_on.ensures.sent)
+pub returns-in_err-outcome-clause-given_up : goal.returns-in_err-outcome-clause-given_up
+returns-in_err-outcome-clause-given_up g c =
+    let lost : (start : Start) → Pauses (g.P.Protocol.service c.args.answerer.now.protocol.now) (g.C.Clock.tells c.args.answerer.now.clock.now) start (g.R.Read.remaining c.args.reader.now) (g.W.Write.contents c.args.writer.now) (g.P.Protocol.seen c.args.session.now) c.args.answered.now
+    → GivenUp (g.P.Protocol.service c.args.answerer.now.protocol.now) (g.C.Clock.tells c.args.answerer.now.clock.now) start (g.R.Read.remaining c.read_piece.new.reader) (g.W.Write.contents c.answer_piece.new.writer) (g.P.Protocol.seen c.answer_piece.new.session) = λ start h. c.in_err-outcome.ensures.given_up start _ (reads_piece _ _ start _ _ _ _ _ _ _ c.in-Ok.ensures.piece (c.loop.invariant.0 start h)) in
+    on_err _ _ lost
+
+pub returns-in-Bad-clause-served : goal.returns-in-Bad-clause-served
+returns-in-Bad-clause-served g c = λ start h.
+    comes_to _ _ c.in_ok-outcome.outcome Bad start _ _ [] _ _ _ c.in-Bad.is (c.in_ok-outcome.ensures.sent start _ (reads_piece _ _ start _ _ _ _ _ _ _ c.in-Ok.ensures.piece (c.loop.invariant.0 start h)))
+
+pub returns-in-Ended-clause-served : goal.returns-in-Ended-clause-served
+returns-in-Ended-clause-served g c = λ start h.
+    comes_to _ _ c.in_ok-outcome.outcome Ended start _ _ [] _ _ _ c.in-Ended.is (c.in_ok-outcome.ensures.sent start _ (reads_piece _ _ start _ _ _ _ _ _ _ c.in-Ok.ensures.piece (c.loop.invariant.0 start h)))
 
 pub loop-preserved : goal.loop-preserved
-loop-preserved g c =
-    let sent = on_true _ _ _ c.if-not-goes_on.false c.in_ok-goes_on.ensures.sent in (
-      goes_on _ _ _ _ _ _ _ _ _ _ _ _ _ _ _ _ (so_far_grown _ _ (g.met.P.Protocol.lawful c.args.answerer.now.protocol.now) _ _ _ _ _ _ _ _ _ _ _ _ sent.0.replied c.loop.invariant.0) c.in-Ok-read_piece.ensures.piece _ refl sent.1 sent.0,
-      c.read_piece.auto.buffer ∙ c.loop.invariant.1,
-    )
+loop-preserved g c = (
+  λ start h. comes_to _ _ c.in_ok-outcome.outcome GoesOn start _ _ [] _ _ _ c.in-GoesOn.is (c.in_ok-outcome.ensures.sent start _ (reads_piece _ _ start _ _ _ _ _ _ _ c.in-Ok.ensures.piece (c.loop.invariant.0 start h))),
+  c.in_ok-outcome.ensures.short c.in-GoesOn.is,
+  c.read_piece.auto.buffer ∙ c.loop.invariant.2,
+)

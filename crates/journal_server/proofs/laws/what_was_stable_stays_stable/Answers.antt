@@ -1,5 +1,6 @@
+use Rattle.journal_rpc.specs.Calls.{message}
 use Rattle.journal_server.specs.Output.{IsReply}
-use Rattle.journal_protocol.proofs.Staying.{all_are_replies}
+use Rattle.journal_server.proofs.Telling.{all_are_replies}
 use Rattle.journal_server.proofs.Staying.{replies_grow, stays_stable, stays_later}
 use Rattle.journal_server.proofs.laws.what_was_stable_stays_stable.Goals as goal
 
@@ -13,4 +14,4 @@ pub returns-clause-later : goal.returns-clause-later
 returns-clause-later g c = stays_later
 
 pub returns-clause-front : goal.returns-clause-front
-returns-clause-front g c = λ version verifier history. all_are_replies (IsReply version (g.C.Clock.tells c.args.clock.now) verifier history)
+returns-clause-front g c = λ version verifier history. all_are_replies message (IsReply version (g.C.Clock.tells c.args.clock.now) verifier history)
