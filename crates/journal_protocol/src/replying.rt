@@ -69,6 +69,7 @@ pub(crate) fn answer_waiting<P: Protocol, C: Clock, G: Gate, H: Wait>(
         let Some(soon) = protocol.answer_no_wait(rt, answerer.alloc, session, bytes, moment)? else {
             return Ok(Turn::Stopped);
         };
+        records.reuse(record);
         let ends = soon.ends;
         let Ok(()) = batch.add_reply(soon) else {
             return Err(ConnFault::NoMemory);

@@ -1,5 +1,5 @@
 -- What comes of a stream, in one piece or in several.
-use Rattle.std.proofs.Common.{◌≡◌, ℕ, ◌+◌, ◌-◌, ◌%◌, ◌^◌, ◌<◌, Bool, true, false, eqb, List, [], ◌∷◌, ◌++◌, length, take, drop, refl, sym, ap, subst, ◌∙◌, append_assoc, arith}
+use Rattle.std.proofs.Common.{◌≡◌, ℕ, ◌+◌, ◌-◌, ◌%◌, ◌^◌, ◌<◌, ◌≤◌, Bool, true, false, eqb, List, [], ◌∷◌, ◌++◌, length, take, drop, refl, sym, ap, subst, ◌∙◌, append_assoc, arith}
 use Rattle.std.specs.Prelude.{Result, Ok, Err, OnOk, OnErr, is_err, slice_index_or, if◌then◌else◌, ◌==◌, nat_lt, nat_le}
 use Rattle.std.specs.Int.{w32, from_be_bytes}
 use Rattle.std.proofs.lemmas.Bool.{ne_eqb, eq-eqb}
@@ -7,7 +7,7 @@ use Rattle.std.proofs.lemmas.List.{append-nil, take-append-drop}
 use Rattle.journal_rpc.specs.declared.marking.Marking.{Marking}
 use Rattle.journal_rpc.specs.declared.part.Part.{Part}
 use Rattle.journal_rpc.specs.declared.part.Part.TheVariants.{Start, First, Second, Third, Body, TooLong}
-use Rattle.journal_rpc.specs.Stream.{Stream, size_of, stream_ended, byte_came, after, ExtendsStream, Grown, Completed}
+use Rattle.journal_rpc.specs.Stream.{Stream, size_of, stream_ended, stream_opened, byte_came, after, ExtendsStream, Grown, Completed}
 
 -- what has come, from its parts
 abbrev pub stream : Marking → List (List ℕ) → List ℕ → Part → Stream
@@ -96,6 +96,17 @@ unfolding after
 takes_one s m records begun part p [] view is some = absurd (omega arith)
 takes_one s m records begun part p (x ∷ bytes) view is some =
     ap (λ q. byte_came m records begun q x) (sym is) ∙ ap (λ (t : Stream). byte_came t.marking t.records t.begun t.part x) view
+
+-- a whole header comes
+pub takes_header : (s : Stream) (m : Marking) (records : List (List ℕ)) (begun : List ℕ) (part : Part) (bytes : List ℕ) → stream m records begun part ≡ s → part ≡ Start → 4 ≤ length bytes
+    → stream_opened m records begun (from_be_bytes w32 (slice_index_or bytes 0 0 ∷ slice_index_or bytes 1 0 ∷ slice_index_or bytes 2 0 ∷ slice_index_or bytes 3 0 ∷ [])) ≡ after s (take 4 bytes)
+unfolding after
+takes_header s m records begun part [] view is some = absurd (omega arith)
+takes_header s m records begun part (a ∷ []) view is some = absurd (omega arith)
+takes_header s m records begun part (a ∷ b ∷ []) view is some = absurd (omega arith)
+takes_header s m records begun part (a ∷ b ∷ c ∷ []) view is some = absurd (omega arith)
+takes_header s m records begun part (a ∷ b ∷ c ∷ d ∷ bytes) view is some =
+    ap (λ q. after (stream m records begun q) (a ∷ b ∷ c ∷ d ∷ [])) (sym is) ∙ ap (λ (t : Stream). after t (a ∷ b ∷ c ∷ d ∷ [])) view
 
 -- ---- bytes of a body
 

@@ -1,13 +1,13 @@
 // Records out of pieces of a stream.
-ghost use Rattle.std.specs.Prelude.{◌≡◌, ◌≢◌, ℕ, ◌+◌, ◌<◌, ◌≤◌, List, [], ◌∷◌, ◌++◌, length, take, OnOk, OnErr, IfOk, MatchOption, MatchBool, IsErrOf};
+ghost use Rattle.std.specs.Prelude.{◌≡◌, ◌≢◌, ℕ, ◌+◌, ◌<◌, ◌≤◌, List, [], ◌∷◌, ◌++◌, length, take, IsTrue, OnOk, OnErr, IfOk, MatchOption, MatchBool, IsErrOf};
 ghost use Rattle.journal_rpc.specs.Stream.{fresh, after, stream_ended, stream_opened, Stream, ExtendsStream, IsBetween, waiting_limit, front_taken};
 ghost use Rattle.journal_rpc.specs.Cuts.{SpellsStream};
 ghost use Rattle.journal_rpc.specs.Parts.{HasMore};
-ghost use Rattle.journal_rpc.specs.declared.part.Part.TheVariants.{Body, TooLong};
+ghost use Rattle.journal_rpc.specs.declared.part.Part.TheVariants.{Start, Body, TooLong};
 
 use crate::marking::Marking;
 use crate::part::Part;
-use crate::protocol::WAITING_RECORDS;
+use crate::protocol::{HEADER_BYTES, WAITING_RECORDS};
 use std::alloc::{AllocError, Global};
 use std::collections::VecDeque;
 use std::marker::Model;
@@ -16,6 +16,11 @@ use thiserror::Error;
 
 // The most bytes that get room before they have come.
 const RESERVED_BYTES: usize = 16384;
+
+// The most rooms that are kept for later records, and the most bytes of one.
+const SPARE_ROOMS: usize = 64;
+
+const SPARE_BYTES: usize = 4096;
 
 /// A record: the bytes of its fragments, in one piece.
 #[derive(Debug, Drop)]
@@ -61,6 +66,8 @@ pub struct Records {
     waiting: VecDeque<Record>,
     begun: Vec<u8>,
     part: Part,
+    // Rooms for later records. What they hold has no meaning.
+    spare: Vec<Vec<u8>>,
 }
 
 impl Model for Records {
@@ -86,6 +93,7 @@ impl Records {
             waiting: VecDeque::new(alloc),
             begun: Vec::new(alloc),
             part: Part::Start,
+            spare: Vec::new(alloc),
         }
     }
 
@@ -95,6 +103,21 @@ impl Records {
             (λ first. self.old ≡ record self.new { records = first ∷ self.new.records }) }
     {
         self.waiting.pop_front()
+    }
+
+    /// Takes the room of a record, for a later one. It keeps 64 of at most 4096 bytes, and frees
+    /// others.
+    pub fn reuse(&mut self, record: Record)
+        ensures { self.new ≡ self.old }
+    {
+        let room = record.bytes;
+        if self.spare.len() >= SPARE_ROOMS || room.capacity() > SPARE_BYTES {
+            return;
+        }
+        // Where memory is refused for the list, the room is freed too.
+        if let Ok(()) = self.spare.reserve(1) {
+            self.spare.push_reserved(room);
+        }
     }
 
     /// How many bytes are kept of a record that is not complete.
@@ -173,6 +196,9 @@ impl Records {
         ensures one { length self.new.records ≤ length self.old.records + 1 }
         ensures err { OnErr result (ExtendsStream self.old self.new) }
     {
+        if bytes.len() >= HEADER_BYTES && self.is_at_header() {
+            return self.take_header(bytes);
+        }
         let byte = bytes[0];
         match self.part {
             Part::Start => self.part = Part::First(byte),
@@ -187,6 +213,25 @@ impl Records {
             Part::TooLong => return Ok(bytes.len()),
         }
         Ok(1)
+    }
+
+    // True if no byte of the next header has come.
+    fn is_at_header(&self) -> bool
+        ensures { IsTrue result → self.now.part ≡ Start }
+    {
+        matches!(self.part, Part::Start)
+    }
+
+    // Takes a whole header, and answers how many bytes it has.
+    fn take_header(&mut self, bytes: &[u8]) -> Result<usize, AllocError>
+        requires whole { 4 ≤ length bytes.now }
+        requires here { self.old.part ≡ Start }
+        ensures ok { IfOk result (λ n. (n ≡ 4) × (self.new ≡ after self.old (take 4 bytes.now))) }
+        ensures one { length self.new.records ≤ length self.old.records + 1 }
+        ensures err { OnErr result (ExtendsStream self.old self.new) }
+    {
+        self.open_fragment(u32::from_be_bytes([bytes[0], bytes[1], bytes[2], bytes[3]]))?;
+        Ok(HEADER_BYTES)
     }
 
     // Takes bytes of a body.
@@ -237,12 +282,27 @@ impl Records {
         ensures err { OnErr result (self.new ≡ self.old) }
     {
         if last {
+            let room = self.take_room();
             self.waiting.reserve(1)?;
-            let bytes = mem::replace(&mut self.begun, Vec::new(self.alloc));
+            let bytes = mem::replace(&mut self.begun, room);
             self.waiting.push_back_reserved(Record { bytes });
         }
         self.part = Part::Start;
         Ok(())
+    }
+
+    // Room for a record, of which nothing has come.
+    fn take_room(&mut self) -> Vec<u8>
+        ensures empty { result.items ≡ [] }
+        ensures same { self.new ≡ self.old }
+    {
+        match self.spare.pop() {
+            Some(mut room) => {
+                room.clear();
+                room
+            }
+            None => Vec::new(self.alloc),
+        }
     }
 
     // Undoes all that has come since.

@@ -31,7 +31,8 @@ loop-record-preserved g c =
     let ok = c.in-Ok-add_reply.ensures in
     let ans = answered_some s _ _ _ _ _ _ c.in_ok-soon.field-0 soon c.in-Some-2.is c.in_ok-soon.ensures.held in
     let known = ok.replies ∙ ap (λ (hs : List (BatchEntry _)). hs ++ held_of g.P.Receipt.Counted.commits soon ∷ []) c.make_room.ensures.replies in
-    let one = holds_next s _ _ _ i.0 (g.P.Protocol.seen c.args.session.now) _ _ c.loop-record.batch.replies.items _ c.loop-record.batch.bytes.items _ _ _ c.next.new.self _ c.loop-record.answered _ r ans.0 soon _ i.1 i.2 i.3 c.in-Some.ensures (ap s.reads (sym c.as_bytes-bytes.ensures) ∙ ans.1)
+    let given_back : c.loop-record.records ≡ record c.reuse.new.self { records = r ∷ c.reuse.new.self.records } = c.in-Some.ensures ∙ ap (λ (t : Stream). record t { records = r ∷ t.records }) (sym c.reuse.ensures) in
+    let one = holds_next s _ _ _ i.0 (g.P.Protocol.seen c.args.session.now) _ _ c.loop-record.batch.replies.items _ c.loop-record.batch.bytes.items _ _ _ c.reuse.new.self _ c.loop-record.answered _ r ans.0 soon _ i.1 i.2 i.3 given_back (ap s.reads (sym c.as_bytes-bytes.ensures) ∙ ans.1)
     (record { moment = _; told = c.pass_gate-moment.ensures; held = ans.2 }) c.if-ends.false known (ok.bytes ∙ ap (λ (w : List ℕ). w ++ soon.reply.items) c.make_room.ensures.bytes) c.saturating_add.ensures in
     (i.0 ++ r ∷ [], one.0, one.1, one.2, ok.in_order (c.make_room.ensures.in_order i.4))
 
@@ -44,9 +45,10 @@ returns-then-ends-clause-answered g c =
     let ok = c.in-Ok-add_reply.ensures in
     let ans = answered_some s _ _ _ _ _ _ c.in_ok-soon.field-0 soon c.in-Some-2.is c.in_ok-soon.ensures.held in
     let known = ok.replies ∙ ap (λ (hs : List (BatchEntry _)). hs ++ held_of g.P.Receipt.Counted.commits soon ∷ []) c.make_room.ensures.replies in
-    let one = holds_next s _ _ _ i.0 (g.P.Protocol.seen c.args.session.now) _ _ c.loop-record.batch.replies.items _ c.loop-record.batch.bytes.items _ _ _ c.next.new.self _ c.loop-record.answered _ r ans.0 soon _ i.1 i.2 i.3 c.in-Some.ensures (ap s.reads (sym c.as_bytes-bytes.ensures) ∙ ans.1)
+    let given_back : c.loop-record.records ≡ record c.reuse.new.self { records = r ∷ c.reuse.new.self.records } = c.in-Some.ensures ∙ ap (λ (t : Stream). record t { records = r ∷ t.records }) (sym c.reuse.ensures) in
+    let one = holds_next s _ _ _ i.0 (g.P.Protocol.seen c.args.session.now) _ _ c.loop-record.batch.replies.items _ c.loop-record.batch.bytes.items _ _ _ c.reuse.new.self _ c.loop-record.answered _ r ans.0 soon _ i.1 i.2 i.3 given_back (ap s.reads (sym c.as_bytes-bytes.ensures) ∙ ans.1)
     (record { moment = _; told = c.pass_gate-moment.ensures; held = ans.2 }) c.if-ends.true known (ok.bytes ∙ ap (λ (w : List ℕ). w ++ soon.reply.items) c.make_room.ensures.bytes) c.saturating_add.ensures in
-    record { answered = i.0 ++ r ∷ []; left = c.next.new.self.records; replied = one.0; rest = one.1; counts = one.2; turn_is = tt }
+    record { answered = i.0 ++ r ∷ []; left = c.reuse.new.self.records; replied = one.0; rest = one.1; counts = one.2; turn_is = tt }
 
 pub returns-then-is_full-clause-answered : goal.returns-then-is_full-clause-answered
 returns-then-is_full-clause-answered g c =
@@ -57,9 +59,10 @@ returns-then-is_full-clause-answered g c =
     let ok = c.in-Ok-add_reply.ensures in
     let ans = answered_some s _ _ _ _ _ _ c.in_ok-soon.field-0 soon c.in-Some-2.is c.in_ok-soon.ensures.held in
     let known = ok.replies ∙ ap (λ (hs : List (BatchEntry _)). hs ++ held_of g.P.Receipt.Counted.commits soon ∷ []) c.make_room.ensures.replies in
-    let one = holds_next s _ _ _ i.0 (g.P.Protocol.seen c.args.session.now) _ _ c.loop-record.batch.replies.items _ c.loop-record.batch.bytes.items _ _ _ c.next.new.self _ c.loop-record.answered _ r ans.0 soon _ i.1 i.2 i.3 c.in-Some.ensures (ap s.reads (sym c.as_bytes-bytes.ensures) ∙ ans.1)
+    let given_back : c.loop-record.records ≡ record c.reuse.new.self { records = r ∷ c.reuse.new.self.records } = c.in-Some.ensures ∙ ap (λ (t : Stream). record t { records = r ∷ t.records }) (sym c.reuse.ensures) in
+    let one = holds_next s _ _ _ i.0 (g.P.Protocol.seen c.args.session.now) _ _ c.loop-record.batch.replies.items _ c.loop-record.batch.bytes.items _ _ _ c.reuse.new.self _ c.loop-record.answered _ r ans.0 soon _ i.1 i.2 i.3 given_back (ap s.reads (sym c.as_bytes-bytes.ensures) ∙ ans.1)
     (record { moment = _; told = c.pass_gate-moment.ensures; held = ans.2 }) c.if-ends.false known (ok.bytes ∙ ap (λ (w : List ℕ). w ++ soon.reply.items) c.make_room.ensures.bytes) c.saturating_add.ensures in
-    record { answered = i.0 ++ r ∷ []; left = c.next.new.self.records; replied = one.0; rest = one.1; counts = one.2; turn_is = (snoc_some i.0 r, refl) }
+    record { answered = i.0 ++ r ∷ []; left = c.reuse.new.self.records; replied = one.0; rest = one.1; counts = one.2; turn_is = (snoc_some i.0 r, refl) }
 
 -- a record that is no call
 pub returns-in_default-2-clause-answered : goal.returns-in_default-2-clause-answered
@@ -135,10 +138,11 @@ returns-in_default-add_reply-clause-lost g c = λ history.
     (record { moment = _; told = c.pass_gate-moment.ensures; held = ans.2 }) refl refl in
     let all = told_somehow s _ _ _ (i.0 ++ r ∷ []) (g.P.Protocol.seen c.args.session.now) _ (c.loop-record.batch.bytes.items ++ soon.reply.items) (talk (g.P.Protocol.seen c.answer_no_wait.new.session) soon.ends) held (g.met.P.Protocol.refusable c.args.answerer.now.protocol.now)
     (fits_one g.P.Receipt.Counted.commits c.loop-record.batch.replies.items _ c.loop-record.batch.bytes.items soon i.4.fits refl) history in
+    let given_back : c.loop-record.records ≡ record c.reuse.new.self { records = r ∷ c.reuse.new.self.records } = c.in-Some.ensures ∙ ap (λ (t : Stream). record t { records = r ∷ t.records }) (sym c.reuse.ensures) in
     record {
       text = all.0;
       answered = i.0 ++ r ∷ [];
-      left = c.next.new.self.records;
-      records = ap (λ (t : Stream). t.records) i.2 ∙ ap (λ (t : Stream). i.0 ++ t.records) c.in-Some.ensures ∙ sym (append_assoc i.0 (r ∷ []) c.next.new.self.records);
+      left = c.reuse.new.self.records;
+      records = ap (λ (t : Stream). t.records) i.2 ∙ ap (λ (t : Stream). i.0 ++ t.records) given_back ∙ sym (append_assoc i.0 (r ∷ []) c.reuse.new.self.records);
       replied = replies_done s _ (g.met.P.Protocol.lawful c.args.answerer.now.protocol.now) history (i.0 ++ r ∷ []) _ _ all.0 all.1;
     }
