@@ -1,13 +1,16 @@
 -- A call in the history, and why an attempt at one is undone.
-use Rattle.std.specs.Prelude.{ℕ, ◌≡◌, ◌≤◌, ◌+◌, IsTrue, List, [], ◌∷◌, ◌++◌, length, take, Some, slice_get}
+use Rattle.std.specs.Prelude.{ℕ, ◌≡◌, ◌≤◌, ◌+◌, IsTrue, List, [], ◌∷◌, ◌++◌, length, take, Option, Some, None, slice_get}
 use mathlib.Core.List.{IsPrefix}
 use Rattle.journal_world.specs.declared.address.Addr.{Addr}
 use Rattle.journal_world.specs.declared.refusal.Refusal.{Refusal}
-use Rattle.journal_world.specs.declared.refusal.Refusal.TheVariants.{BadAddress, Busy, NoMemory as NoMemoryRefusal}
+use Rattle.journal_world.specs.declared.refusal.Refusal.TheVariants.{NoMemory as NoMemoryRefusal, BadAddress, TooLarge, Busy, DeviceFailed, Stale, Stranger, Worn, Closed, Fenced}
 use Rattle.journal_world.specs.Maps.{Transaction, apply}
 use Rattle.journal_world.specs.Histories.{Entry, commits_of, count, is_trusted, at, latest}
 use Rattle.journal_world.specs.Histories.Entry.{commit}
 use Rattle.journal_history.specs.Tokens.{SessionState, IsExact, CommitPlace}
+use Rattle.journal_memory.specs.declared.refusal_number.RefusalNumber.TheVariants.{J6, J9, J10, J11, J13}
+use Rattle.journal_memory.specs.Causes.{CauseState, IsUnexplained}
+use Rattle.journal_twophase.specs.Journals.{IsShown}
 use Rattle.journal_tree.specs.declared.time.Time.{Time}
 use Rattle.journal_tree.specs.declared.caller.Caller.{Caller}
 use Rattle.journal_tree.specs.Op.{Call, Reply, Op}
@@ -53,7 +56,28 @@ abbrev pub fault_at : {C : Type 0} → Addr → Refusal C → AttemptFault C
 fault_at addr Busy = Held addr
 fault_at addr other = Refused other
 
-abbrev pub fault_of : {C : Type 0} → TreeFault (AttemptFault C) → AttemptFault C
-fault_of NoObject = Refused BadAddress
-fault_of NoMemory = Refused NoMemoryRefusal
-fault_of (GivenUp fault) = fault
+-- a call was given up so, and its transaction may have refused
+abbrev pub fault_of : {C : Type 0} → TreeFault → Option (AttemptFault C) → AttemptFault C
+fault_of NoObject refused = Refused BadAddress
+fault_of NoMemory refused = Refused NoMemoryRefusal
+fault_of GivenUp (Some fault) = fault
+fault_of GivenUp None = Refused NoMemoryRefusal
+
+-- Why a call on a tree is refused: never for the size of a value, and never for room
+abbrev pub IsTreeRefusal : Refusal CauseState → Type 0
+IsTreeRefusal NoMemoryRefusal = Unit {0}
+IsTreeRefusal BadAddress = Unit {0}
+IsTreeRefusal TooLarge = Unit {0}
+IsTreeRefusal Busy = Unit {0}
+IsTreeRefusal (DeviceFailed cause) = IsUnexplained J6 cause
+IsTreeRefusal (Stale cause) = IsShown J9 cause
+IsTreeRefusal (Stranger cause) = IsShown J10 cause
+IsTreeRefusal (Worn cause) = IsUnexplained J11 cause
+IsTreeRefusal (Closed cause) = IsUnexplained J13 cause
+IsTreeRefusal Fenced = Unit {0}
+IsTreeRefusal other = ⊥
+
+-- Why an attempt at one is undone
+abbrev pub IsAttemptEnd : AttemptFault CauseState → Type 0
+IsAttemptEnd (Held addr) = Unit {0}
+IsAttemptEnd (Refused why) = IsTreeRefusal why

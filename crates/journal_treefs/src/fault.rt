@@ -26,14 +26,16 @@ impl<C: Drop> AttemptFault<C> {
         }
     }
 
-    /// The reason of a call on a disk with a tree.
-    pub fn of(fault: TreeFault<AttemptFault<C>>) -> AttemptFault<C>
-        ensures { result ≡ fault_of fault }
+    /// The reason of a call on a disk with a tree that was given up, whose transaction may have
+    /// refused. A transaction that refuses leaves its reason.
+    pub fn of(fault: TreeFault, refused: Option<AttemptFault<C>>) -> AttemptFault<C>
+        ensures { result ≡ fault_of fault refused }
     {
+        let no_memory = AttemptFault::Refused(Refusal::NoMemory);
         match fault {
             TreeFault::NoObject => AttemptFault::Refused(Refusal::BadAddress),
-            TreeFault::NoMemory => AttemptFault::Refused(Refusal::NoMemory),
-            TreeFault::Transaction(fault) => fault,
+            TreeFault::NoMemory => no_memory,
+            TreeFault::Transaction => refused.unwrap_or(no_memory),
         }
     }
 }

@@ -12,14 +12,14 @@ ghost use Rattle.journal_twophase.specs.declared.journal.TheConstants.{MAX_CACHE
 ghost use Rattle.journal_tree.specs.Times.{IsTime};
 ghost use Rattle.journal_treestore.specs.Places.{shape_of, IsCut};
 ghost use Rattle.journal_treeobjects.specs.Maps.{IsWhole};
-ghost use Rattle.journal_treefs.specs.Calls.{IsCommittedCall};
+ghost use Rattle.journal_treefs.specs.Calls.{IsCommittedCall, IsTreeRefusal, IsAttemptEnd};
 
 use crate::{AttemptFault, JournalTransaction, TreeRule};
 use journal_disk::BlockDisk;
 use journal_history::{Book, Naming, Receipt, Session};
 use journal_lockmap::SlotCell;
 use journal_memory::Cause;
-use journal_treeobjects::{Finished, TreeOperation, TreeTransaction};
+use journal_treeobjects::{Asking, Finished, GivenUp, TreeOperation, TreeTransaction};
 use journal_treestore::Cut;
 use journal_twophase::{Journal, MAX_CACHED_BLOCKS};
 use journal_world::{Addr, Refusal, Refused};
@@ -130,8 +130,8 @@ impl<'b, D: BlockDisk, R: TreeRule, J: Naming> TreeStore<'b, D, R, J> {
         journal.close(session)
     }
 
-    /// Does a call, and commits it with its answer. An attempt that finds a slot held is undone,
-    /// and made again once the slot is free, at most 8 times.
+    /// Does a call that is asked so, and commits it with its answer. An attempt that finds a slot
+    /// held is undone, and made again once the slot is free, at most 8 times.
     ///
     /// # Errors
     /// The session has no commit of the call then, and may have seen more of the history.
@@ -143,21 +143,23 @@ impl<'b, D: BlockDisk, R: TreeRule, J: Naming> TreeStore<'b, D, R, J> {
         &self,
         rt: &W,
         session: &mut Session<'b, J, R>,
+        asking: Asking,
         operation: &O,
     ) -> Result<Committed<O::Reply, Receipt<'b, J, R>>, Refusal<Cause<'b, J, R>>>
-        requires time { IsTime (O.now operation.now) }
-        ensures committed { IfOk result (λ done. IsCommittedCall self.now.cut (O.call operation.now) (O.caller operation.now) (O.now operation.now)
+        requires time { IsTime asking.now }
+        ensures committed { IfOk result (λ done. IsCommittedCall self.now.cut (O.call operation.now) asking.caller asking.now
             session.old session.new (O.told done.reply) done.receipt) }
         ensures session { OnErr result (OnlyExtends session.old session.new) }
+        ensures refusal { IfErr result IsTreeRefusal }
     {
         for _ in 0..RETRIES {
-            match self.once(rt, session, operation) {
+            match self.once(rt, session, asking, operation) {
                 Ok(done) => return Ok(done),
                 Err(AttemptFault::Held(addr)) => self.await_slot(rt, session, addr),
                 Err(AttemptFault::Refused(refusal)) => return Err(refusal),
             }
         }
-        match self.once(rt, session, operation) {
+        match self.once(rt, session, asking, operation) {
             Ok(done) => Ok(done),
             Err(AttemptFault::Held(_)) => Err(Refusal::Busy),
             Err(AttemptFault::Refused(refusal)) => Err(refusal),
@@ -180,21 +182,27 @@ impl<'b, D: BlockDisk, R: TreeRule, J: Naming> TreeStore<'b, D, R, J> {
         &self,
         rt: &W,
         session: &mut Session<'b, J, R>,
+        asking: Asking,
         operation: &O,
     ) -> Result<Committed<O::Reply, Receipt<'b, J, R>>, AttemptFault<Cause<'b, J, R>>>
-        requires time { IsTime (O.now operation.now) }
-        ensures committed { IfOk result (λ done. IsCommittedCall self.now.cut (O.call operation.now) (O.caller operation.now) (O.now operation.now)
+        requires time { IsTime asking.now }
+        ensures committed { IfOk result (λ done. IsCommittedCall self.now.cut (O.call operation.now) asking.caller asking.now
             session.old session.new (O.told done.reply) done.receipt) }
         ensures session { OnErr result (OnlyExtends session.old session.new) }
+        ensures refusal { IfErr result IsAttemptEnd }
     {
         let txn = self.journal.begin(self.alloc, session);
         let transaction = JournalTransaction { rt, txn };
         let mut disk = TreeTransaction::begin(self.alloc, self.cut, transaction);
-        let reply = match operation.attempt(&mut disk) {
+        let reply = match operation.attempt(asking, &mut disk) {
             Ok(reply) => reply,
             Err(fault) => {
-                disk.give_up().abort();
-                return Err(AttemptFault::of(fault));
+                let GivenUp {
+                    transaction,
+                    fault: refused,
+                } = disk.give_up();
+                transaction.abort();
+                return Err(AttemptFault::of(fault, refused));
             }
         };
         let Finished {

@@ -1,9 +1,10 @@
 // A transaction of a journal, as one on objects.
-ghost use Rattle.std.specs.Prelude.{◌≡◌, IfOk, OnErr};
+ghost use Rattle.std.specs.Prelude.{◌≡◌, IfOk, IfErr, OnErr};
 ghost use Rattle.journal_world.specs.Maps.{Map, Agrees, overwritten};
 ghost use Rattle.journal_history.specs.Tokens.{OnlyExtends};
 ghost use Rattle.journal_twophase.specs.Transactions.{core_of};
 ghost use Rattle.journal_twophase.specs.Commits.{IsCommitted};
+ghost use Rattle.journal_treefs.specs.Calls.{IsTreeRefusal};
 
 use crate::AttemptFault;
 use journal_disk::BlockDisk;
@@ -26,7 +27,11 @@ pub struct JournalTransaction<'t, 'j, 'b, D: BlockDisk, R: MapRule, J: Naming, W
 
 impl<'t, 'j, 'b, D: BlockDisk, R: MapRule, J: Naming, W: Wait> ObjectTransaction
     for JournalTransaction<'t, 'j, 'b, D, R, J, W> {
+    ghost use Rattle.journal_treefs.specs.Calls.{IsAttemptEnd};
+
     type Fault = AttemptFault<Cause<'b, J, R>>;
+
+    ghost is_fault = { IsAttemptEnd };
 
     ghost layout = { λ t. J.layout };
 
@@ -72,6 +77,7 @@ impl<'t, 'j, 'b, D: BlockDisk, R: MapRule, J: Naming, W: Wait> JournalTransactio
             → R.statement (overwritten m self.txn.writes) }
         ensures committed { IfOk result (IsCommitted R.statement J.layout self.entry.txn.began (core_of self.entry.txn) session.old session.new) }
         ensures session { OnErr result (OnlyExtends session.old session.new) }
+        ensures refusal { IfErr result IsTreeRefusal }
     {
         let JournalTransaction { rt, txn } = self;
         txn.commit(rt, session)

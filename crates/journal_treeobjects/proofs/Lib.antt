@@ -1,3 +1,4 @@
+pub mod ObjectKinds
 pub mod Viewing
 pub mod Ruling
 pub mod Overwriting

@@ -8,7 +8,7 @@ use Rattle.journal_treestore.specs.Places.{addr_of, IsOnDisk}
 use Rattle.journal_treecalls.specs.Disks.{Write}
 use Rattle.journal_treeobjects.specs.declared.tree_transaction.KeptWrite.{KeptWrite}
 use Rattle.journal_treeobjects.specs.Effects.{object_of, value_of, pairs_of, AreOnDisk}
-use Rattle.journal_treeobjects.specs.States.{write_of, last_first}
+use Rattle.journal_treeobjects.specs.States.{write_of, last_first, IsSized, AreSized}
 
 -- one more, at the end, is the first of them
 pub last_first-more : (ws : List KeptWrite) (w : KeptWrite) (before : List Write) → last_first (ws ++ w ∷ []) before ≡ write_of w ∷ last_first ws before
@@ -31,6 +31,16 @@ pub on-disk-at : (c : Cut) (ws : List KeptWrite) (before : List Write) (i : ℕ)
 on-disk-at c [] before i w on low is = absurd (omega (arith, low))
 on-disk-at c (x ∷ xs) before zero w on low is = subst (λ y. IsOnDisk c (object_of (write_of y))) (sym is) (on-disk-rest c xs (write_of x ∷ before) on).0
 on-disk-at c (x ∷ xs) before (suc i) w on low is = on-disk-at c xs (write_of x ∷ before) i w on (omega (arith, low)) is
+
+sized-rest : (ws : List KeptWrite) (before : List Write) → AreSized (last_first ws before) → AreSized before
+sized-rest [] before sized = sized
+sized-rest (x ∷ xs) before sized = (sized-rest xs (write_of x ∷ before) sized).1
+
+-- and each has a value of its kind
+pub sized-at : (ws : List KeptWrite) (before : List Write) (i : ℕ) (w : KeptWrite) → AreSized (last_first ws before) → i < length ws → w ≡ get_or ws i w → IsSized (write_of w)
+sized-at [] before i w sized low is = absurd (omega (arith, low))
+sized-at (x ∷ xs) before zero w sized low is = subst (λ y. IsSized (write_of y)) (sym is) (sized-rest xs (write_of x ∷ before) sized).0
+sized-at (x ∷ xs) before (suc i) w sized low is = sized-at xs (write_of x ∷ before) i w sized (omega (arith, low)) is
 
 -- ── what is overwritten ──
 

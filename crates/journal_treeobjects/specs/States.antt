@@ -1,8 +1,9 @@
 -- A transaction on a disk with a tree as contracts see it, and the effects of its calls.
-use Rattle.std.specs.Prelude.{◌≡◌, IsTrue, List, [], ◌∷◌, Some}
+use Rattle.std.specs.Prelude.{ℕ, ◌≡◌, IsTrue, IfSome, List, [], ◌∷◌, length, Option, Some}
 use Rattle.std.proofs.Common.{subst}
 use Rattle.journal_world.specs.declared.address.Addr.{Addr}
-use Rattle.journal_world.specs.Addresses.{Value, Shape}
+use Rattle.journal_world.specs.declared.address.Kind.{Kind}
+use Rattle.journal_world.specs.Addresses.{Value, Shape, kind_of, is_valid, bytes_of, limit_of}
 use Rattle.journal_world.specs.Maps.{Pair, value_among, are_objects}
 use Rattle.journal_treestore.specs.declared.place.Cut.{Cut}
 use Rattle.journal_treestore.specs.Places.{shape_of, IsCut}
@@ -31,13 +32,32 @@ abbrev pub last_first : List KeptWrite → List Write → List Write
 last_first [] before = before
 last_first (w ∷ ws) before = last_first ws (write_of w ∷ before)
 
+-- A value of its object's kind is written
+abbrev pub IsSized : Write → Type 0
+IsSized (inode_write n v) = length v ≡ 512
+IsSized (owner_write b v) = length v ≡ 8
+IsSized (block_write b v) = length v ≡ 4096
+
+abbrev pub AreSized : List Write → Type 0
+AreSized [] = Unit {0}
+AreSized (w ∷ ws) = IsSized w × AreSized ws
+
+-- As many bytes are those of an object
+pub record AreBytesAt (layout : Shape) (a : Addr) (size : ℕ) : Type 0 where
+  pub kind : Kind
+  pub is : kind_of layout a.block ≡ Some kind
+  pub valid : IsTrue (is_valid layout a)
+  pub any : limit_of kind ≡ 256
+  pub whole : size ≡ bytes_of kind
+
 -- what is kept was read
 abbrev pub IsAmong : List Pair → List Pair → Type 0
 IsAmong kept reads = (a : Addr) (v : Value) → value_among kept a ≡ Some v → value_among reads a ≡ Some v
 
 -- The invariant: the transaction below is of the disk's layout, has read what is kept, and has
--- overwritten nothing yet. The disk has all objects that are to be written
-pub record IsOpen (c : Cut) (layout : Shape) (reads writes kept : List Pair) (waiting : List Write) : Type 0 where
+-- overwritten nothing yet. The disk has all objects that are to be written, and a fault that is
+-- kept is the transaction's
+pub record IsOpen {F : Type 0} (is_fault : F → Type 0) (c : Cut) (layout : Shape) (reads writes kept : List Pair) (waiting : List Write) (fault : Option F) : Type 0 where
   pub cut : IsCut c
   pub whole : IsWhole c
   pub shape : layout ≡ shape_of c
@@ -45,6 +65,8 @@ pub record IsOpen (c : Cut) (layout : Shape) (reads writes kept : List Pair) (wa
   pub read : IsAmong kept reads
   pub objects : IsTrue (are_objects (shape_of c) kept)
   pub on_disk : AreOnDisk c waiting
+  pub sized : AreSized waiting
+  pub told : IfSome fault is_fault
 
 -- the disks that may have been read
 abbrev pub may_be : TreeState → View → Type 0

@@ -7,8 +7,7 @@
 //! that was done on it was then done on each map with a sound tree that agrees with the
 //! transaction's reads (`DoesOnMaps`).
 //!
-//! `TreeOperation` is a call as one transaction does it. Each call of `journal_treecalls` that does
-//! something is one.
+//! `TreeOperation` is a call as one transaction does it. Each call of `journal_treecalls` is one.
 //!
 //! Nothing here needs the journal: an `ObjectTransaction` is all that is asked of it. No program
 //! uses this crate yet.
@@ -27,9 +26,10 @@ pub use law::{
     one_layout_is_cut_in_one_way, the_rule_is_of_values, writes_show_the_disk_after_them,
 };
 pub use object_transaction::ObjectTransaction;
-pub use operation::TreeOperation;
+pub use operation::{Asking, TreeOperation};
 pub use requests::{
-    Access, Asking, Commit, CreateGuarded, FsInfo, FsStat, GetAttr, Lookup, MkDir, PathConf,
-    Remove, RmDir, SetAttr,
+    Access, Commit, CreateExclusive, CreateGuarded, CreateUnchecked, FsInfo, FsStat, GetAttr, Link,
+    Lookup, MkDir, MkNod, PathConf, Read, ReadDir, ReadDirPlus, ReadLink, Remove, Rename, RmDir,
+    SetAttr, SymLink, Write,
 };
-pub use tree_transaction::{Finished, TreeTransaction};
+pub use tree_transaction::{Finished, GivenUp, TreeTransaction};

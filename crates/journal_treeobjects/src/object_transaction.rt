@@ -1,5 +1,5 @@
 // A transaction on the objects of a map.
-ghost use Rattle.std.specs.Prelude.{◌≡◌, ◌∷◌, None, List, IsTrue, IfOk, OnOk, OnErr};
+ghost use Rattle.std.specs.Prelude.{◌≡◌, ◌∷◌, None, List, IsTrue, IfOk, IfErr, OnOk, OnErr};
 ghost use Rattle.journal_world.specs.Addresses.{Shape};
 ghost use Rattle.journal_world.specs.Maps.{Pair, SamePairs, value_among, is_object};
 
@@ -9,7 +9,10 @@ use journal_world::{Addr, Value};
 /// overwritten, all of it, if it is committed.
 pub trait ObjectTransaction {
     /// Why a read or an overwrite is refused.
-    type Fault;
+    type Fault: Drop;
+
+    /// The refusals that there may be.
+    ghost is_fault: { Self.Fault → Type 0 };
 
     /// The layout of the disk.
     ghost layout: { Self → Shape };
@@ -29,15 +32,18 @@ pub trait ObjectTransaction {
         ensures reads { IfOk result (λ value. SamePairs (reads self.new) ((addr, value) ∷ reads self.old)) }
         ensures object { IfOk result (λ value. IsTrue (is_object (layout self.old) (addr, value))) }
         ensures same { OnErr result (reads self.new ≡ reads self.old) }
+        ensures fault { IfErr result is_fault }
         ensures same_layout { layout self.new ≡ layout self.old }
         ensures same_writes { writes self.new ≡ writes self.old };
 
-    /// Overwrites an object.
+    /// Overwrites an object by a value of its kind.
     ///
     /// # Errors
     /// - The transaction refuses.
     fn overwrite(&mut self, addr: Addr, bytes: &[u8]) -> Result<(), Self::Fault>
+        requires object { IsTrue (is_object (layout self.old) (addr, bytes.now)) }
         ensures writes { OnOk result (SamePairs (writes self.new) ((addr, bytes.now) ∷ writes self.old)) }
         ensures same_layout { layout self.new ≡ layout self.old }
-        ensures same_reads { reads self.new ≡ reads self.old };
+        ensures same_reads { reads self.new ≡ reads self.old }
+        ensures fault { IfErr result is_fault };
 }

@@ -11,7 +11,7 @@ use std::alloc::{AllocError, Global};
 impl<T: ObjectTransaction> TreeDisk for TreeTransaction<T> {
     ghost use Rattle.journal_treeobjects.specs.States.{may_be, are_sound};
 
-    type Fault = TreeFault<T::Fault>;
+    type Fault = TreeFault;
 
     ghost may_be = { may_be };
 
@@ -31,11 +31,11 @@ impl<T: ObjectTransaction> TreeDisk for TreeTransaction<T> {
         self.cut.data_blocks()
     }
 
-    fn zero_block(&self) -> Result<Value, TreeFault<T::Fault>> {
+    fn zero_block(&self) -> Result<Value, TreeFault> {
         Ok(zeros(self.alloc, BLOCK_BYTES)?)
     }
 
-    fn zeros(&self, count: usize) -> Result<Vec<u8>, TreeFault<T::Fault>> {
+    fn zeros(&self, count: usize) -> Result<Vec<u8>, TreeFault> {
         let alloc = self.alloc;
         Ok(vec![in alloc; 0u8; count]?)
     }
@@ -44,12 +44,12 @@ impl<T: ObjectTransaction> TreeDisk for TreeTransaction<T> {
         Vec::new(self.alloc)
     }
 
-    fn add_line(&self, lines: &mut Vec<Line>, line: Line) -> Result<(), TreeFault<T::Fault>> {
+    fn add_line(&self, lines: &mut Vec<Line>, line: Line) -> Result<(), TreeFault> {
         lines.push(line)?;
         Ok(())
     }
 
-    fn inode(&mut self, number: u32) -> Result<[u8; INODE_BYTES], TreeFault<T::Fault>> {
+    fn inode(&mut self, number: u32) -> Result<[u8; INODE_BYTES], TreeFault> {
         let index = u64::from(number);
         if self.cut.numbers <= index {
             return Err(TreeFault::NoObject);
@@ -59,7 +59,7 @@ impl<T: ObjectTransaction> TreeDisk for TreeTransaction<T> {
         self.kept_bytes(addr)
     }
 
-    fn owner(&mut self, block: u32) -> Result<[u8; OWNER_BYTES], TreeFault<T::Fault>> {
+    fn owner(&mut self, block: u32) -> Result<[u8; OWNER_BYTES], TreeFault> {
         let index = u64::from(block);
         if self.cut.blocks <= index {
             return Err(TreeFault::NoObject);
@@ -69,7 +69,7 @@ impl<T: ObjectTransaction> TreeDisk for TreeTransaction<T> {
         self.kept_bytes(addr)
     }
 
-    fn block(&mut self, block: u32) -> Result<Value, TreeFault<T::Fault>> {
+    fn block(&mut self, block: u32) -> Result<Value, TreeFault> {
         let index = u64::from(block);
         if index < self.cut.first_data() || self.cut.blocks <= index {
             return Err(TreeFault::NoObject);
@@ -79,29 +79,21 @@ impl<T: ObjectTransaction> TreeDisk for TreeTransaction<T> {
         self.kept_value(addr)
     }
 
-    fn put_inode(
-        &mut self,
-        number: u32,
-        bytes: [u8; INODE_BYTES],
-    ) -> Result<(), TreeFault<T::Fault>> {
+    fn put_inode(&mut self, number: u32, bytes: [u8; INODE_BYTES]) -> Result<(), TreeFault> {
         if self.cut.numbers <= u64::from(number) {
             return Err(TreeFault::NoObject);
         }
         self.put(KeptWrite::Inode(number, bytes))
     }
 
-    fn put_owner(
-        &mut self,
-        block: u32,
-        bytes: [u8; OWNER_BYTES],
-    ) -> Result<(), TreeFault<T::Fault>> {
+    fn put_owner(&mut self, block: u32, bytes: [u8; OWNER_BYTES]) -> Result<(), TreeFault> {
         if self.cut.blocks <= u64::from(block) {
             return Err(TreeFault::NoObject);
         }
         self.put(KeptWrite::Owner(block, bytes))
     }
 
-    fn put_block(&mut self, block: u32, value: Value) -> Result<(), TreeFault<T::Fault>> {
+    fn put_block(&mut self, block: u32, value: Value) -> Result<(), TreeFault> {
         let index = u64::from(block);
         if index < self.cut.first_data() || self.cut.blocks <= index {
             return Err(TreeFault::NoObject);

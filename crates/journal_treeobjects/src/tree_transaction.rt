@@ -1,5 +1,5 @@
 // A transaction on a disk with a tree.
-ghost use Rattle.std.specs.Prelude.{◌≡◌, ◌∷◌, [], Some, IsTrue, IfOk, OnOk, OnErr};
+ghost use Rattle.std.specs.Prelude.{◌≡◌, ◌∷◌, [], Some, IsTrue, IfOk, IfErr, IfSome, OnOk, OnErr, length};
 ghost use Rattle.journal_world.specs.Maps.{SamePairs, value_among, is_object};
 ghost use Rattle.journal_treestore.specs.Places.{shape_of, IsCut, addr_of, IsOnDisk};
 ghost use Rattle.journal_tree.specs.declared.time.Time.{Time};
@@ -8,7 +8,7 @@ ghost use Rattle.journal_tree.specs.Op.{Call, Reply};
 ghost use Rattle.journal_treecalls.specs.Disks.{Does};
 ghost use Rattle.journal_treeobjects.specs.Maps.{IsWhole};
 ghost use Rattle.journal_treeobjects.specs.Effects.{object_of, value_of, pairs_of, AreOnDisk, DoesOnMaps};
-ghost use Rattle.journal_treeobjects.specs.States.{write_of, last_first, may_be, Keeps};
+ghost use Rattle.journal_treeobjects.specs.States.{write_of, last_first, IsSized, AreSized, AreBytesAt, may_be, Keeps};
 
 use crate::{ObjectTransaction, TreeFault};
 use journal_treestore::{Cut, INODE_BYTES, OWNER_BYTES};
@@ -26,7 +26,8 @@ pub enum KeptWrite {
 
 // It keeps what it read, and not the transaction alone: on a disk that is not honest, a second read
 // of an object could else give another value than the one by which the call went. The writes wait,
-// since a transaction has them by address, and a call's contract has them in their order.
+// since a transaction has them by address, and a call's contract has them in their order. It keeps
+// the reason of a refusal too, since a call's contract says nothing of the fault that it passes on.
 /// A transaction on a disk with a tree, for one call. Contracts see how the disk is cut, the
 /// objects that were read, and the writes, the last first.
 ///
@@ -37,6 +38,7 @@ pub struct TreeTransaction<T: ObjectTransaction> {
     transaction: T,
     kept: Objects,
     waiting: Vec<KeptWrite>,
+    fault: Option<T::Fault>,
 }
 
 impl<T: ObjectTransaction> Model for TreeTransaction<T> {
@@ -47,7 +49,7 @@ impl<T: ObjectTransaction> Model for TreeTransaction<T> {
 
     ghost view = { λ t. record { cut = t.cut; kept = t.kept; writes = last_first t.waiting.items [] } };
 
-    ghost invariant = { λ t. IsOpen t.cut (T.layout t.transaction) (T.reads t.transaction) (T.writes t.transaction) t.kept (last_first t.waiting.items []) };
+    ghost invariant = { λ t. IsOpen T.is_fault t.cut (T.layout t.transaction) (T.reads t.transaction) (T.writes t.transaction) t.kept (last_first t.waiting.items []) t.fault };
 }
 
 /// A transaction to which all writes of a call were given, or the reason why that was refused. Then
@@ -57,6 +59,14 @@ pub struct Finished<T: ObjectTransaction> {
     pub transaction: T,
     /// `Ok` if it has all writes.
     pub outcome: Result<(), T::Fault>,
+}
+
+/// The transaction of a call that is given up. It has no writes.
+pub struct GivenUp<T: ObjectTransaction> {
+    /// The transaction.
+    pub transaction: T,
+    /// Why it refused, if it did.
+    pub fault: Option<T::Fault>,
 }
 
 impl<T: ObjectTransaction> TreeTransaction<T> {
@@ -75,6 +85,7 @@ impl<T: ObjectTransaction> TreeTransaction<T> {
             transaction,
             kept: Objects::new(alloc),
             waiting: Vec::new(alloc),
+            fault: None,
         }
     }
 
@@ -86,6 +97,7 @@ impl<T: ObjectTransaction> TreeTransaction<T> {
         ensures layout { T.layout result.transaction ≡ shape_of self.cut }
         ensures calls { (call : Call) (caller : Caller) (now : Time) (reply : Reply) → Does (may_be self) self.writes call caller now reply
             → OnOk result.outcome (DoesOnMaps self.cut (T.reads result.transaction) (T.writes result.transaction) call caller now reply) }
+        ensures fault { IfErr result.outcome T.is_fault }
     {
         let TreeTransaction {
             alloc: _,
@@ -93,6 +105,7 @@ impl<T: ObjectTransaction> TreeTransaction<T> {
             transaction,
             kept: _,
             waiting,
+            fault: _,
         } = self;
         let mut transaction = transaction;
         let outcome = overwrite_all(&mut transaction, &cut, &waiting);
@@ -102,9 +115,10 @@ impl<T: ObjectTransaction> TreeTransaction<T> {
         }
     }
 
-    /// Gives the transaction back without a write.
-    pub fn give_up(self) -> T
-        ensures { T.writes result ≡ [] }
+    /// Gives the transaction back without a write, and the reason why it refused, if it did.
+    pub fn give_up(self) -> GivenUp<T>
+        ensures unwritten { T.writes result.transaction ≡ [] }
+        ensures fault { IfSome result.fault T.is_fault }
     {
         let TreeTransaction {
             alloc: _,
@@ -112,12 +126,13 @@ impl<T: ObjectTransaction> TreeTransaction<T> {
             transaction,
             kept: _,
             waiting: _,
+            fault,
         } = self;
-        transaction
+        GivenUp { transaction, fault }
     }
 
     // Reads an object, if it was not read before, and keeps it.
-    pub(crate) fn keep(&mut self, addr: Addr) -> Result<(), TreeFault<T::Fault>>
+    pub(crate) fn keep(&mut self, addr: Addr) -> Result<(), TreeFault>
         ensures keeps { OnOk result (Keeps self.old self.new) }
         ensures same { OnErr result (self.new ≡ self.old) }
     {
@@ -126,17 +141,17 @@ impl<T: ObjectTransaction> TreeTransaction<T> {
         }
         let value = match self.transaction.read(addr) {
             Ok(value) => value,
-            Err(fault) => return Err(TreeFault::Transaction(fault)),
+            Err(fault) => {
+                self.fault = Some(fault);
+                return Err(TreeFault::Transaction);
+            }
         };
         self.kept.insert(addr, value)?;
         Ok(())
     }
 
     // The bytes of an object that is kept.
-    pub(crate) fn kept_bytes<const N: usize>(
-        &self,
-        addr: Addr,
-    ) -> Result<[u8; N], TreeFault<T::Fault>>
+    pub(crate) fn kept_bytes<const N: usize>(&self, addr: Addr) -> Result<[u8; N], TreeFault>
         ensures { IfOk result (λ bytes. value_among self.now.kept addr ≡ Some bytes) }
     {
         let Some(value) = self.kept.get(addr) else {
@@ -149,7 +164,7 @@ impl<T: ObjectTransaction> TreeTransaction<T> {
     }
 
     // An object that is kept, copied.
-    pub(crate) fn kept_value(&self, addr: Addr) -> Result<Value, TreeFault<T::Fault>>
+    pub(crate) fn kept_value(&self, addr: Addr) -> Result<Value, TreeFault>
         ensures value { IfOk result (λ value. value_among self.now.kept addr ≡ Some value) }
         ensures object { IfOk result (λ value. IsTrue (is_object (shape_of self.now.cut) (addr, value))) }
     {
@@ -160,8 +175,9 @@ impl<T: ObjectTransaction> TreeTransaction<T> {
     }
 
     // Keeps a write until the end of the call.
-    pub(crate) fn put(&mut self, write: KeptWrite) -> Result<(), TreeFault<T::Fault>>
-        requires { IsOnDisk self.old.cut (object_of (write_of write)) }
+    pub(crate) fn put(&mut self, write: KeptWrite) -> Result<(), TreeFault>
+        requires on_disk { IsOnDisk self.old.cut (object_of (write_of write)) }
+        requires sized { IsSized (write_of write) }
         ensures written { OnOk result (self.new.writes ≡ write_of write ∷ self.old.writes) }
         ensures cut { self.new.cut ≡ self.old.cut }
         ensures kept { self.new.kept ≡ self.old.kept }
@@ -178,11 +194,14 @@ fn overwrite_all<T: ObjectTransaction>(
     waiting: &[KeptWrite],
 ) -> Result<(), T::Fault>
     requires cut { IsCut cut.now }
+    requires layout { T.layout transaction.old ≡ shape_of cut.now }
     requires on_disk { AreOnDisk cut.now (last_first waiting.now []) }
+    requires sized { AreSized (last_first waiting.now []) }
     requires unwritten { T.writes transaction.old ≡ [] }
     ensures same_layout { T.layout transaction.new ≡ T.layout transaction.old }
     ensures writes { OnOk result (SamePairs (T.writes transaction.new) (pairs_of cut.now (last_first waiting.now []))) }
     ensures same_reads { T.reads transaction.new ≡ T.reads transaction.old }
+    ensures fault { IfErr result T.is_fault }
 {
     for write in waiting {
         overwrite_one(transaction, cut, write)?;
@@ -197,21 +216,43 @@ fn overwrite_one<T: ObjectTransaction>(
     write: &KeptWrite,
 ) -> Result<(), T::Fault>
     requires cut { IsCut cut.now }
+    requires layout { T.layout transaction.old ≡ shape_of cut.now }
     requires on_disk { IsOnDisk cut.now (object_of (write_of write.now)) }
+    requires sized { IsSized (write_of write.now) }
     ensures same_layout { T.layout transaction.new ≡ T.layout transaction.old }
     ensures writes { OnOk result (SamePairs (T.writes transaction.new)
         ((addr_of cut.now (object_of (write_of write.now)), value_of (write_of write.now)) ∷ T.writes transaction.old)) }
     ensures same_reads { T.reads transaction.new ≡ T.reads transaction.old }
+    ensures fault { IfErr result T.is_fault }
 {
     match write {
         KeptWrite::Inode(number, bytes) => {
-            transaction.overwrite(cut.inode_addr(u64::from(*number)), bytes)
+            overwrite(transaction, cut.inode_addr(u64::from(*number)), bytes)
         }
         KeptWrite::Owner(block, bytes) => {
-            transaction.overwrite(cut.owner_addr(u64::from(*block)), bytes)
+            overwrite(transaction, cut.owner_addr(u64::from(*block)), bytes)
         }
         KeptWrite::Block(block, value) => {
-            transaction.overwrite(cut.block_addr(u64::from(*block)), value.bytes())
+            overwrite(
+                transaction,
+                cut.block_addr(u64::from(*block)),
+                value.bytes(),
+            )
         }
     }
+}
+
+// Overwrites an object by as many bytes as it has.
+fn overwrite<T: ObjectTransaction>(
+    transaction: &mut T,
+    addr: Addr,
+    bytes: &[u8],
+) -> Result<(), T::Fault>
+    requires { AreBytesAt (T.layout transaction.old) addr (length bytes.now) }
+    ensures same_layout { T.layout transaction.new ≡ T.layout transaction.old }
+    ensures writes { OnOk result (SamePairs (T.writes transaction.new) ((addr, bytes.now) ∷ T.writes transaction.old)) }
+    ensures same_reads { T.reads transaction.new ≡ T.reads transaction.old }
+    ensures fault { IfErr result T.is_fault }
+{
+    transaction.overwrite(addr, bytes)
 }

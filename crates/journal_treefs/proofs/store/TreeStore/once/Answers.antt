@@ -2,8 +2,9 @@ use Rattle.std.proofs.Common.{◌≡◌, sym, subst, ap, ◌∙◌}
 use Rattle.std.proofs.lemmas.Result.{IfOk-at_ok}
 use Rattle.journal_treestore.specs.declared.place.Cut.{Cut}
 use Rattle.journal_treeobjects.proofs.Ruling.{cut-once}
-use Rattle.journal_treefs.specs.Calls.{StoreState, IsCommittedCall}
+use Rattle.journal_treefs.specs.Calls.{StoreState, IsCommittedCall, IsAttemptEnd}
 use Rattle.journal_treefs.proofs.Committing.{keeps-rule, committed-call, committed-later}
+use Rattle.journal_treefs.proofs.Refusing.{call-refused}
 use Rattle.journal_treefs.proofs.store.TreeStore.once.Goals as goal
 
 pub commit-requires : goal.commit-requires
@@ -11,7 +12,7 @@ commit-requires g c =
     let at = c.finish-transaction.ensures in
     record {
       rule = keeps-rule g.R.MapRule.statement g.met.R.TreeRule.has_tree g.J.Naming.layout c.attempt.new.disk.cut at.cut at.whole at.layout
-          (g.O.TreeOperation.call c.args.operation.now) (g.O.TreeOperation.caller c.args.operation.now) (g.O.TreeOperation.now c.args.operation.now) (g.O.TreeOperation.told c.in-Ok.reply)
+          (g.O.TreeOperation.call c.args.operation.now) c.args.asking.caller c.args.asking.now (g.O.TreeOperation.told c.in-Ok.reply)
           c.finish-transaction.result.transaction.txn (IfOk-at_ok _ c.in_default.is (at.calls _ _ _ _ c.in-Ok.ensures)) g.met.R.TreeRule.admits_tree;
     }
 
@@ -21,9 +22,12 @@ returns-in-Ok-commit-clause-committed g c =
     let own : c.self.inside.cut ≡ c.args.self.now.cut = ap (λ (s : StoreState). s.cut) c.self.view_is in
     let same : c.attempt.new.disk.cut ≡ c.self.inside.cut =
     cut-once c.attempt.new.disk.cut c.self.inside.cut at.cut c.self.invariant.0 at.whole c.self.invariant.1 (sym at.layout ∙ c.self.invariant.2) in
-    subst (λ (k : Cut). IsCommittedCall k (g.O.TreeOperation.call c.args.operation.now) (g.O.TreeOperation.caller c.args.operation.now) (g.O.TreeOperation.now c.args.operation.now) c.args.session.now c.commit.new.session (g.O.TreeOperation.told c.in-Ok.reply) c.in-Ok-commit.receipt) (same ∙ own)
+    subst (λ (k : Cut). IsCommittedCall k (g.O.TreeOperation.call c.args.operation.now) c.args.asking.caller c.args.asking.now c.args.session.now c.commit.new.session (g.O.TreeOperation.told c.in-Ok.reply) c.in-Ok-commit.receipt) (same ∙ own)
     (committed-later c.attempt.new.disk.cut _ _ _ _ c.args.session.now c.begin-txn.new.session c.commit.new.session c.in-Ok-commit.receipt c.begin-txn.ensures.session
     (committed-call g.R.MapRule.statement g.met.R.TreeRule.has_tree g.J.Naming.layout c.attempt.new.disk.cut at.cut at.whole at.layout
-    (g.O.TreeOperation.call c.args.operation.now) (g.O.TreeOperation.caller c.args.operation.now) (g.O.TreeOperation.now c.args.operation.now) (g.O.TreeOperation.told c.in-Ok.reply)
+    (g.O.TreeOperation.call c.args.operation.now) c.args.asking.caller c.args.asking.now (g.O.TreeOperation.told c.in-Ok.reply)
     c.finish-transaction.result.transaction.txn (IfOk-at_ok _ c.in_default.is (at.calls _ _ _ _ c.in-Ok.ensures))
     c.begin-txn.new.session c.commit.new.session c.in-Ok-commit.receipt c.in-Ok-commit.ensures.committed))
+
+pub returns-in-Err-clause-refusal : goal.returns-in-Err-clause-refusal
+returns-in-Err-clause-refusal g c = subst IsAttemptEnd (sym c.of.ensures) (call-refused c.in-Err.fault c.give_up-transaction.result.fault c.give_up-transaction.ensures.fault)

@@ -1,7 +1,7 @@
 use Rattle.std.proofs.Common.{◌≡◌, [], ◌∷◌, sym, ap, subst, ◌∙◌}
 use Rattle.journal_treestore.specs.Places.{IsOnDisk}
 use Rattle.journal_treeobjects.specs.Effects.{object_of, AreOnDisk}
-use Rattle.journal_treeobjects.specs.States.{TreeState, write_of, last_first}
+use Rattle.journal_treeobjects.specs.States.{TreeState, write_of, last_first, AreSized}
 use Rattle.journal_treeobjects.proofs.Waiting.{last_first-more}
 use Rattle.journal_treeobjects.proofs.tree_transaction.TreeTransaction.put.Goals as goal
 
@@ -17,7 +17,9 @@ invariant_of-self-2 g c =
       read = c.self.invariant.read;
       objects = c.self.invariant.objects;
       on_disk = subst (AreOnDisk c.self.inside.cut) (sym more)
-          (subst (λ (s : TreeState). IsOnDisk s.cut (object_of (write_of c.args.write))) (sym c.self.view_is) c.requires, c.self.invariant.on_disk);
+          (subst (λ (s : TreeState). IsOnDisk s.cut (object_of (write_of c.args.write))) (sym c.self.view_is) c.requires.on_disk, c.self.invariant.on_disk);
+      sized = subst AreSized (sym more) (c.requires.sized, c.self.invariant.sized);
+      told = c.self.invariant.told;
     }
 
 pub returns-clause-written : goal.returns-clause-written

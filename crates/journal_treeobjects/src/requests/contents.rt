@@ -1,0 +1,108 @@
+// The calls on a file's bytes.
+use crate::{Asking, TreeOperation};
+use journal_tree::{Changed, Handle, Status};
+use journal_treecalls::{ReadReply, TreeDisk, WriteData, commit, read, readlink, write};
+
+/// READ of bytes of a file.
+#[derive(Clone, Copy)]
+pub struct Read {
+    pub handle: Handle,
+    pub offset: u64,
+    pub count: u32,
+}
+
+impl TreeOperation for Read {
+    ghost use Rattle.journal_tree.specs.Op.Call.{read};
+    ghost use Rattle.journal_tree.specs.Op.Reply.{bytes_read};
+    ghost use Rattle.journal_treecalls.specs.Portions.{portion_told};
+
+    type Reply = Result<ReadReply, Status>;
+
+    ghost call = { λ o. read o.handle o.offset o.count };
+
+    ghost told = { λ reply. bytes_read (portion_told reply) };
+
+    fn attempt<T: TreeDisk>(
+        &self,
+        asking: Asking,
+        disk: &mut T,
+    ) -> Result<Result<ReadReply, Status>, T::Fault> {
+        read(disk, &asking.caller, self.handle, self.offset, self.count)
+    }
+}
+
+/// WRITE of bytes of a file.
+#[derive(Clone, Copy)]
+pub struct Write<'n> {
+    pub handle: Handle,
+    pub bytes: WriteData<'n>,
+    /// Blocks that may be free.
+    pub blocks: &'n [u32],
+}
+
+impl<'n> TreeOperation for Write<'n> {
+    ghost use Rattle.journal_tree.specs.Op.Call.{write};
+    ghost use Rattle.journal_tree.specs.Op.Reply.{wrote};
+
+    type Reply = Result<Changed, Status>;
+
+    ghost call = { λ o. write o.handle o.bytes.offset o.bytes.count o.bytes.bytes.now };
+
+    ghost told = { wrote };
+
+    fn attempt<T: TreeDisk>(
+        &self,
+        asking: Asking,
+        disk: &mut T,
+    ) -> Result<Result<Changed, Status>, T::Fault> {
+        let Asking { caller, now } = asking;
+        write(disk, &caller, self.handle, &self.bytes, self.blocks, now)
+    }
+}
+
+/// COMMIT of a file.
+#[derive(Clone, Copy)]
+pub struct Commit {
+    pub handle: Handle,
+}
+
+impl TreeOperation for Commit {
+    ghost use Rattle.journal_tree.specs.Op.Call.{commit};
+    ghost use Rattle.journal_tree.specs.Op.Reply.{committed};
+
+    type Reply = Result<Changed, Status>;
+
+    ghost call = { λ o. commit o.handle };
+
+    ghost told = { committed };
+
+    fn attempt<T: TreeDisk>(
+        &self,
+        _asking: Asking,
+        disk: &mut T,
+    ) -> Result<Result<Changed, Status>, T::Fault> {
+        commit(disk, self.handle)
+    }
+}
+
+/// READLINK: the reason why it is refused, since no node is a symbolic link.
+#[derive(Clone, Copy)]
+pub struct ReadLink {
+    pub handle: Handle,
+}
+
+impl TreeOperation for ReadLink {
+    ghost use Rattle.std.specs.Prelude.{Err};
+    ghost use Rattle.journal_tree.specs.Op.Call.{readlink};
+    ghost use Rattle.journal_tree.specs.Op.Reply.{not_done};
+
+    type Reply = Status;
+
+    ghost call = { λ o. readlink o.handle };
+
+    ghost told = { λ status. not_done (Err status) };
+
+    fn attempt<T: TreeDisk>(&self, _asking: Asking, disk: &mut T) -> Result<Status, T::Fault> {
+        readlink(disk, self.handle)
+    }
+}

@@ -1,0 +1,112 @@
+// The calls that look for a name, and those that take one away or give another.
+use crate::{Asking, TreeOperation};
+use journal_tree::{Changed, Found, Handle, Status};
+use journal_treecalls::{TreeDisk, lookup, remove, rename, rmdir};
+
+/// LOOKUP of a name in a directory.
+#[derive(Clone, Copy)]
+pub struct Lookup<'n> {
+    pub directory: Handle,
+    pub name: &'n [u8],
+}
+
+impl<'n> TreeOperation for Lookup<'n> {
+    ghost use Rattle.journal_tree.specs.Op.Call.{lookup};
+    ghost use Rattle.journal_tree.specs.Op.Reply.{found};
+
+    type Reply = Result<Found, Status>;
+
+    ghost call = { λ o. lookup o.directory o.name.now };
+
+    ghost told = { found };
+
+    fn attempt<T: TreeDisk>(
+        &self,
+        asking: Asking,
+        disk: &mut T,
+    ) -> Result<Result<Found, Status>, T::Fault> {
+        lookup(disk, &asking.caller, self.directory, self.name)
+    }
+}
+
+/// REMOVE of a file.
+#[derive(Clone, Copy)]
+pub struct Remove<'n> {
+    pub directory: Handle,
+    pub name: &'n [u8],
+}
+
+impl<'n> TreeOperation for Remove<'n> {
+    ghost use Rattle.journal_tree.specs.Op.Call.{remove};
+    ghost use Rattle.journal_tree.specs.Op.Reply.{removed};
+
+    type Reply = Result<Changed, Status>;
+
+    ghost call = { λ o. remove o.directory o.name.now };
+
+    ghost told = { removed };
+
+    fn attempt<T: TreeDisk>(
+        &self,
+        asking: Asking,
+        disk: &mut T,
+    ) -> Result<Result<Changed, Status>, T::Fault> {
+        let Asking { caller, now } = asking;
+        remove(disk, &caller, self.directory, self.name, now)
+    }
+}
+
+/// RMDIR of a directory.
+#[derive(Clone, Copy)]
+pub struct RmDir<'n> {
+    pub directory: Handle,
+    pub name: &'n [u8],
+}
+
+impl<'n> TreeOperation for RmDir<'n> {
+    ghost use Rattle.journal_tree.specs.Op.Call.{rmdir};
+    ghost use Rattle.journal_tree.specs.Op.Reply.{removed};
+
+    type Reply = Result<Changed, Status>;
+
+    ghost call = { λ o. rmdir o.directory o.name.now };
+
+    ghost told = { removed };
+
+    fn attempt<T: TreeDisk>(
+        &self,
+        asking: Asking,
+        disk: &mut T,
+    ) -> Result<Result<Changed, Status>, T::Fault> {
+        let Asking { caller, now } = asking;
+        rmdir(disk, &caller, self.directory, self.name, now)
+    }
+}
+
+/// RENAME: the reason why it is refused. A node keeps its name.
+#[derive(Clone, Copy)]
+pub struct Rename<'n> {
+    /// The directory of the node.
+    pub source: Handle,
+    pub name: &'n [u8],
+    /// The directory in which it would be.
+    pub goal: Handle,
+    pub new_name: &'n [u8],
+}
+
+impl<'n> TreeOperation for Rename<'n> {
+    ghost use Rattle.std.specs.Prelude.{Err};
+    ghost use Rattle.journal_tree.specs.Op.Call.{rename};
+    ghost use Rattle.journal_tree.specs.Op.Reply.{not_done};
+
+    type Reply = Status;
+
+    ghost call = { λ o. rename o.source o.name.now o.goal o.new_name.now };
+
+    ghost told = { λ status. not_done (Err status) };
+
+    fn attempt<T: TreeDisk>(&self, asking: Asking, disk: &mut T) -> Result<Status, T::Fault> {
+        let (source, goal) = (self.source, self.goal);
+        rename(disk, &asking.caller, source, self.name, goal, self.new_name)
+    }
+}
