@@ -10,8 +10,8 @@ use Rattle.journal_inode.specs.declared.node.Time.{Time}
 use Rattle.journal_inode.specs.declared.version.FormatVersion.{FormatVersion}
 use Rattle.journal_rpc.specs.declared.replies.CallRefused.{CallRefused}
 use Rattle.journal_rpc.specs.Calls.{Message}
+use Rattle.journal_nfs3_wire.specs.Queries.{Access}
 use Rattle.journal_nfs3.specs.Served.{Standing, marked, HasNoWait}
-use Rattle.journal_mount3.specs.Arguments.{Access}
 use Rattle.journal_mount3.specs.Calls.{Requested, query, asks}
 use Rattle.journal_mount3.specs.Answers.{Comes, AnswersBoth, sent_text}
 use Rattle.journal_mount3.specs.Readers.{is_denied, denied_text, reading_of, IsDenied, ComesToReader, AnswersReader, GrantsReader}

@@ -6,16 +6,16 @@ use Rattle.std.proofs.lemmas.List.{length-append}
 use Rattle.std.proofs.Math.Nat.{mul-suc}
 use Rattle.journal_xdr.specs.Items.{Item}
 use Rattle.journal_xdr.specs.Basic.{word, hyper, boolean, fixed, opaque, string}
-use Rattle.journal_xdr.specs.BasicLaws.{length-word, length-hyper, length-boolean}
+use Rattle.journal_xdr.specs.BasicLaws.{length-hyper, length-boolean}
 use Rattle.journal_xdr.specs.Lists.{link_text, list_text}
-use Rattle.journal_inode.specs.declared.node.Time.{Time}
 use Rattle.journal_inode.specs.declared.version.FormatVersion.{FormatVersion}
-use Rattle.journal_nfs3_wire.specs.Arguments.{name, time}
+use Rattle.journal_nfs3_wire.specs.Arguments.{name}
 use Rattle.journal_nfs3_wire.specs.Handles.{FileHandle, file_handle}
 use Rattle.journal_nfs3_wire.specs.Results.{Fattr, fattr, given_handle, post_op_attributes}
 use Rattle.journal_nfs3_wire.specs.Profile.{fattr_of}
-use Rattle.journal_mount3.specs.Entries.{entry, entry_plus, entry_name, file_name}
-use Rattle.journal_mount3.specs.Results.{page_results}
+use Rattle.journal_nfs3_wire.specs.QueryResults.{entry, page_results}
+use Rattle.journal_nfs3_wire.proofs.ResultFacts.{length-fattr}
+use Rattle.journal_mount3.specs.Entries.{entry_plus, entry_name, file_name}
 use Rattle.journal_mount3.specs.Listings.{Listed, plain_of, plus_of, page_of, cookie_verifier, FitsCount, FitsNames}
 use Rattle.journal_mount3.specs.CodeViews.{HasRoom}
 
@@ -30,19 +30,11 @@ dotted false false n = refl
 length-entry_name : (cookie : ℕ) → length (name.spelling (entry_name cookie)) ≡ 8
 length-entry_name cookie = dotted (cookie == 1) (cookie == 2) (cookie - 1)
 
-length-time : (t : Time) → length (time.spelling t) ≡ 8
-unfolding time
-length-time t = simp (length-append, length-word)
-
-length-fattr : (f : Fattr) → length (fattr.spelling f) ≡ 84
-unfolding fattr
-length-fattr f = simp (length-append, length-word, length-hyper, length-time)
-
 length-handle : (h : FileHandle) → length (given_handle.spelling h) ≡ 16
 unfolding given_handle opaque fixed file_handle word
 length-handle h = refl
 
-pub length-after : (f : Fattr) → length (post_op_attributes.spelling (Some f)) ≡ 88
+length-after : (f : Fattr) → length (post_op_attributes.spelling (Some f)) ≡ 88
 length-after f = omega (arith, length-append (boolean.spelling true) (fattr.spelling f), length-boolean true, length-fattr f)
 
 pub length-plain : (e : Listed) → length (entry.spelling (plain_of e)) ≡ 24
@@ -98,7 +90,7 @@ length-verifier : length ((fixed 8).spelling cookie_verifier) ≡ 8
 unfolding fixed
 length-verifier = refl
 
-pub length-nothing : length (post_op_attributes.spelling None) ≡ 4
+length-nothing : length (post_op_attributes.spelling None) ≡ 4
 length-nothing = omega (arith, length-append (boolean.spelling false) [], length-boolean false)
 
 pub length-page : {A E : Type 0} (element : Item E) (shown : A → E) (k : ℕ) → ((e : A) → length (element.spelling (shown e)) ≡ k) → (es : List A) (is_end : Bool)

@@ -1,16 +1,17 @@
 -- What is told is short.
-use Rattle.std.proofs.Common.{◌≡◌, ℕ, ◌+◌, ◌<◌, ◌≤◌, ◌^◌, ◌++◌, length, Option, Some, None, Result, Ok, Err, subst, arith}
+use Rattle.std.proofs.Common.{◌≡◌, ◌+◌, ◌<◌, ◌≤◌, ◌^◌, ◌++◌, length, None, Result, Ok, Err, subst, arith}
 use Rattle.std.specs.Result.{ForOk}
 use Rattle.std.proofs.lemmas.List.{length-append}
 use Rattle.journal_xdr.specs.Items.{Item}
 use Rattle.journal_xdr.specs.Basic.{word, hyper, boolean, string, opaque, fixed}
 use Rattle.journal_xdr.specs.BasicLaws.{length-word, length-hyper, length-boolean}
-use Rattle.journal_inode.specs.declared.node.Time.{Time}
 use Rattle.journal_inode.specs.declared.version.FormatVersion.{FormatVersion}
 use Rattle.journal_nfs3_wire.specs.declared.results.NfsError.{NfsError}
 use Rattle.journal_nfs3_wire.specs.Arguments.{time}
 use Rattle.journal_nfs3_wire.specs.Handles.{file_handle}
-use Rattle.journal_nfs3_wire.specs.Results.{status, error_number, Fattr, given_handle, post_op_attributes}
+use Rattle.journal_nfs3_wire.specs.Results.{given_handle, post_op_attributes}
+use Rattle.journal_nfs3_wire.specs.QueryResults.{entry, AccessResults, access_results, StatusResults, status_results, InformationResults, information_results, ConfigurationResults, configuration_results, page_results}
+use Rattle.journal_nfs3_wire.proofs.ResultFacts.{length-time, after_short, ok_short, err_short}
 use Rattle.journal_mount3.specs.declared.entry.PlainEntry as code_plain
 use Rattle.journal_mount3.specs.declared.entry.PlusEntry as code_plus
 use Rattle.journal_mount3.specs.declared.page.Listing.{Listing}
@@ -20,20 +21,12 @@ use Rattle.journal_mount3.specs.declared.results.QueryResults as code_query
 use Rattle.journal_mount3.specs.declared.results.QueryResults.TheVariants as code_queries
 use Rattle.journal_mount3.specs.declared.results.MountResults as code_mount
 use Rattle.journal_mount3.specs.declared.results.MountResults.TheVariants as code_mounts
-use Rattle.journal_mount3.specs.Entries.{entry, entry_plus}
-use Rattle.journal_mount3.specs.Results.{told, AccessResults, access_results, StatusResults, status_results, InformationResults, information_results, ConfigurationResults, configuration_results, page_results, query_text}
+use Rattle.journal_mount3.specs.Entries.{entry_plus}
+use Rattle.journal_mount3.specs.Results.{told, query_text}
 use Rattle.journal_mount3.specs.Mounts.{export}
 use Rattle.journal_mount3.specs.CodeViews.{listed_of, access_seen, status_seen, plain_entry_of, plus_entry_of, page_seen, query_results_of, mount_results_text, told_text}
 use Rattle.journal_mount3.specs.Served.{information_of, configuration_of}
-use Rattle.journal_mount3.proofs.Lengths.{length-after, length-nothing, length-plain, length-plus, length-page}
-
-after_short : (o : Option Fattr) → length (post_op_attributes.spelling o) ≤ 88
-after_short None = omega (arith, length-nothing)
-after_short (Some f) = let e = length-after f in omega (arith, e)
-
-length-time : (t : Time) → length (time.spelling t) ≡ 8
-unfolding time
-length-time t = simp (length-append, length-word)
+use Rattle.journal_mount3.proofs.Lengths.{length-plain, length-plus, length-page}
 
 access_short : (r : AccessResults) → length (access_results.spelling r) ≤ 92
 unfolding access_results
@@ -135,11 +128,8 @@ configuration_short r =
       length-boolean r.keeps_case,
     )
 
-ok_short : {A : Type 0} (a : Item A) (v : A) (n : ℕ) → length (a.spelling v) ≤ n → length ((told a).spelling (Ok v)) ≤ 4 + n
-ok_short a v n h = omega (arith, h, length-append (word.spelling 0) (a.spelling v), length-word 0)
-
-err_short : {A : Type 0} (a : Item A) (why : NfsError) → length ((told a).spelling (Err (why, None))) ≤ 92
-err_short a why = omega (arith, after_short None, length-append (status.spelling (Some why)) (post_op_attributes.spelling None), length-word (error_number why))
+refused_short : {A : Type 0} (a : Item A) (why : NfsError) → length ((told a).spelling (Err (why, None))) ≤ 92
+refused_short a why = err_short a post_op_attributes why None 88 (after_short None)
 
 plain_page_short : (l : Listing code_plain.PlainEntry) → length ((page_results entry).spelling (page_seen plain_entry_of l)) ≤ 70000
 plain_page_short l =
@@ -152,18 +142,18 @@ plus_page_short l =
     omega (arith, long, l.few)
 
 pub query_short : (version : FormatVersion) (r : code_query.QueryResults) → length (query_text (query_results_of version r)) < 2 ^ 30
-query_short version (code_queries.Access (Ok g)) = omega (arith, ok_short access_results (access_seen version g) 92 (access_short (access_seen version g)))
-query_short version (code_queries.Access (Err why)) = omega (arith, err_short access_results why)
-query_short version (code_queries.ReadDirectory (Ok l)) = omega (arith, ok_short (page_results entry) (page_seen plain_entry_of l) 70000 (plain_page_short l))
-query_short version (code_queries.ReadDirectory (Err why)) = omega (arith, err_short (page_results entry) why)
-query_short version (code_queries.ReadDirectoryPlus (Ok l)) = omega (arith, ok_short (page_results entry_plus) (page_seen plus_entry_of l) 70000 (plus_page_short l))
-query_short version (code_queries.ReadDirectoryPlus (Err why)) = omega (arith, err_short (page_results entry_plus) why)
-query_short version (code_queries.FileSystemStatus (Ok s)) = omega (arith, ok_short status_results (status_seen version s) 140 (status_short (status_seen version s)))
-query_short version (code_queries.FileSystemStatus (Err why)) = omega (arith, err_short status_results why)
-query_short version (code_queries.FileSystemInformation (Ok a)) = omega (arith, ok_short information_results (information_of version a) 140 (information_short (information_of version a)))
-query_short version (code_queries.FileSystemInformation (Err why)) = omega (arith, err_short information_results why)
-query_short version (code_queries.PathConfiguration (Ok a)) = omega (arith, ok_short configuration_results (configuration_of version a) 112 (configuration_short (configuration_of version a)))
-query_short version (code_queries.PathConfiguration (Err why)) = omega (arith, err_short configuration_results why)
+query_short version (code_queries.Access (Ok g)) = omega (arith, ok_short access_results post_op_attributes (access_seen version g) 92 (access_short (access_seen version g)))
+query_short version (code_queries.Access (Err why)) = omega (arith, refused_short access_results why)
+query_short version (code_queries.ReadDirectory (Ok l)) = omega (arith, ok_short (page_results entry) post_op_attributes (page_seen plain_entry_of l) 70000 (plain_page_short l))
+query_short version (code_queries.ReadDirectory (Err why)) = omega (arith, refused_short (page_results entry) why)
+query_short version (code_queries.ReadDirectoryPlus (Ok l)) = omega (arith, ok_short (page_results entry_plus) post_op_attributes (page_seen plus_entry_of l) 70000 (plus_page_short l))
+query_short version (code_queries.ReadDirectoryPlus (Err why)) = omega (arith, refused_short (page_results entry_plus) why)
+query_short version (code_queries.FileSystemStatus (Ok s)) = omega (arith, ok_short status_results post_op_attributes (status_seen version s) 140 (status_short (status_seen version s)))
+query_short version (code_queries.FileSystemStatus (Err why)) = omega (arith, refused_short status_results why)
+query_short version (code_queries.FileSystemInformation (Ok a)) = omega (arith, ok_short information_results post_op_attributes (information_of version a) 140 (information_short (information_of version a)))
+query_short version (code_queries.FileSystemInformation (Err why)) = omega (arith, refused_short information_results why)
+query_short version (code_queries.PathConfiguration (Ok a)) = omega (arith, ok_short configuration_results post_op_attributes (configuration_of version a) 112 (configuration_short (configuration_of version a)))
+query_short version (code_queries.PathConfiguration (Err why)) = omega (arith, refused_short configuration_results why)
 
 pub mount_short : (r : code_mount.MountResults) → length (mount_results_text r) < 2 ^ 30
 unfolding word boolean string opaque fixed export given_handle file_handle

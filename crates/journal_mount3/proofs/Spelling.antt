@@ -11,7 +11,8 @@ use Rattle.journal_nfs3_wire.specs.declared.results.NfsError.{NfsError}
 use Rattle.journal_mount3.specs.declared.entry.PlainEntry as code_plain
 use Rattle.journal_mount3.specs.declared.entry.PlusEntry as code_plus
 use Rattle.journal_mount3.specs.declared.page.Listing.{Listing}
-use Rattle.journal_mount3.specs.Results.{told, page_results}
+use Rattle.journal_nfs3_wire.specs.QueryResults.{page_results}
+use Rattle.journal_mount3.specs.Results.{told}
 use Rattle.journal_mount3.specs.Entries.{entry_plus_of}
 use Rattle.journal_mount3.specs.Listings.{Listed, plain_of, plus_of, page_of, cookie_verifier}
 use Rattle.journal_mount3.specs.Served.{page_told}

@@ -13,8 +13,9 @@ use Rattle.journal_mount3.specs.declared.entry.PlusEntry as code_plus
 use Rattle.journal_mount3.specs.declared.page.Listing.{Listing}
 use Rattle.journal_mount3.specs.declared.results.SpaceUse.{SpaceUse}
 use Rattle.journal_mount3.specs.declared.results.Granted.{Granted}
-use Rattle.journal_mount3.specs.Arguments.{Page, PagePlus, Access, ReadDirectory, ReadDirectoryPlus, FileSystemStatus, FileSystemInformation, PathConfiguration}
-use Rattle.journal_mount3.specs.Entries.{entry, entry_plus}
+use Rattle.journal_nfs3_wire.specs.Queries.{Page, PagePlus, Access, ReadDirectory, ReadDirectoryPlus, FileSystemStatus, FileSystemInformation, PathConfiguration}
+use Rattle.journal_nfs3_wire.specs.QueryResults.{entry, AccessResults, StatusResults}
+use Rattle.journal_mount3.specs.Entries.{entry_plus}
 use Rattle.journal_mount3.specs.Roots.{attributes_at}
 use Rattle.journal_mount3.specs.Results as results
 use Rattle.journal_mount3.specs.Listings.{Listed, plain_of, plus_of, FitsCount, FitsNames, IsCutShort}
@@ -50,7 +51,7 @@ tells_shown f version now handle old new (Err why) h = (h.0, new, h.1, (refl, sh
 -- ---- ACCESS
 
 module _ (version : FormatVersion) (asked : ℕ) (now : Time) (handle : List ℕ) (old new : SessionState) where
-  abbrev Grants : results.Told results.AccessResults → Type 0
+  abbrev Grants : results.Told AccessResults → Type 0
   Grants r = TellsThen version handle old (λ told mid. (new ≡ mid) × (r ≡ shown (access_of version asked) now told))
 
   pub grants_none : (why : NfsError) → TellsNow version now handle old new (Err why) → Grants (Err (why, None))
@@ -62,7 +63,7 @@ module _ (version : FormatVersion) (asked : ℕ) (now : Time) (handle : List ℕ
 -- ---- FSSTAT
 
 module _ (version : FormatVersion) (blocks : ℕ) (now : Time) (handle : List ℕ) (old mid new : SessionState) where
-  abbrev Status : results.Told results.StatusResults → Type 0
+  abbrev Status : results.Told StatusResults → Type 0
   Status r = TellsThen version handle old (λ told mid. StatusOf version blocks now told mid new r)
 
   pub status_none : (why : NfsError) → TellsNow version now handle old new (Err why) → Status (Err (why, None))

@@ -9,7 +9,8 @@ use Rattle.journal_nfs3_wire.specs.Arguments.{time}
 use Rattle.journal_nfs3_wire.specs.Results.{status, post_op_attributes}
 use Rattle.journal_nfs3_wire.specs.Profile.{fattr_of}
 use Rattle.journal_mount3.specs.declared.results.SpaceUse.{SpaceUse}
-use Rattle.journal_mount3.specs.Results.{told, status_results, information_results}
+use Rattle.journal_nfs3_wire.specs.QueryResults.{status_results, information_results}
+use Rattle.journal_mount3.specs.Results.{told}
 use Rattle.journal_mount3.specs.Served.{information_of}
 use Rattle.journal_mount3.specs.CodeViews.{status_seen}
 

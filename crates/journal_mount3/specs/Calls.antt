@@ -7,15 +7,16 @@ use Rattle.journal_rpc.specs.Calls.{Asked, OtherVersion, Procedure}
 use Rattle.journal_nfs3_wire.specs.Arguments.{Operation, operation_of}
 use Rattle.journal_nfs3_wire.specs.Calls.{called}
 use Rattle.journal_nfs3_wire.specs.Procedures.{procedure_of}
+use Rattle.journal_nfs3_wire.specs.declared.query.Query as code_query
+use Rattle.journal_nfs3_wire.specs.declared.query.QueryProcedure.{QueryProcedure}
+use Rattle.journal_nfs3_wire.specs.Queries.{query_procedure_of, Query, query_of, query_arguments}
 use Rattle.journal_nfs3_wire.specs.Whole.{whole}
-use Rattle.journal_mount3.specs.declared.arguments.Query as code_query
 use Rattle.journal_mount3.specs.declared.arguments.MountCall as code_mount
 use Rattle.journal_mount3.specs.declared.arguments.Requested as code_requested
 use Rattle.journal_mount3.specs.declared.arguments.Requested.TheVariants as code_requests
-use Rattle.journal_mount3.specs.declared.procedure.QueryProcedure.{QueryProcedure}
 use Rattle.journal_mount3.specs.declared.procedure.MountProcedure.{MountProcedure}
-use Rattle.journal_mount3.specs.Procedures.{query_procedure_of, mount_procedure_of}
-use Rattle.journal_mount3.specs.Arguments.{Query, query_of, query_arguments, MountCall, mount_call_of, mount_arguments}
+use Rattle.journal_mount3.specs.Procedures.{mount_procedure_of}
+use Rattle.journal_mount3.specs.Arguments.{MountCall, mount_call_of, mount_arguments}
 
 -- The question: one of the nine procedures, or another of the programs'
 pub data Requested : Type 0 where

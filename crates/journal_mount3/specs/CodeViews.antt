@@ -6,6 +6,7 @@ use Rattle.journal_nfs3_wire.specs.declared.results.NfsError.{NfsError}
 use Rattle.journal_xdr.specs.Basic.{boolean, fixed}
 use Rattle.journal_xdr.specs.Lists.{list_text}
 use Rattle.journal_nfs3_wire.specs.Results.{status, post_op_attributes, results_text, procedure_of_results}
+use Rattle.journal_nfs3_wire.specs.QueryResults.{Entry, AccessResults, PageResults, StatusResults}
 use Rattle.journal_nfs3_wire.specs.Profile.{fattr_of, results_of}
 use Rattle.journal_nfs3.specs.Answers.{IsCallOf}
 use Rattle.journal_nfs3_wire.specs.Arguments.{Operation}
@@ -25,7 +26,7 @@ use Rattle.journal_mount3.specs.declared.results.Told.TheVariants as code_tellin
 use Rattle.journal_mount3.specs.declared.results.MountResults as code_mount
 use Rattle.journal_mount3.specs.declared.results.MountResults.TheVariants as code_mounts
 use Rattle.journal_mount3.specs.Arguments.{Dump, Export}
-use Rattle.journal_mount3.specs.Entries.{Entry, EntryPlus, entry_of, entry_plus_of}
+use Rattle.journal_mount3.specs.Entries.{EntryPlus, entry_of, entry_plus_of}
 use Rattle.journal_mount3.specs.Listings.{Listed, Seen, page_of, cookie_verifier}
 use Rattle.journal_mount3.specs.Served.{information_of, configuration_of}
 use Rattle.journal_mount3.specs.Mounts.{mounted_text, mount_text}
@@ -49,10 +50,10 @@ HasRoom (Some room) es = length es ≤ room
 
 -- ---- results
 
-abbrev pub access_seen : FormatVersion → Granted → results.AccessResults
+abbrev pub access_seen : FormatVersion → Granted → AccessResults
 access_seen version g = record { attributes = Some (fattr_of version g.attributes); granted = g.rights }
 
-abbrev pub status_seen : FormatVersion → SpaceUse → results.StatusResults
+abbrev pub status_seen : FormatVersion → SpaceUse → StatusResults
 status_seen version s = record {
   attributes = Some (fattr_of version s.attributes);
   total_bytes = s.bytes;
@@ -76,7 +77,7 @@ plain_entry_of e = entry_of e.0
 abbrev pub plus_entry_of : code_plus.PlusEntry → EntryPlus
 plus_entry_of e = entry_plus_of e.version e.entry
 
-abbrev pub page_seen : {E X : Type 0} → (E → X) → Listing E → results.PageResults X
+abbrev pub page_seen : {E X : Type 0} → (E → X) → Listing E → PageResults X
 page_seen shown l = page_of shown l.entries.items l.is_end
 
 abbrev pub query_results_of : FormatVersion → code_query.QueryResults → results.QueryResults

@@ -1,22 +1,13 @@
 -- The entries of a listing, as items (RFC 1813, sections 3.3.16 and 3.3.17).
 use Rattle.std.specs.Prelude.{ℕ, ◌+◌, ◌-◌, ◌/◌, ◌%◌, ◌==◌, if◌then◌else◌, List, [], ◌∷◌, Option, Some}
 use Rattle.journal_xdr.specs.Items.{Item, pair, mapped_item}
-use Rattle.journal_xdr.specs.Basic.{hyper, optional}
+use Rattle.journal_xdr.specs.Basic.{optional}
 use Rattle.journal_inode.specs.declared.version.FormatVersion.{FormatVersion}
-use Rattle.journal_nfs3_wire.specs.Arguments.{name}
 use Rattle.journal_nfs3_wire.specs.Handles.{FileHandle}
 use Rattle.journal_nfs3_wire.specs.Results.{Fattr, given_handle, post_op_attributes}
+use Rattle.journal_nfs3_wire.specs.QueryResults.{Entry, entry}
 use Rattle.journal_nfs3_wire.specs.Profile.{fattr_of}
 use Rattle.journal_mount3.specs.declared.page.Entry as code_entry
-
--- entry3
-pub record Entry : Type 0 where
-  pub fileid : ℕ
-  pub called : List ℕ
-  pub cookie : ℕ
-
-unfoldable pub entry : Item Entry
-entry = mapped_item (pair hyper (pair name hyper)) (λ p. record { fileid = p.0; called = p.1.0; cookie = p.1.1 }) (λ e. (e.fileid, (e.called, e.cookie)))
 
 -- entryplus3
 pub record EntryPlus : Type 0 where

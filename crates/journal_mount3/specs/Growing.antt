@@ -11,7 +11,8 @@ use Rattle.journal_file_types.specs.declared.reply.Found.{Found}
 use Rattle.journal_nfs3_wire.specs.declared.results.NfsError.{NfsError}
 use Rattle.journal_nfs3_wire.specs.Handles.{handle_in}
 use Rattle.journal_nfs3.specs.Served.{awaiting}
-use Rattle.journal_mount3.specs.Arguments.{Query, Access, ReadDirectory, ReadDirectoryPlus, FileSystemStatus, FileSystemInformation, PathConfiguration}
+use Rattle.journal_nfs3_wire.specs.Queries.{Query, Access, ReadDirectory, ReadDirectoryPlus, FileSystemStatus, FileSystemInformation, PathConfiguration}
+use Rattle.journal_nfs3_wire.specs.QueryResults.{StatusResults}
 use Rattle.journal_mount3.specs.Listings.{IsLookup, Listed, LooksUp, LooksAllUp, IsPage, IsCutShort, Seen, SeesPage}
 use Rattle.journal_mount3.specs.Served.{IsGetAttributes, TellsThen, Lists, StatusOf, MeasuresOr, Queries}
 use Rattle.journal_mount3.specs.Mounts.{root_handle}
@@ -52,11 +53,11 @@ lists_grows version now cookie Fits (Err why) old new outcome h = grows-same old
 lists_grows version now cookie Fits (Ok a) old new outcome h =
     either_grows (a.number == 1) old new _ _ h (λ s. sees_grows version cookie Fits (attributes_at now a) old new outcome s) (λ s. grows-same old new s.0)
 
-measures_grow : (version : FormatVersion) (blocks : ℕ) (a : Attributes) (old new : SessionState) (told : results.Told results.StatusResults) → MeasuresOr version blocks a old new told → Grows old new
+measures_grow : (version : FormatVersion) (blocks : ℕ) (a : Attributes) (old new : SessionState) (told : results.Told StatusResults) → MeasuresOr version blocks a old new told → Grows old new
 measures_grow version blocks a old new (Ok told) h = looks_grow version 2 h.found old new h.looked
 measures_grow version blocks a old new (Err why) h = cut_grows version 2 old new why.0 h.0
 
-status_grows : (version : FormatVersion) (blocks : ℕ) (now : Time) (told : Result Attributes NfsError) (old new : SessionState) (status : results.Told results.StatusResults) → StatusOf version blocks now told old new status → Grows old new
+status_grows : (version : FormatVersion) (blocks : ℕ) (now : Time) (told : Result Attributes NfsError) (old new : SessionState) (status : results.Told StatusResults) → StatusOf version blocks now told old new status → Grows old new
 status_grows version blocks now (Err why) old new status h = grows-same old new h.0
 status_grows version blocks now (Ok a) old new status h = measures_grow version blocks _ old new status h
 

@@ -15,11 +15,11 @@ use Rattle.journal_filestore.specs.Operations.{Op, Call as call, Reply as reply}
 use Rattle.journal_nfs3_wire.specs.declared.results.NfsError.{NfsError}
 use Rattle.journal_nfs3_wire.specs.declared.results.NfsError.TheVariants.{NoEntry, TooSmall}
 use Rattle.journal_nfs3_wire.specs.Handles.{FileHandle}
+use Rattle.journal_nfs3_wire.specs.QueryResults.{Entry, entry, PageResults, page_results}
 use Rattle.journal_nfs3_wire.specs.Profile.{fattr_of}
 use Rattle.journal_nfs3.specs.Served.{awaiting, TellsOutcome}
-use Rattle.journal_mount3.specs.Entries.{Entry, entry, EntryPlus, entry_name, file_name}
+use Rattle.journal_mount3.specs.Entries.{EntryPlus, entry_name, file_name}
 use Rattle.journal_mount3.specs.Mounts.{root_handle}
-use Rattle.journal_mount3.specs.Results.{PageResults, page_results}
 
 -- ---- looking names up
 

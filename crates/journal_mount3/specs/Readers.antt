@@ -7,8 +7,8 @@ use Rattle.journal_rpc.specs.declared.replies.CallRefused.{CallRefused}
 use Rattle.journal_rpc.specs.Calls.{Message}
 use Rattle.journal_xdr.specs.Basic.{word, boolean}
 use Rattle.journal_nfs3_wire.specs.Arguments.{Operation, SetAttributes, Write, Create, Remove}
+use Rattle.journal_nfs3_wire.specs.Queries.{Access}
 use Rattle.journal_nfs3.specs.Served.{Standing, HasNoWait}
-use Rattle.journal_mount3.specs.Arguments.{Access}
 use Rattle.journal_mount3.specs.Calls.{Requested, nine, query, asks}
 use Rattle.journal_mount3.specs.Results.{QueryResults, query_text}
 use Rattle.journal_mount3.specs.Served.{Queries}

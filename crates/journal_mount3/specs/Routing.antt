@@ -8,13 +8,14 @@ use Rattle.journal_nfs3_wire.specs.declared.procedure.Procedure.TheVariants.{Nul
 use Rattle.journal_nfs3_wire.specs.Procedures.{procedure_of, procedure_number, procedure_back}
 use Rattle.journal_nfs3_wire.specs.Arguments.{Operation}
 use Rattle.journal_nfs3_wire.specs.Calls.{called, asks as asks_nine_alone}
+use Rattle.journal_nfs3_wire.specs.declared.query.QueryProcedure.{QueryProcedure}
+use Rattle.journal_nfs3_wire.specs.Queries.{query_procedure_of, Query, query_arguments}
 use Rattle.journal_nfs3_wire.specs.Whole.{whole}
 use Rattle.journal_rpc.specs.declared.replies.CallRefused.{CallRefused}
 use Rattle.journal_rpc.specs.declared.replies.CallRefused.TheVariants.{ProgramUnavailable, ProgramMismatch}
-use Rattle.journal_mount3.specs.declared.procedure.QueryProcedure.{QueryProcedure}
 use Rattle.journal_mount3.specs.declared.procedure.MountProcedure.{MountProcedure}
-use Rattle.journal_mount3.specs.Procedures.{query_procedure_of, mount_procedure_of}
-use Rattle.journal_mount3.specs.Arguments.{Query, MountCall, query_arguments, mount_arguments}
+use Rattle.journal_mount3.specs.Procedures.{mount_procedure_of}
+use Rattle.journal_mount3.specs.Arguments.{MountCall, mount_arguments}
 use Rattle.journal_mount3.specs.Calls.{Requested, nine, query, mount, refusable, asks, asks_nine, asks_query, asks_files, asks_mount}
 
 -- no number is that of one of the nine and of another procedure of NFS

@@ -15,9 +15,10 @@ use Rattle.journal_nfs3_wire.specs.declared.results.NfsError.{NfsError}
 use Rattle.journal_nfs3_wire.specs.declared.results.NfsError.TheVariants.{NotDirectory}
 use Rattle.journal_nfs3_wire.specs.Handles.{FileHandle, handle_in}
 use Rattle.journal_nfs3_wire.specs.Profile.{fattr_of, used_bytes}
+use Rattle.journal_nfs3_wire.specs.Queries.{Query, Access, ReadDirectory, ReadDirectoryPlus, FileSystemStatus, FileSystemInformation, PathConfiguration}
+use Rattle.journal_nfs3_wire.specs.QueryResults.{entry, AccessResults, PageResults, StatusResults, InformationResults, ConfigurationResults}
 use Rattle.journal_nfs3.specs.Served.{awaiting, TellsOutcome}
-use Rattle.journal_mount3.specs.Arguments.{Query, Access, ReadDirectory, ReadDirectoryPlus, FileSystemStatus, FileSystemInformation, PathConfiguration}
-use Rattle.journal_mount3.specs.Entries.{entry, entry_plus}
+use Rattle.journal_mount3.specs.Entries.{entry_plus}
 use Rattle.journal_mount3.specs.Roots.{attributes_at}
 use Rattle.journal_mount3.specs.Listings.{Listed, LooksAllUp, AreKnown, found_among, IsCutShort, Seen, SeesPage, plain_of, plus_of, page_of, FitsCount, FitsNames}
 use Rattle.journal_mount3.specs.Results as results
@@ -43,12 +44,12 @@ shown as_results now (Err why) = Err (why, None)
 abbrev pub rights_of : Attributes → ℕ
 rights_of a = if a.number == 1 then 31 else 13
 
-abbrev pub access_of : FormatVersion → ℕ → Attributes → results.AccessResults
+abbrev pub access_of : FormatVersion → ℕ → Attributes → AccessResults
 access_of version asked a = record { attributes = Some (fattr_of version a); granted = bit_and asked (rights_of a) }
 
 -- ---- FSINFO and PATHCONF
 
-abbrev pub information_of : FormatVersion → Attributes → results.InformationResults
+abbrev pub information_of : FormatVersion → Attributes → InformationResults
 information_of version a = record {
   attributes = Some (fattr_of version a);
   read_most = 8192;
@@ -63,7 +64,7 @@ information_of version a = record {
   properties = 24;
 }
 
-abbrev pub configuration_of : FormatVersion → Attributes → results.ConfigurationResults
+abbrev pub configuration_of : FormatVersion → Attributes → ConfigurationResults
 configuration_of version a = record {
   attributes = Some (fattr_of version a);
   links_most = 1;
@@ -81,7 +82,7 @@ abbrev pub used_by : FormatVersion → List Listed → ℕ
 used_by version [] = 0
 used_by version (e ∷ es) = used_bytes version e.attributes.size + used_by version es
 
-abbrev pub status_of : FormatVersion → ℕ → List Listed → Attributes → results.StatusResults
+abbrev pub status_of : FormatVersion → ℕ → List Listed → Attributes → StatusResults
 status_of version blocks files a = record {
   attributes = Some (fattr_of version a);
   total_bytes = BLOCK_BYTES * (blocks - FIRST_DATA);
@@ -103,14 +104,14 @@ pub record FindsAll (version : FormatVersion) (old new : SessionState) (files us
   pub used_is : used ≡ used_by version (found_among 2 found)
 
 -- each of the 510 files was looked up, and is counted where it was found
-pub record Measures (version : FormatVersion) (blocks : ℕ) (old new : SessionState) (a : Attributes) (told : results.StatusResults) : Type 0 where
+pub record Measures (version : FormatVersion) (blocks : ℕ) (old new : SessionState) (a : Attributes) (told : StatusResults) : Type 0 where
   pub found : List (Result Found NfsError)
   pub all : length found ≡ 510
   pub looked : LooksAllUp version 2 found old new
   pub known : AreKnown found
   pub is : told ≡ status_of version blocks (found_among 2 found) a
 
-abbrev pub MeasuresOr : FormatVersion → ℕ → Attributes → SessionState → SessionState → results.Told results.StatusResults → Type 0
+abbrev pub MeasuresOr : FormatVersion → ℕ → Attributes → SessionState → SessionState → results.Told StatusResults → Type 0
 MeasuresOr version blocks a old new (Ok told) = Measures version blocks old new a told
 MeasuresOr version blocks a old new (Err why) = IsCutShort version 2 old new why.0 × (why.1 ≡ None)
 
@@ -123,7 +124,7 @@ Lists version now cookie Fits (Ok a) old new outcome =
     MatchBool (a.number == 1) (SeesPage version cookie Fits (attributes_at now a) old new outcome) ((new ≡ old) × (outcome ≡ Err NotDirectory))
 
 -- the results of what was seen
-abbrev pub page_told : {E : Type 0} → (Listed → E) → Result Seen NfsError → results.Told (results.PageResults E)
+abbrev pub page_told : {E : Type 0} → (Listed → E) → Result Seen NfsError → results.Told (PageResults E)
 page_told as_entry (Ok seen) = Ok (page_of as_entry seen.page seen.is_end)
 page_told as_entry (Err why) = Err (why, None)
 
@@ -141,7 +142,7 @@ at_moment now (Err why) = Err why
 abbrev pub TellsNow : FormatVersion → Time → List ℕ → SessionState → SessionState → Result Attributes NfsError → Type 0
 TellsNow version now handle old new outcome = (told : Result Attributes NfsError) × TellsOf version handle old new told × (outcome ≡ at_moment now told)
 
-abbrev pub StatusOf : FormatVersion → ℕ → Time → Result Attributes NfsError → SessionState → SessionState → results.Told results.StatusResults → Type 0
+abbrev pub StatusOf : FormatVersion → ℕ → Time → Result Attributes NfsError → SessionState → SessionState → results.Told StatusResults → Type 0
 StatusOf version blocks now (Err why) old new told = (new ≡ old) × (told ≡ Err (why, None))
 StatusOf version blocks now (Ok a) old new told = MeasuresOr version blocks (attributes_at now a) old new told
 
@@ -157,7 +158,7 @@ Queries version blocks now (ReadDirectoryPlus p) old r new =
     (seen : Result Seen NfsError) × Lists version now p.cookie (λ es. FitsCount entry_plus (plus_of version) p.count es × FitsNames p.names_count es) told mid new seen
     × (r ≡ results.ReadDirectoryPlus (page_told (plus_of version) seen)))
 Queries version blocks now (FileSystemStatus h) old r new =
-    TellsThen version h old (λ told mid. (status : results.Told results.StatusResults) × StatusOf version blocks now told mid new status × (r ≡ results.FileSystemStatus status))
+    TellsThen version h old (λ told mid. (status : results.Told StatusResults) × StatusOf version blocks now told mid new status × (r ≡ results.FileSystemStatus status))
 Queries version blocks now (FileSystemInformation h) old r new =
     TellsThen version h old (λ told mid. (new ≡ mid) × (r ≡ results.FileSystemInformation (shown (information_of version) now told)))
 Queries version blocks now (PathConfiguration h) old r new =

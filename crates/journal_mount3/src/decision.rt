@@ -1,15 +1,16 @@
 // Which program a call asks, and what of it.
 ghost use Rattle.std.specs.Prelude.{◌≡◌};
 ghost use Rattle.journal_rpc.specs.CallViews.{asked_of};
-ghost use Rattle.journal_mount3.specs.Arguments.{query_arguments, mount_arguments};
-ghost use Rattle.journal_mount3.specs.Procedures.{query_procedure_of, mount_procedure_of};
+ghost use Rattle.journal_nfs3_wire.specs.Queries.{query_procedure_of, query_arguments};
 ghost use Rattle.journal_nfs3_wire.specs.Whole.{whole};
+ghost use Rattle.journal_mount3.specs.Arguments.{mount_arguments};
+ghost use Rattle.journal_mount3.specs.Procedures.{mount_procedure_of};
 ghost use Rattle.journal_mount3.specs.Calls.{asks, asks_files, asks_mount, decided, found_query, found_mount};
 
-use crate::arguments::{MountCall, Query, Requested};
-use crate::procedure::{MountProcedure, QueryProcedure};
-use crate::reading::{read_mount, read_query};
-use journal_nfs3_wire::{PROGRAM, VERSION, decide_procedure};
+use crate::arguments::{MountCall, Requested};
+use crate::procedure::MountProcedure;
+use crate::reading::read_mount;
+use journal_nfs3_wire::{PROGRAM, Query, QueryProcedure, VERSION, decide_procedure, read_query};
 use journal_rpc::{Call, CallRefused};
 use journal_xdr::{Enumeration, Reader};
 

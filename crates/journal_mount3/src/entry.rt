@@ -3,8 +3,9 @@ ghost use Rattle.std.specs.Prelude.{◌≡◌, ◌≤◌, ◌+◌, ◌%◌, OnOk
 ghost use Rattle.journal_xdr.specs.Items.{Writes};
 ghost use Rattle.journal_inode.specs.declared.version.FormatVersion.{FormatVersion};
 ghost use Rattle.journal_nfs3_wire.specs.Arguments.{name};
+ghost use Rattle.journal_nfs3_wire.specs.QueryResults.{entry};
 ghost use Rattle.journal_mount3.specs.declared.page.TheConstants.{LAST_COOKIE};
-ghost use Rattle.journal_mount3.specs.Entries.{file_name, entry_name, entry, entry_of};
+ghost use Rattle.journal_mount3.specs.Entries.{file_name, entry_name, entry_of};
 
 use crate::page::Entry;
 use journal_filestore::Attributes;
@@ -54,7 +55,7 @@ fn write_name(writer: &mut Writer, cookie: u64) -> Result<(), AllocError>
 }
 
 // Writes the number, the name and the cookie of an entry (RFC 1813, section 3.3.16, entry3).
-#[tactic(auto, unfolding(crate::specs::Entries::entry))]
+#[tactic(auto, unfolding(journal_nfs3_wire::specs::QueryResults::entry))]
 fn write_entry(writer: &mut Writer, shown: &Entry) -> Result<(), AllocError>
     ensures ok { OnOk result (Writes entry (entry_of shown.now) writer.old writer.new) }
     ensures err { OnErr result ((front : List ℕ) × (writer.new ≡ writer.old ++ front)) }
@@ -97,7 +98,8 @@ impl Shown for PlainEntry {
 }
 
 impl Element for PlainEntry {
-    ghost use Rattle.journal_mount3.specs.Entries.{entry, entry_of};
+    ghost use Rattle.journal_nfs3_wire.specs.QueryResults.{entry};
+    ghost use Rattle.journal_mount3.specs.Entries.{entry_of};
 
     ghost spelling = { λ e. entry.spelling (entry_of e.0) };
 

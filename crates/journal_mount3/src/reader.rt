@@ -1,12 +1,12 @@
 // NFS and MOUNT where the files are only read.
 ghost use Rattle.std.specs.Prelude.{◌≡◌, ℕ, List, Ok, IfOk, IfSome, IfNone, OnErr};
 ghost use Rattle.journal_nfs3_wire.specs.Arguments.{operation_of};
-ghost use Rattle.journal_mount3.specs.Arguments.{Access};
+ghost use Rattle.journal_nfs3_wire.specs.Queries.{Access};
 ghost use Rattle.journal_mount3.specs.Calls.{query, decided};
 ghost use Rattle.journal_mount3.specs.Answers.{sent_text};
 ghost use Rattle.journal_mount3.specs.Readers.{changes_files, is_denied, reading_of, denied_text, GrantsReader};
 
-use crate::arguments::{Query, Requested};
+use crate::arguments::Requested;
 use crate::decision::decide;
 use crate::replying::{Exported, answer_no_wait};
 use crate::results::Told;
@@ -16,7 +16,7 @@ use journal_filestore::FileStore;
 use journal_history::{Naming, Receipt, Session};
 use journal_inode::{SoundFiles, Time, Version};
 use journal_nfs3::PendingReply;
-use journal_nfs3_wire::{Operation, Procedure, Verifier};
+use journal_nfs3_wire::{Operation, Procedure, Query, Verifier};
 use journal_rpc::{Call, CallRefused, Results, write_reply};
 use journal_server::{FileProtocol, Programs};
 use journal_world::{Layout, Moment, Refusal};

@@ -2,13 +2,14 @@
 ghost use Rattle.std.specs.Prelude.{◌≡◌, ℕ, Result, IfOk, IfErr};
 ghost use Rattle.journal_file_types.specs.declared.reply.Attributes.{Attributes};
 ghost use Rattle.journal_nfs3_wire.specs.declared.results.NfsError.{NfsError};
-ghost use Rattle.journal_mount3.specs.Arguments.{query_of, mount_call_of};
+ghost use Rattle.journal_nfs3_wire.specs.Queries.{query_of};
+ghost use Rattle.journal_mount3.specs.Arguments.{mount_call_of};
 ghost use Rattle.journal_mount3.specs.Mounts.{mount_text, is_exported};
 ghost use Rattle.journal_mount3.specs.Listings.{IsCutShort};
 ghost use Rattle.journal_mount3.specs.Served.{Queries, TellsThen, TellsNow, StatusOf, FindsAll, access_of, rights_of, shown};
 ghost use Rattle.journal_mount3.specs.CodeViews.{query_results_of, mount_results_text, told_of, access_seen, status_seen};
 
-use crate::arguments::{MountCall, Query};
+use crate::arguments::MountCall;
 use crate::entry::{PlainEntry, PlusEntry};
 use crate::listing::{FIRST_FILE, LAST_FILE, find_file, list, plain_room, plus_room};
 use crate::results::{Granted, MountResults, QueryResults, SpaceUse};
@@ -18,7 +19,7 @@ use journal_filestore::{Attributes, FileStore};
 use journal_history::{Naming, Session};
 use journal_inode::{SoundFiles, Time, Version};
 use journal_nfs3::get_attributes;
-use journal_nfs3_wire::{NfsError, used_bytes};
+use journal_nfs3_wire::{NfsError, Query, used_bytes};
 use journal_world::{BLOCK_BYTES, FIRST_DATA, Layout};
 use std::alloc::Global;
 use std::sync::Wait;
@@ -45,6 +46,7 @@ pub(crate) fn serve_query<'b, D: BlockDisk, J: Naming, V: Version, W: Wait>(
         Query::Access(handle, asked) => {
             QueryResults::Access(grant(rt, session, files, handle, *asked, now))
         }
+        // The verifier of a cookie is not looked at, because no cookie ends.
         Query::ReadDirectory(page) => {
             let room = plain_room(page.count);
             QueryResults::ReadDirectory(list::<D, J, V, W, PlainEntry>(

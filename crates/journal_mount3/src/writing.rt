@@ -1,7 +1,8 @@
 // Writing the results of the procedures beside the nine.
 ghost use Rattle.std.specs.Prelude.{◌≡◌, ◌++◌, OnOk};
 ghost use Rattle.journal_xdr.specs.Items.{Writes};
-ghost use Rattle.journal_mount3.specs.Results.{told, access_results, status_results, information_results, configuration_results};
+ghost use Rattle.journal_nfs3_wire.specs.QueryResults.{access_results, status_results, information_results, configuration_results};
+ghost use Rattle.journal_mount3.specs.Results.{told};
 ghost use Rattle.journal_mount3.specs.Served.{information_of, configuration_of};
 ghost use Rattle.journal_mount3.specs.CodeViews.{told_of, access_seen, status_seen, listing_text, mount_results_text};
 
@@ -53,7 +54,7 @@ const NAME_BYTES: u32 = 4;
 const MOST_LINKS: u32 = 1;
 
 // ACCESS (RFC 1813, section 3.3.4).
-#[tactic(auto, unfolding(crate::specs::Results::access_results))]
+#[tactic(auto, unfolding(journal_nfs3_wire::specs::QueryResults::access_results))]
 pub(crate) fn write_access(
     writer: &mut Writer,
     version: FormatVersion,
@@ -89,7 +90,7 @@ pub(crate) fn write_listing<E: Shown + Drop>(
 }
 
 // FSSTAT (RFC 1813, section 3.3.18).
-#[tactic(auto, unfolding(crate::specs::Results::status_results))]
+#[tactic(auto, unfolding(journal_nfs3_wire::specs::QueryResults::status_results))]
 pub(crate) fn write_use(
     writer: &mut Writer,
     version: FormatVersion,
@@ -115,7 +116,7 @@ pub(crate) fn write_use(
 }
 
 // FSINFO (RFC 1813, section 3.3.19).
-#[tactic(auto, unfolding(crate::specs::Results::information_results))]
+#[tactic(auto, unfolding(journal_nfs3_wire::specs::QueryResults::information_results))]
 pub(crate) fn write_information(
     writer: &mut Writer,
     version: FormatVersion,
@@ -141,7 +142,7 @@ pub(crate) fn write_information(
 }
 
 // PATHCONF (RFC 1813, section 3.3.20).
-#[tactic(auto, unfolding(crate::specs::Results::configuration_results))]
+#[tactic(auto, unfolding(journal_nfs3_wire::specs::QueryResults::configuration_results))]
 pub(crate) fn write_path_configuration(
     writer: &mut Writer,
     version: FormatVersion,

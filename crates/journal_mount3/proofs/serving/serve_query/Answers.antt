@@ -1,4 +1,4 @@
-use Rattle.journal_mount3.specs.Arguments.{page_of, page_plus_of}
+use Rattle.journal_nfs3_wire.specs.Queries.{page_of, page_plus_of}
 use Rattle.journal_mount3.proofs.Telling.{access_query, status_query, information_query, configuration_query, lists_plain, lists_plus}
 use Rattle.journal_mount3.proofs.serving.serve_query.Goals as goal
 

@@ -1,5 +1,6 @@
 use Rattle.std.proofs.Common.{◌≡◌, ◌++◌, ℕ, List, OnOk, subst}
-use Rattle.journal_mount3.specs.Entries.{entry, entry_plus}
+use Rattle.journal_nfs3_wire.specs.QueryResults.{entry}
+use Rattle.journal_mount3.specs.Entries.{entry_plus}
 use Rattle.journal_mount3.specs.CodeViews.{plain_entry_of, plus_entry_of}
 use Rattle.journal_mount3.proofs.Spelling.{listing_is}
 use Rattle.journal_mount3.proofs.results.QueryResults.write.Goals as goal
