@@ -1,0 +1,11 @@
+pub mod Directories
+pub mod Requests
+pub mod Handles
+pub mod Values
+pub mod Calls
+pub mod Credentials
+pub mod Results
+pub mod Profile
+pub mod CodeViews
+pub mod Answers
+pub mod Refusals
