@@ -1,8 +1,7 @@
 -- Which bytes ask an operation of directories, and which are a handle.
-use Rattle.std.proofs.Common.{◌≡◌, ℕ, List, Bool, true, false, cond, Option, Some, None, Result, Ok, Err, refl, sym, ap, subst, ◌∙◌}
+use Rattle.std.proofs.Common.{◌≡◌, ℕ, List, Bool, true, false, cond, Option, Some, None, Result, Ok, Err, refl, sym, ap, ◌∙◌}
 use Rattle.std.specs.Prelude.{◌==◌}
 use Rattle.std.proofs.lemmas.Bool.{eqb-true, eq-eqb}
-use Rattle.journal_rpc.specs.declared.replies.CallRefused.{CallRefused}
 use Rattle.journal_tree.specs.declared.reply.Handle.{Handle}
 use Rattle.journal_nfs3_wire.specs.declared.results.NfsError.{NfsError}
 use Rattle.journal_nfs3_wire.specs.declared.results.NfsError.TheVariants.{Stale}
@@ -12,7 +11,7 @@ use Rattle.journal_treewire.specs.declared.procedure.DirectoryProcedure.{Directo
 use Rattle.journal_treewire.specs.declared.procedure.DirectoryProcedure.TheVariants as procedure
 use Rattle.journal_treewire.specs.Directories.{DirectoryOperation, directory_arguments, directory_procedure_number}
 use Rattle.journal_treewire.specs.Handles.{DiskHandle, disk_handle, named_on, handle_in}
-use Rattle.journal_treewire.specs.Requests.{Requested, or_garbage, directory, requested}
+use Rattle.journal_treewire.specs.Requests.{or_garbage, directory, requested}
 use Rattle.journal_treewire.proofs.DirectoryLaws.{directory_arguments_laws, disk_handle_laws}
 
 -- the number of such a procedure is none of the others'

@@ -1,5 +1,5 @@
 -- The laws of the items of directories, handles and credentials.
-use Rattle.std.proofs.Common.{◌≡◌, ℕ, zero, suc, refl, ap, Option, Some, List}
+use Rattle.std.proofs.Common.{◌≡◌, ℕ, zero, suc, refl, ap, Some, List}
 use Rattle.journal_xdr.specs.Items.{IsGrammar}
 use Rattle.journal_xdr.specs.Basic.{word}
 use Rattle.journal_xdr.specs.ItemLaws.{pair_laws, made_laws, some_is, tagged_laws, only_laws, never_laws, variant_laws}

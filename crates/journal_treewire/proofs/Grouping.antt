@@ -5,7 +5,6 @@ use Rattle.std.proofs.lemmas.List.{length-append, set_at, take_at}
 use Rattle.journal_xdr.specs.Items.{◌>>=◌}
 use Rattle.journal_xdr.specs.Basic.{word}
 use Rattle.journal_xdr.specs.Lists.{read_run}
-use Rattle.journal_xdr.specs.BasicLaws.{length-zeros}
 
 -- what was read after other values
 abbrev pub after : List ℕ → Option (List ℕ × List ℕ) → Option (List ℕ × List ℕ)
@@ -32,7 +31,7 @@ pub record Reading (own count at : ℕ) (first now groups : List ℕ) : Type 0 w
   pub so_far : read_run word count first ≡ after gids (read_run word (count - at) now)
 
 pub begins : (own count : ℕ) (first groups : List ℕ) → groups ≡ replicate 16 own → Reading own count 0 first first groups
-begins own count first groups all = record { gids = []; long = refl; all = all; so_far = after-nil (read_run word count first) }
+begins own count first groups all = record { gids = []; long = refl; all = all; so_far = let all_left : count - 0 ≡ count = omega arith in after-nil (read_run word count first) ∙ ap (λ n. after [] (read_run word n first)) (sym all_left) }
 
 module _ (own count at : ℕ) (first now groups : List ℕ) (few : count ≤ 16) (more : at < count) (r : Reading own count at first now groups) where
   left : count - at ≡ suc (count - (at + 1))

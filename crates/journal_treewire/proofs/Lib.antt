@@ -4,3 +4,6 @@ pub mod Asking
 pub mod Short
 pub mod LineTexts
 pub mod Written
+pub mod Fitting
+pub mod ResultLaws
+pub mod ListLengths

@@ -1,23 +1,23 @@
 -- The text of lines.
-use Rattle.std.proofs.Common.{◌≡◌, ℕ, ◌+◌, ◌*◌, ◌<◌, ◌≤◌, ◌^◌, true, false, List, [], ◌∷◌, ◌++◌, length, take, Option, Some, None, Ok, Err, refl, sym, ap, ◌∙◌, arith, length-append, append-nil}
+use Rattle.std.proofs.Common.{◌≡◌, ℕ, ◌+◌, ◌<◌, ◌≤◌, ◌^◌, true, false, List, [], ◌∷◌, ◌++◌, length, take, get_or, None, Ok, Err, refl, ap, ◌∙◌, arith, length-append, append-nil}
 use Rattle.std.specs.Prelude.{flat_map, map}
-use Rattle.std.proofs.lemmas.List.{length-take}
+use Rattle.std.proofs.lemmas.List.{length-take, take_more}
 use Rattle.std.proofs.lemmas.List.Concat.{flat_map-append}
 use Rattle.journal_xdr.specs.Items.{Item}
-use Rattle.journal_xdr.specs.Basic.{word, hyper, boolean, fixed, opaque, string, optional}
+use Rattle.journal_xdr.specs.Basic.{hyper, boolean, fixed, string, optional}
 use Rattle.journal_xdr.specs.BasicLaws.{length-hyper, length-boolean, opaque_short}
 use Rattle.journal_xdr.specs.Lists.{link_text, list_text}
 use Rattle.journal_treecalls.specs.declared.lines.Line.{Line}
 use Rattle.journal_treecalls.specs.Lines.{item_of, beside_of}
 use Rattle.journal_nfs3_wire.specs.Arguments.{name}
 use Rattle.journal_nfs3_wire.specs.declared.results.NfsError.{NfsError}
-use Rattle.journal_nfs3_wire.specs.QueryResults.{Entry, entry, PageResults, page_results}
+use Rattle.journal_nfs3_wire.specs.QueryResults.{entry, PageResults, page_results}
 use Rattle.journal_nfs3_wire.specs.Results.{post_op_attributes, outcome}
 use Rattle.journal_nfs3_wire.proofs.ResultFacts.{after_short, length-verifier, ok_short, err_short}
 use Rattle.journal_treewire.specs.declared.parts.Lines.{Lines}
 use Rattle.journal_treewire.specs.CodeViews.{line_seen, line_plus_seen, line_text, line_plus_text, list_seen, list_plus_seen}
 use Rattle.journal_treewire.specs.Profile.{entry_of, entries_plus}
-use Rattle.journal_treewire.specs.Results.{given_handle, EntryPlus, entry_plus}
+use Rattle.journal_treewire.specs.Results.{given_handle, entry_plus}
 use Rattle.journal_treewire.proofs.Short.{handle_short}
 
 links : (ls : List Line) → flat_map (link_text entry.spelling) (map entry_of (map item_of ls)) ≡ flat_map line_text ls
@@ -72,11 +72,14 @@ text_more f lines l =
     let all = flat_map-append f lines (l ∷ []) in
     ap length all ∙ length-append (flat_map f lines) (flat_map f (l ∷ [])) ∙ ap (λ (t : List ℕ). length (flat_map f lines) + length t) (append-nil (f l))
 
-pub counts_one_more : (disk : ℕ) (lines : List Line) (l : Line) (room : ℕ) → Counted disk lines room → Counted disk (lines ++ l ∷ []) (room + (148 + l.name_bytes))
+counts_one_more : (disk : ℕ) (lines : List Line) (l : Line) (room : ℕ) → Counted disk lines room → Counted disk (lines ++ l ∷ []) (room + (148 + l.name_bytes))
 counts_one_more disk lines l room c = record {
   plain = omega (arith, c.plain, text_more line_text lines l, line_short l);
   plus = omega (arith, c.plus, text_more (line_plus_text disk) lines l, line_plus_short disk l);
 }
+
+pub counts_at : (disk k : ℕ) (lines : List Line) (d : Line) (room n : ℕ) → k < length lines → n ≡ 148 + (get_or lines k d).name_bytes → Counted disk (take k lines) room → Counted disk (take (k + 1) lines) (room + n)
+counts_at disk k lines d room n low is c = rw (is, take_more lines k d low) (counts_one_more disk (take k lines) (get_or lines k d) room c)
 
 -- ---- a reply with lines
 

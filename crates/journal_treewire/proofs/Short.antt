@@ -1,17 +1,15 @@
 -- How long results are.
-use Rattle.std.proofs.Common.{◌≡◌, ℕ, ◌+◌, ◌<◌, ◌≤◌, ◌^◌, List, [], ◌∷◌, ◌++◌, length, Option, Some, None, Result, Ok, Err, refl, arith, length-append}
-use Rattle.std.specs.Prelude.{flat_map, map}
+use Rattle.std.proofs.Common.{◌≡◌, ℕ, ◌+◌, ◌<◌, ◌≤◌, ◌^◌, List, ◌++◌, length, Option, Some, None, Result, Ok, Err, refl, arith, length-append}
 use Rattle.journal_xdr.specs.Items.{Item}
-use Rattle.journal_xdr.specs.Basic.{word, hyper, boolean, fixed, opaque, string, optional}
+use Rattle.journal_xdr.specs.Basic.{word, hyper, boolean, fixed, opaque, optional}
 use Rattle.journal_xdr.specs.BasicLaws.{length-word, length-hyper, length-boolean, opaque_short}
-use Rattle.journal_xdr.specs.Lists.{link_text, list_text}
 use Rattle.journal_nfs3_wire.specs.declared.results.NfsError.{NfsError}
-use Rattle.journal_nfs3_wire.specs.Arguments.{name, time}
-use Rattle.journal_nfs3_wire.specs.Results.{Fattr, fattr, post_op_attributes, Change, change, ReadResults, read_results, WriteResults, write_results, CommitResults, commit_results, outcome, nothing, status, error_number}
-use Rattle.journal_nfs3_wire.specs.QueryResults.{Entry, entry, AccessResults, access_results, PageResults, page_results, StatusResults, status_results, InformationResults, information_results, ConfigurationResults, configuration_results}
-use Rattle.journal_nfs3_wire.proofs.ResultFacts.{length-time, length-fattr, after_short, change_short, length-verifier, write_short, commit_short, ok_short, err_short}
+use Rattle.journal_nfs3_wire.specs.Arguments.{time}
+use Rattle.journal_nfs3_wire.specs.Results.{Fattr, fattr, post_op_attributes, Change, change, ReadResults, read_results, WriteResults, write_results, CommitResults, commit_results, outcome, nothing, error_number}
+use Rattle.journal_nfs3_wire.specs.QueryResults.{AccessResults, access_results, StatusResults, status_results, InformationResults, information_results, ConfigurationResults, configuration_results}
+use Rattle.journal_nfs3_wire.proofs.ResultFacts.{length-time, length-fattr, after_short, change_short, write_short, commit_short, ok_short, err_short}
 use Rattle.journal_treewire.specs.Handles.{DiskHandle, disk_handle}
-use Rattle.journal_treewire.specs.Results.{given_handle, FoundResults, found_results, MadeResults, made_results, EntryPlus, entry_plus, refusal, two_changes, file_and_change}
+use Rattle.journal_treewire.specs.Results.{given_handle, FoundResults, found_results, MadeResults, made_results, refusal, two_changes, file_and_change}
 
 -- ---- parts
 

@@ -5,11 +5,12 @@ use Rattle.journal_xdr.specs.Items.{Writes}
 use Rattle.journal_xdr.specs.Basic.{word, hyper, boolean, fixed, opaque}
 use Rattle.journal_tree.specs.declared.reply.Space.{Space}
 use Rattle.journal_treecalls.specs.declared.facts.FactsReply.{FactsReply}
+use Rattle.journal_treecalls.specs.declared.facts.NameFactsReply.{NameFactsReply}
 use Rattle.journal_nfs3_wire.specs.Arguments.{time}
-use Rattle.journal_nfs3_wire.specs.QueryResults.{entry, page_results, status_results, information_results}
+use Rattle.journal_nfs3_wire.specs.QueryResults.{entry, page_results, status_results, information_results, configuration_results}
 use Rattle.journal_nfs3_wire.specs.Results.{status, outcome, post_op_attributes}
 use Rattle.journal_treewire.specs.declared.parts.Lines.{Lines}
-use Rattle.journal_treewire.specs.CodeViews.{information_seen, line_text, line_plus_text, list_seen, list_plus_seen}
+use Rattle.journal_treewire.specs.CodeViews.{information_seen, configuration_seen, line_text, line_plus_text, list_seen, list_plus_seen}
 use Rattle.journal_treewire.specs.Handles.{DiskHandle, disk_handle}
 use Rattle.journal_treewire.specs.Profile.{fattr_of, word_of, status_of, cookie_verifier}
 use Rattle.journal_treewire.specs.Results.{given_handle, entry_plus}
@@ -45,3 +46,9 @@ pub wrote_list_plus : (disk : ℕ) (l : Lines) (s0 s1 s2 s3 s4 s5 : List ℕ) �
     → s4 ≡ s3 ++ (flat_map (line_plus_text disk) l.reply.lines.items ++ boolean.spelling false) → s5 ≡ s4 ++ boolean.spelling l.reply.is_end → Writes (outcome (page_results entry_plus) post_op_attributes) (Ok (list_plus_seen disk l)) s0 s5
 unfolding page_results
 wrote_list_plus disk l s0 s1 s2 s3 s4 s5 e1 e2 e3 e4 e5 = rw (e5, e4, e3, e2, e1, lines_plus_are disk l.reply.lines.items) (simp append_assoc)
+
+pub wrote_configuration : (disk : ℕ) (f : NameFactsReply) (longest : ℕ) (s0 s1 s2 s3 s4 s5 s6 s7 s8 : List ℕ) → longest ≡ word_of f.name → s1 ≡ s0 ++ status.spelling None → s2 ≡ s1 ++ post_op_attributes.spelling (Some (fattr_of disk f.node)) → s3 ≡ s2 ++ word.spelling f.links
+    → s4 ≡ s3 ++ word.spelling longest → s5 ≡ s4 ++ boolean.spelling f.refuses_long → s6 ≡ s5 ++ boolean.spelling f.owner_restricted → s7 ≡ s6 ++ boolean.spelling f.ignores_case → s8 ≡ s7 ++ boolean.spelling f.keeps_case
+    → Writes (outcome configuration_results post_op_attributes) (Ok (configuration_seen disk f)) s0 s8
+unfolding configuration_results
+wrote_configuration disk f longest s0 s1 s2 s3 s4 s5 s6 s7 s8 longest_is e1 e2 e3 e4 e5 e6 e7 e8 = rw (e8, e7, e6, e5, e4, e3, e2, e1, longest_is) (simp append_assoc)

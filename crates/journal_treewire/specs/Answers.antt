@@ -1,5 +1,5 @@
 -- The results of a call of the tree, by its reply.
-use Rattle.std.specs.Prelude.{ℕ, List, Option, Some, None, Result, Ok, Err}
+use Rattle.std.specs.Prelude.{ℕ, List, None, Result, Ok, Err}
 use Rattle.journal_tree.specs.declared.status.Status.{Status}
 use Rattle.journal_tree.specs.Op.{Call, readlink, symlink, mknod, rename, link, write, Reply, got, set, found, accessed, bytes_read, wrote, made, removed, listed, listed_plus, space, facts, name_facts, committed, not_done}
 use Rattle.journal_nfs3_wire.specs.declared.arguments.StableHow.{StableHow}

@@ -1,5 +1,5 @@
 -- The meaning of the code's answers.
-use Rattle.std.specs.Prelude.{ℕ, List, ◌++◌, map, option_map, Some, None}
+use Rattle.std.specs.Prelude.{ℕ, List, map, None}
 use Rattle.journal_tree.specs.Attributes.{Access as TreeAccess}
 use Rattle.journal_tree.specs.Contents.{Portion}
 use Rattle.journal_tree.specs.Facts.{Facts, NameFacts}

@@ -1,5 +1,5 @@
 -- Callers, by the credentials of their calls (RFC 5531, section 8.2 and appendix A).
-use Rattle.std.specs.Prelude.{ℕ, ◌-◌, ◌==◌, if◌then◌else◌, List, ◌++◌, length, take, drop, replicate, Option, Some, None, option_map}
+use Rattle.std.specs.Prelude.{ℕ, ◌-◌, ◌==◌, if◌then◌else◌, List, ◌++◌, length, take, replicate, Option, Some, None, option_map}
 use Rattle.journal_xdr.specs.Items.{Item, pair, mapped_item}
 use Rattle.journal_xdr.specs.Basic.{word, string}
 use Rattle.journal_xdr.specs.Lists.{array}

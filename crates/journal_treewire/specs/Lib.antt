@@ -9,3 +9,4 @@ pub mod Profile
 pub mod CodeViews
 pub mod Answers
 pub mod Refusals
+pub mod ListLengths

@@ -1,5 +1,5 @@
 -- The results for the replies of the definitions.
-use Rattle.std.specs.Prelude.{ℕ, ◌+◌, ◌*◌, ◌/◌, Bool, min, replicate, List, [], ◌∷◌, length, map, option_map, Option, Some, None}
+use Rattle.std.specs.Prelude.{ℕ, ◌+◌, ◌*◌, ◌/◌, Bool, min, replicate, List, [], ◌∷◌, length, map, option_map, Some}
 use Rattle.journal_tree.specs.declared.limits.TheConstants.{BLOCK_BYTES, MOST_BYTES}
 use Rattle.journal_tree.specs.declared.reply.Kind.{Kind}
 use Rattle.journal_tree.specs.declared.reply.Kind.TheVariants as kinds

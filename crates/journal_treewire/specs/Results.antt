@@ -1,5 +1,5 @@
 -- The results of the procedures, as items (RFC 1813, sections 2.5 and 3.3).
-use Rattle.std.specs.Prelude.{ℕ, ◌<◌, ◌^◌, List, [], ◌++◌, length, Option, Some, None, Result, Ok, Err}
+use Rattle.std.specs.Prelude.{ℕ, List, [], Option, Some, Result}
 use Rattle.journal_xdr.specs.Items.{Item, pair, mapped_item, coded}
 use Rattle.journal_xdr.specs.Basic.{opaque, optional}
 use Rattle.journal_nfs3_wire.specs.declared.results.NfsError.{NfsError}

@@ -1,5 +1,4 @@
 -- The values of the wire in a tree.
-use Rattle.std.specs.Prelude.{Option, Some, None, option_map}
 use Rattle.journal_inode.specs.declared.node.Time.{Time as WireTime}
 use Rattle.journal_file_types.specs.declared.settings.NewTime.{NewTime as WireNewTime}
 use Rattle.journal_file_types.specs.declared.settings.NewTime.TheVariants as wire

@@ -2,11 +2,15 @@
 ghost use Rattle.std.specs.Prelude.{◌≡◌, ◌↔◌, List, ℕ, Ok};
 ghost use Rattle.journal_xdr.specs.Items.{IsGrammar};
 ghost use Rattle.journal_tree.specs.declared.reply.Handle.{Handle};
+ghost use Rattle.journal_nfs3_wire.specs.QueryResults.{page_results};
+ghost use Rattle.journal_nfs3_wire.specs.Results.{outcome, post_op_attributes, change};
 ghost use Rattle.journal_nfs3_wire.specs.Whole.{IsSpelling};
 ghost use Rattle.journal_treewire.specs.declared.procedure.DirectoryProcedure.{DirectoryProcedure};
 ghost use Rattle.journal_treewire.specs.Credentials.{system_body};
 ghost use Rattle.journal_treewire.specs.Directories.{DirectoryOperation, directory_arguments, directory_procedure_number};
 ghost use Rattle.journal_treewire.specs.Handles.{disk_handle, handle_in};
+ghost use Rattle.journal_treewire.specs.ListLengths.{ListingsFit, PlusListingsFit, PlusNamesFit};
+ghost use Rattle.journal_treewire.specs.Results.{found_results, made_results, entry_plus};
 ghost use Rattle.journal_treewire.specs.Requests.{requested, directory};
 
 /// The arguments of the procedures of directories and links are items, as those of the others are
@@ -29,4 +33,22 @@ pub fn disk_handles_are_spellings()
 /// The body of a credential of AUTH_SYS is an item.
 pub fn credentials_are_spellings()
     ensures { IsGrammar system_body }
+{}
+
+/// A listing has no more bytes than it is asked to have. Those of READDIR and READDIRPLUS are
+/// counted after the status, and `count` bounds them if it has room for a listing without lines.
+/// `dircount` of READDIRPLUS bounds the lines as READDIR has them (RFC 1813, sections 3.3.16 and
+/// 3.3.17).
+pub fn listings_have_room()
+    ensures plain { ListingsFit }
+    ensures plus { PlusListingsFit }
+    ensures names { PlusNamesFit }
+{}
+
+/// The results of LOOKUP, of the procedures that make a node and of READDIRPLUS are items, as those
+/// of the others are in `journal_nfs3_wire`.
+pub fn node_results_are_spellings()
+    ensures found { IsGrammar (outcome found_results post_op_attributes) }
+    ensures made { IsGrammar (outcome made_results change) }
+    ensures listing { IsGrammar (outcome (page_results entry_plus) post_op_attributes) }
 {}

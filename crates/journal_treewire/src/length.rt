@@ -31,7 +31,7 @@ impl DiskResults {
     }
 
     /// The results are short enough for a reply. The call is for its contract.
-    #[tactic(auto, using(crate::proofs::Short::attributes_result, crate::proofs::Short::changed_result, crate::proofs::Short::found_result, crate::proofs::Short::access_result, crate::proofs::Short::link_result, crate::proofs::Short::made_result, crate::proofs::Short::renamed_result, crate::proofs::Short::linked_result, crate::proofs::Short::status_result, crate::proofs::Short::information_result, crate::proofs::Short::configuration_result))]
+    #[tactic(auto, using(crate::proofs::Short::attributes_result, crate::proofs::Short::changed_result, crate::proofs::Short::found_result, crate::proofs::Short::access_result, crate::proofs::Short::made_result, crate::proofs::Short::status_result, crate::proofs::Short::information_result, crate::proofs::Short::configuration_result))]
     pub fn prove_short(&self)
         ensures { length (results_text (results_of self.now.disk self.now.results)) < 2 ^ 30 }
     {
@@ -103,14 +103,14 @@ fn prove_committed(disk: u64, answer: &Result<Changed, NfsError>, verifier: &Ver
     }
 }
 
-fn prove_verifier(verifier: &Verifier)
+pub(crate) fn prove_verifier(verifier: &Verifier)
     ensures { length verifier.now.0 ≡ 8 }
 {
     let bytes: &[u8] = &verifier.0;
     let _ = bytes.len();
 }
 
-#[tactic(auto, using(crate::proofs::LineTexts::list_result, crate::proofs::LineTexts::no_page))]
+#[tactic(auto, using(crate::proofs::LineTexts::list_result))]
 fn prove_lines(disk: u64, answer: &Result<Lines, NfsError>)
     ensures { length ((outcome (page_results entry) post_op_attributes).spelling (outcome_of (list_seen disk) None answer.now)) < 2 ^ 30 }
 {
@@ -122,7 +122,7 @@ fn prove_lines(disk: u64, answer: &Result<Lines, NfsError>)
     }
 }
 
-#[tactic(auto, using(crate::proofs::LineTexts::list_plus_result, crate::proofs::LineTexts::no_page))]
+#[tactic(auto, using(crate::proofs::LineTexts::list_plus_result))]
 fn prove_lines_plus(disk: u64, answer: &Result<Lines, NfsError>)
     ensures { length ((outcome (page_results entry_plus) post_op_attributes).spelling (outcome_of (list_plus_seen disk) None answer.now)) < 2 ^ 30 }
 {
@@ -143,7 +143,15 @@ fn room_of(disk: u64, lines: &[Line]) -> usize
 {
     let mut room = 0;
     for line in lines {
-        room += LINE_BYTES + usize::from(line.name_bytes);
+        room += line_room(line);
     }
     room
+}
+
+// Room for a line.
+fn line_room(line: &Line) -> usize
+    ensures is { result ≡ 148 + line.now.name_bytes }
+    ensures few { result ≤ 403 }
+{
+    LINE_BYTES + usize::from(line.name_bytes)
 }

@@ -9,7 +9,8 @@
 //!
 //! `specs/Results.antt` has the grammar of results, `specs/Profile.antt` has the results for each
 //! reply of the definitions, and `specs/Answers.antt` puts both together: the results of a call by
-//! its reply.
+//! its reply. Each is in the grammar (`DiskResults::prove_grammar`) and is short enough for a reply
+//! (`DiskResults::prove_short`). `specs/ListLengths.antt` says how many bytes listings have.
 //!
 //! No program uses this crate yet.
 #![tactic(auto)]
@@ -19,6 +20,7 @@ mod attributes;
 mod call;
 mod credential;
 mod decision;
+mod grammar;
 mod handle;
 mod laws;
 mod length;
@@ -39,6 +41,7 @@ pub use decision::read_request;
 pub use handle::read_handle;
 pub use laws::{
     credentials_are_spellings, directory_arguments_are_spellings, disk_handles_are_spellings,
+    listings_have_room, node_results_are_spellings,
 };
 pub use parts::{FilePart, Lines, MOST_LINES};
 pub use procedure::DirectoryProcedure;
