@@ -1,5 +1,5 @@
 -- How long a reply is, and what becomes of the room for its record's header.
-use Rattle.std.proofs.Common.{◌≡◌, ℕ, ◌+◌, ◌-◌, ◌*◌, ◌≤◌, ◌<◌, ◌^◌, List, [], ◌∷◌, ◌++◌, length, drop, refl, ap, ◌∙◌, arith}
+use Rattle.std.proofs.Common.{◌≡◌, ℕ, ◌+◌, ◌-◌, ◌*◌, ◌≤◌, ◌<◌, ◌^◌, List, [], ◌∷◌, ◌++◌, length, drop, refl, sym, ap, ◌∙◌, arith}
 use Rattle.std.specs.Prelude.{Result, Ok, Err}
 use Rattle.std.specs.Result.{ForOk}
 use Rattle.std.proofs.lemmas.List.{length-append, drop_at}
@@ -7,7 +7,7 @@ use Rattle.journal_xdr.specs.Basic.{word}
 use Rattle.journal_xdr.specs.BasicLaws.{length-word}
 use Rattle.journal_rpc.specs.declared.replies.CallRefused.{CallRefused}
 use Rattle.journal_rpc.specs.declared.replies.CallRefused.TheVariants.{RpcMismatch, ProgramUnavailable, ProgramMismatch, ProcedureUnavailable, GarbageArguments}
-use Rattle.journal_rpc.specs.Replies.{words, why, one_fragment, success, reply}
+use Rattle.journal_rpc.specs.Replies.{words, why, one_fragment, denial, success, reply}
 
 pub length-words : (ns : List ℕ) → length (words ns) ≡ 4 * length ns
 length-words [] = refl
@@ -44,3 +44,10 @@ holds spelling xid outcome empty room buffer fits none is e =
       whole = λ n size. ap (λ k. word.spelling k ++ drop 4 buffer) (size ∙ omega (arith, long))
           ∙ ap (λ (r : List ℕ). word.spelling (2 ^ 31 + length message) ++ r) (ap (drop 4) text ∙ drop_at (word.spelling 0) message 4 (length-word 0));
     }
+
+-- a denial behind the header of its record
+pub denies : (xid : ℕ) (empty room buffer : List ℕ) → empty ≡ [] → room ≡ empty ++ word.spelling (2 ^ 31 + 20) → buffer ≡ room ++ denial xid → buffer ≡ one_fragment (denial xid)
+denies xid empty room buffer none is e =
+    let long : length (denial xid) ≡ 20 = length-words (xid ∷ 1 ∷ 1 ∷ 1 ∷ 1 ∷ []) in
+    e ∙ ap (λ (r : List ℕ). r ++ denial xid) (is ∙ ap (λ (r : List ℕ). r ++ word.spelling (2 ^ 31 + 20)) none)
+    ∙ ap (λ (n : ℕ). word.spelling (2 ^ 31 + n) ++ denial xid) (sym long)

@@ -38,6 +38,11 @@ why (ProgramMismatch version) = accepted 2 ++ version ∷ version ∷ []
 why ProcedureUnavailable = accepted 3
 why GarbageArguments = accepted 4
 
+-- The reply that denies a call for its credential, without its record's header: denied is 1, for
+-- its authentication 1, because the credential cannot be read 1
+abbrev pub denial : ℕ → List ℕ
+denial xid = words (xid ∷ 1 ∷ 1 ∷ 1 ∷ 1 ∷ [])
+
 -- the words before the results of a call that is accepted and ran
 abbrev pub success : ℕ → List ℕ
 success xid = words (xid ∷ accepted 0)

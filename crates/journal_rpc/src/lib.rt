@@ -9,8 +9,9 @@
 //! records, each in some cutting into fragments.
 //!
 //! `read_call` reads a record as a call, and `Call::request` the call as a request to one program.
-//! `write_reply` writes the reply in one buffer, as one fragment. `specs/Calls.antt` and
-//! `specs/Replies.antt` have the texts.
+//! `write_reply` writes the reply in one buffer, as one fragment, and `write_denial` the reply to a
+//! call whose credential cannot be read. `specs/Calls.antt` and `specs/Replies.antt` have the
+//! texts.
 #![tactic(auto)]
 
 mod calls;
@@ -28,4 +29,4 @@ pub use laws::{
 pub use marking::Marking;
 pub use protocol::{RECORD_BYTES, WAITING_RECORDS};
 pub use records::{FeedRefused, Record, Records};
-pub use replies::{CallRefused, Results, write_reply};
+pub use replies::{CallRefused, Results, write_denial, write_reply};

@@ -31,6 +31,12 @@ pub const DENIED: u32 = 1;
 /// A call is denied for its version of RPC.
 pub const RPC_MISMATCH: u32 = 0;
 
+/// A call is denied for its credential or its verifier.
+pub const AUTH_ERROR: u32 = 1;
+
+/// The credential cannot be read (section 9).
+pub const AUTH_BADCRED: u32 = 1;
+
 /// The flavor of a verifier that has no bytes (section 8.2).
 pub const AUTH_NONE: u32 = 0;
 

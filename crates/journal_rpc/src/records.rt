@@ -107,10 +107,10 @@ impl Records {
 
     /// Takes the room of a record, for a later one. It keeps 64 of at most 4096 bytes, and frees
     /// others.
-    pub fn reuse(&mut self, record: Record)
+    pub fn reuse(&mut self, used: Record)
         ensures { self.new ≡ self.old }
     {
-        let room = record.bytes;
+        let room = used.bytes;
         if self.spare.len() >= SPARE_ROOMS || room.capacity() > SPARE_BYTES {
             return;
         }

@@ -1,15 +1,18 @@
 // Replies, each as one fragment.
 ghost use Rattle.std.specs.Prelude.{◌≡◌, ◌<◌, ◌^◌, ◌++◌, [], List, ℕ, length, IfOk, OnOk};
 ghost use Rattle.std.specs.Result.{ForOk};
-ghost use Rattle.journal_rpc.specs.Replies.{words, one_fragment, reply, why, accepted, accept_number};
+ghost use Rattle.journal_rpc.specs.Replies.{words, one_fragment, denial, reply, why, accepted, accept_number};
 
 use crate::protocol::{
-    ACCEPTED, AUTH_NONE, AcceptStatus, DENIED, HEADER_BYTES, LAST_FRAGMENT, REPLY, RPC_MISMATCH,
-    RPC_VERSION,
+    ACCEPTED, AUTH_BADCRED, AUTH_ERROR, AUTH_NONE, AcceptStatus, DENIED, HEADER_BYTES,
+    LAST_FRAGMENT, REPLY, RPC_MISMATCH, RPC_VERSION,
 };
 use journal_xdr::Writer;
 use std::alloc::{AllocError, Global};
 use thiserror::Error;
+
+// The bytes of a reply that denies a call for its credential.
+const DENIAL_BYTES: usize = 20;
 
 /// Why a call is refused before its procedure is run (RFC 5531, section 9).
 #[derive(Clone, Copy, Debug, PartialEq, Eq, Error)]
@@ -75,6 +78,20 @@ pub fn write_reply<R: Results>(
     write_message(&mut writer, xid, outcome)?;
     let length = writer.len() - HEADER_BYTES;
     writer.replace_first(LAST_FRAGMENT + length as u32);
+    Ok(writer.into_bytes())
+}
+
+/// The reply that denies the call with this number for its credential, which cannot be read (RFC
+/// 5531, section 9: AUTH_ERROR, AUTH_BADCRED). It is a record of one fragment, with its header.
+///
+/// # Errors
+/// - Memory is refused. Nothing was made.
+pub fn write_denial(alloc: Global, xid: u32) -> Result<Vec<u8>, AllocError>
+    ensures { IfOk result (λ bytes. bytes.items ≡ one_fragment (denial xid)) }
+{
+    let mut writer = Writer::with_capacity(alloc, HEADER_BYTES + DENIAL_BYTES)?;
+    writer.word(LAST_FRAGMENT + DENIAL_BYTES as u32)?;
+    write_words(&mut writer, &[xid, REPLY, DENIED, AUTH_ERROR, AUTH_BADCRED])?;
     Ok(writer.into_bytes())
 }
 
