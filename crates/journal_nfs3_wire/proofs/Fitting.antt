@@ -10,7 +10,7 @@ use Rattle.journal_inode.specs.declared.version.FormatVersion.TheVariants.{One, 
 use Rattle.journal_file_types.specs.declared.reply.Attributes.{Attributes}
 use Rattle.journal_nfs3_wire.specs.Arguments.{time}
 use Rattle.journal_nfs3_wire.specs.declared.results.NfsError.{NfsError}
-use Rattle.journal_nfs3_wire.specs.declared.results.NfsError.TheVariants.{NotOwner, NoEntry, Io, NoAccess, Exists, NotDirectory, IsDirectory, Invalid, TooBig, NoSpace, NameTooLong, NotEmpty, Stale, BadHandle, NotSync, NotSupported, TooSmall, ServerFault, Jukebox}
+use Rattle.journal_nfs3_wire.specs.declared.results.NfsError.TheVariants.{NotOwner, NoEntry, Io, NoAccess, Exists, NotDirectory, IsDirectory, Invalid, TooBig, NoSpace, ReadOnly, NameTooLong, NotEmpty, Stale, BadHandle, NotSync, NotSupported, TooSmall, ServerFault, Jukebox}
 use Rattle.journal_nfs3_wire.specs.Handles.{FileHandle, file_handle}
 use Rattle.journal_nfs3_wire.specs.Results.{status, outcome, given_handle, Fattr, fattr, Before, before, change}
 use Rattle.journal_nfs3_wire.specs.Profile.{used_bytes, fattr_of, before_of, no_change}
@@ -102,6 +102,7 @@ status_has (Some IsDirectory) = (omega arith, refl)
 status_has (Some Invalid) = (omega arith, refl)
 status_has (Some TooBig) = (omega arith, refl)
 status_has (Some NoSpace) = (omega arith, refl)
+status_has (Some ReadOnly) = (omega arith, refl)
 status_has (Some NameTooLong) = (omega arith, refl)
 status_has (Some NotEmpty) = (omega arith, refl)
 status_has (Some Stale) = (omega arith, refl)

@@ -7,7 +7,7 @@ use Rattle.journal_nfs3_wire.specs.declared.arguments.StableHow.{StableHow}
 use Rattle.journal_nfs3_wire.specs.declared.procedure.Procedure.{Procedure}
 use Rattle.journal_nfs3_wire.specs.declared.procedure.Procedure.TheVariants as procedure
 use Rattle.journal_nfs3_wire.specs.declared.results.NfsError.{NfsError}
-use Rattle.journal_nfs3_wire.specs.declared.results.NfsError.TheVariants.{NotOwner, NoEntry, Io, NoAccess, Exists, NotDirectory, IsDirectory, Invalid, TooBig, NoSpace, NameTooLong, NotEmpty, Stale, BadHandle, NotSync, NotSupported, TooSmall, ServerFault, Jukebox}
+use Rattle.journal_nfs3_wire.specs.declared.results.NfsError.TheVariants.{NotOwner, NoEntry, Io, NoAccess, Exists, NotDirectory, IsDirectory, Invalid, TooBig, NoSpace, ReadOnly, NameTooLong, NotEmpty, Stale, BadHandle, NotSync, NotSupported, TooSmall, ServerFault, Jukebox}
 use Rattle.journal_nfs3_wire.specs.Arguments.{time, stable_how}
 use Rattle.journal_nfs3_wire.specs.Whole.{whole}
 use Rattle.journal_nfs3_wire.specs.Handles.{FileHandle, file_handle}
@@ -18,7 +18,7 @@ use Rattle.journal_nfs3_wire.specs.Handles.{FileHandle, file_handle}
 abbrev pub statuses : List (ℕ × Option NfsError)
 statuses =
     (0, None) ∷ (1, Some NotOwner) ∷ (2, Some NoEntry) ∷ (5, Some Io) ∷ (13, Some NoAccess) ∷ (17, Some Exists) ∷ (20, Some NotDirectory) ∷ (21, Some IsDirectory) ∷ (22, Some Invalid)
-    ∷ (27, Some TooBig) ∷ (28, Some NoSpace) ∷ (63, Some NameTooLong) ∷ (66, Some NotEmpty) ∷ (70, Some Stale)
+    ∷ (27, Some TooBig) ∷ (28, Some NoSpace) ∷ (30, Some ReadOnly) ∷ (63, Some NameTooLong) ∷ (66, Some NotEmpty) ∷ (70, Some Stale)
     ∷ (10001, Some BadHandle) ∷ (10002, Some NotSync) ∷ (10004, Some NotSupported) ∷ (10005, Some TooSmall) ∷ (10006, Some ServerFault) ∷ (10008, Some Jukebox) ∷ []
 
 abbrev pub error_number : NfsError → ℕ
@@ -32,6 +32,7 @@ error_number IsDirectory = 21
 error_number Invalid = 22
 error_number TooBig = 27
 error_number NoSpace = 28
+error_number ReadOnly = 30
 error_number NameTooLong = 63
 error_number NotEmpty = 66
 error_number Stale = 70

@@ -34,6 +34,7 @@ pub enum NfsError {
     Invalid = 22,
     TooBig = 27,
     NoSpace = 28,
+    ReadOnly = 30,
     NameTooLong = 63,
     NotEmpty = 66,
     Stale = 70,
