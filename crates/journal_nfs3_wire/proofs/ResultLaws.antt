@@ -69,7 +69,7 @@ commit_results_laws = made_laws _ _ _ (pair_laws _ _ change_laws (fixed_laws 8))
 -- ---- outcomes
 
 status_laws : IsGrammar status
-status_laws = enumeration_laws nfs_status status_number (listed_back status_number statuses (refl, (refl, (refl, (refl, (refl, (refl, (refl, (refl, (refl, (refl, (refl, (refl, (refl, (refl, (refl, (refl, (refl, (refl, (refl, (refl, tt)))))))))))))))))))))
+status_laws = enumeration_laws nfs_status status_number (listed_back status_number statuses (refl, (refl, (refl, (refl, (refl, (refl, (refl, (refl, (refl, (refl, (refl, (refl, (refl, (refl, (refl, (refl, (refl, (refl, (refl, (refl, (refl, tt))))))))))))))))))))))
 
 accepted_is : {A B : Type 0} (v : Result A (NfsError × B)) (x : A) → accepted_part v ≡ Some x → Ok x ≡ v
 accepted_is (Ok y) x e = cc
