@@ -5,7 +5,7 @@ use journal_commands::{
     Fault, RegionWords, Regions, find, label_of, open_to_read, print_line, settle,
 };
 use journal_disk::BlockDisk;
-use journal_form::{LogForm, change_form};
+use journal_form::{FileFormat, LogForm, change_form};
 use journal_program::{
     DiskFacts, Room, SizedDisk, Zeros, create_labeled_disk, find_device, is_disk_size,
 };
@@ -22,7 +22,12 @@ const WELL_FORMED: &str = "log well formed";
 // The end of that line for a disk with files, which another program reads.
 const UNCHECKED: &str = "; its files are checked by jnlfs check FILE";
 
-const OF_FILES: &str = "yes, of jnlfs";
+// The words for the files of a disk.
+const NO_FILES: &str = "no";
+
+const FLAT_FILES: &str = "yes, of jnlfs";
+
+const TREE: &str = "a tree, of jnlfs";
 
 /// A disk on a block device that is asked for.
 #[derive(Clone, Copy)]
@@ -111,8 +116,9 @@ pub fn create_on_device<'w, R: Files<File = File>, O: Write, E: Write>(
     print_label(&label, output)
 }
 
-/// Prints the number of blocks of the disk, the form of its log, whether it is a disk of the file
-/// service, whether it has a label, and the regions that this has. Nothing is written to it.
+/// Prints the number of blocks of the disk, the form of its log, the format of its files if it is a
+/// disk of the file service, whether it has a label, and the regions that this has. Nothing is
+/// written to it.
 ///
 /// # Errors
 /// - Those of a disk that is opened to be read.
@@ -133,7 +139,11 @@ pub fn info<'w, R: Files<File = File>, O: Write, E: Write>(
 
 fn print_facts<O: Write>(facts: &DiskFacts, output: &mut O) -> io::Result<()> {
     let form = facts.form.name();
-    let files = if facts.has_files { OF_FILES } else { "no" };
+    let files = match facts.files {
+        None => NO_FILES,
+        Some(FileFormat::Flat) => FLAT_FILES,
+        Some(FileFormat::Tree) => TREE,
+    };
     writeln!(output, "blocks {}\nlog {form}\nfiles {files}", facts.blocks)?;
     match facts.label {
         Some(label) => writeln!(output, "label yes\nregions {}", RegionWords(label.told())),
@@ -155,7 +165,7 @@ pub fn check<'w, R: Files<File = File>, O: Write, E: Write>(
     faults: &mut E,
 ) -> Result<(), Fault<'w>> {
     let facts = open_to_read(rt, alloc, path, faults)?.facts;
-    let more = if facts.has_files { UNCHECKED } else { "" };
+    let more = if facts.files.is_some() { UNCHECKED } else { "" };
     print_line(output, WELL_FORMED, more)
 }
 

@@ -3,6 +3,7 @@ ghost use Rattle.std.specs.Prelude.{◌≡◌, IfSome};
 ghost use Rattle.journal_program.specs.Labels.{IsLabel};
 
 use journal_commands::{Fault, RegionWords, Regions, label_of, regions_of_files, told};
+use journal_form::FileFormat;
 use journal_program::{
     DeviceFault, DiskFacts, DiskToLabel, Label, LabelFault, OpenFault, Zeros, find_disk_to_label,
 };
@@ -143,7 +144,7 @@ fn find_to_grow<'w, R: Files<File = File>>(
             why: LabelFault::Bad,
         });
     }
-    if found.facts.has_files {
+    if found.facts.files.is_some() {
         return Err(Fault::CannotGrow { path });
     }
     Ok(found)
@@ -162,13 +163,19 @@ fn grown_label(facts: &DiskFacts, blocks: u64) -> Option<Label>
     Label::new(blocks, regions?)
 }
 
-// Refuses a label by which a disk of the file service would have other objects.
+// Refuses a label by which a disk of the file service would have other objects. This program does
+// not read how a tree is cut, so a tree keeps the regions of its label.
 fn refuse_other_files<'w>(
     path: &'w str,
     facts: &DiskFacts,
     label: &Label,
 ) -> Result<(), Fault<'w>> {
-    if facts.has_files && label.told() != regions_of_files(facts.blocks) {
+    let regions = match facts.files {
+        None => return Ok(()),
+        Some(FileFormat::Flat) => regions_of_files(facts.blocks),
+        Some(FileFormat::Tree) => told(facts),
+    };
+    if label.told() != regions {
         return Err(Fault::HasFiles { path });
     }
     Ok(())

@@ -149,7 +149,7 @@ fn open_alone<'w, R: Files<File = File> + RandomSource>(
     service: Service<'w>,
 ) -> Result<LaidOut, Fault<'w>> {
     let found = find(rt, alloc, service.path)?;
-    if found.facts.has_files {
+    if found.facts.files.is_some() {
         return Err(Fault::HasFiles { path: service.path });
     }
     let layout = lay_out(&found.facts, service)?;

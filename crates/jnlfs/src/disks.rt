@@ -118,7 +118,7 @@ pub fn share<'w, R: Files<File = File>>(
 
 // Refuses a disk that is none of files, by its block 513 or by its label.
 fn want_files<'w>(path: &'w str, facts: &DiskFacts) -> Result<(), Fault<'w>> {
-    if !facts.has_files {
+    if facts.files.is_none() {
         return Err(Fault::HasNoFiles { path });
     }
     refuse_other_regions(path, facts)

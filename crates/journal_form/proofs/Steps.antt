@@ -1,5 +1,5 @@
 -- What the steps that bring a log home leave of its blocks.
-use Rattle.std.proofs.Common.{◌≡◌, ◌≢◌, ◌↔◌, ⊎_elim, ◌<◌, ◌≤◌, ◌+◌, ◌-◌, ◌==◌, ℕ, Bool, true, false, cond, List, take, Some, refl, sym, ap, subst, ◌∙◌, arith, slice_get, IsTrue}
+use Rattle.std.proofs.Common.{◌≡◌, ◌≢◌, ⊎_elim, ◌<◌, ◌≤◌, ◌+◌, ◌-◌, ◌==◌, ℕ, Bool, true, false, cond, List, take, Option, Some, refl, sym, ap, subst, ◌∙◌, arith, slice_get, IsTrue}
 use Rattle.std.proofs.lemmas.Bool.{eq-eqb, eqb-true, cond-true, cond-false}
 use Rattle.journal_block.specs.declared.update.Update.{Update}
 use Rattle.journal_block.specs.Block.{Bytes}
@@ -12,8 +12,8 @@ use Rattle.journal_circ.specs.StandsFor.{StandsFor}
 use Rattle.journal_circ.specs.Ring.{Ring, log_of, home_of, blocks_to, StandsForEither, SameHomeBut, IsLogged, IsInstalled, KeepsLog, Crashes, IsHomeAndLabel, ChangesForm}
 use Rattle.journal_circ.specs.Log.{updates_from, label_of, HasLabel}
 use Rattle.journal_form.specs.Forms.{HoldsThroughout, HoldsLabelThroughout}
-use Rattle.journal_form.specs.Inspections.{TellsFiles}
-use Rattle.journal_form.specs.declared.inspecting.TheConstants.{FILES_MAGIC}
+use Rattle.journal_form.specs.Inspections.{HasFormat, TellsFiles}
+use Rattle.journal_form.specs.declared.inspecting.FileFormat.{FileFormat}
 use Rattle.journal_form.specs.Emptying.{Rests, IsLogAndLabel, StaysThroughout, HasHomesTo, BringsUpdate, BringsHome, IsEmptied}
 use Rattle.journal_form.proofs.Moments.{leaves_then}
 use Rattle.journal_form.proofs.Updating.{updated_again, updated_more, named_at}
@@ -265,9 +265,9 @@ pub keeps_by : (p new : Past) (r : Ring) → r.disk.past ≡ p → r.label ≡ l
 keeps_by p new r past label stays = subst (λ (q : Past). LeavesOnly q new (HasLabel (label_of (read_of p 1)))) past
     (leaves_also r.disk.past new _ _ stays (λ image both. both.1 ∙ label))
 
--- what each image stands for tells whether the first home block begins with the format's name
-pub tells : (p : Past) (f : Content) (has_files : Bool) → 513 < p.size → EveryImage p (StandsFor p.size f)
-    → IsTrue has_files ↔ (take 8 (f 513) ≡ FILES_MAGIC) → TellsFiles p has_files
-tells p f has_files lt stands told blocks all =
-    subst (λ (first : Bytes). IsTrue has_files ↔ (take 8 first ≡ FILES_MAGIC))
+-- what each image stands for tells the format of the first home block
+pub tells : (p : Past) (f : Content) (files : Option FileFormat) → 513 < p.size → EveryImage p (StandsFor p.size f)
+    → HasFormat (f 513) files → TellsFiles p files
+tells p f files lt stands told blocks all =
+    subst (λ (first : Bytes). HasFormat first files)
     (sym ((stands (reading p) (reading_is_image p)).each 513 (omega arith) lt) ∙ (all (reading p) (reading_is_image p)).each 513 (omega arith) lt) told

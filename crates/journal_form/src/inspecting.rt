@@ -1,5 +1,5 @@
-// The form of a disk's log, and the format of its first home block.
-ghost use Rattle.std.specs.Prelude.{◌≡◌, ◌≤◌, ◌↔◌, take, IsTrue, IfOk, IfErr, MatchResult};
+// The form of a disk's log, and the format of its files, as its first home block tells it.
+ghost use Rattle.std.specs.Prelude.{◌≡◌, ◌≤◌, IsTrue, IfOk, IfErr, MatchResult};
 ghost use Rattle.journal_world.specs.declared.layout.TheConstants.{MIN_BLOCKS};
 ghost use Rattle.journal_block.specs.Updates.{Content};
 ghost use Rattle.journal_disk.specs.Disks.{Keeps, IsSettled, read_of};
@@ -7,7 +7,7 @@ ghost use Rattle.journal_disk.specs.Images.{EveryImage};
 ghost use Rattle.journal_circ.specs.StandsFor.{StandsFor};
 ghost use Rattle.journal_circ.specs.Ring.{IsOpenRefusal};
 ghost use Rattle.journal_form.specs.Forms.{form_of};
-ghost use Rattle.journal_form.specs.Inspections.{TellsFiles};
+ghost use Rattle.journal_form.specs.Inspections.{HasFormat, TellsFiles};
 
 use crate::form::LogForm;
 use journal_block::Block;
@@ -16,9 +16,24 @@ use journal_wal::Wal;
 use journal_world::{FIRST_HOME, Refusal, Refused};
 use std::alloc::Global;
 
-/// The first bytes of the first home block of a disk of the file service, in each version of its
-/// format.
+/// The first bytes of the first home block of a disk of files, in each version of its format.
 pub const FILES_MAGIC: [u8; 8] = *b"GJNLDSK1";
+
+/// The next bytes of that block where the files are a tree: the number 3 of the version,
+/// little-endian.
+pub const TREE_VERSION: [u8; 8] = [3, 0, 0, 0, 0, 0, 0, 0];
+
+// The byte of the version.
+const VERSION_AT: usize = 8;
+
+/// The format of the files of a disk.
+#[derive(Clone, Copy, Debug, PartialEq, Eq)]
+pub enum FileFormat {
+    /// Files of fixed names in one directory: version 1 or 2, or another that no program knows.
+    Flat,
+    /// A tree of directories and files: version 3.
+    Tree,
+}
 
 /// A disk, and the facts that its blocks show.
 #[derive(Drop)]
@@ -27,14 +42,14 @@ pub struct Inspected<D> {
     pub disk: D,
     /// The form of its log.
     pub form: LogForm,
-    /// True if it is a disk of the file service: its first home block begins with the format's
-    /// name.
-    pub has_files: bool,
+    /// The format of its files, or `None` where it is no disk of files: its first home block does
+    /// not begin with the name of the formats.
+    pub files: Option<FileFormat>,
 }
 
-/// Reads the form of the log of a disk on which nothing is pending, and whether it is a disk of the
-/// file service. The first home block is read with the updates that the log has of it. Nothing is
-/// written.
+/// Reads the form of the log of a disk on which nothing is pending, and the format of its files, if
+/// it is a disk of files. The first home block is read with the updates that the log has of it.
+/// Nothing is written.
 ///
 /// # Errors
 /// A refusal gives the disk back, and nothing was written.
@@ -52,7 +67,7 @@ pub fn inspect<D: BlockDisk>(alloc: Global, disk: D) -> Result<Inspected<D>, Ref
         (λ told. (D.state told.disk).past ≡ (D.state disk).past)
         (λ refused. (D.state refused.disk).past ≡ (D.state disk).past) }
     ensures form { IsTrue (D.state disk).honest → IfOk result (λ told. told.form ≡ form_of (read_of (D.state disk).past 0)) }
-    ensures files { IsTrue (D.state disk).honest → IfOk result (λ told. TellsFiles (D.state disk).past told.has_files) }
+    ensures files { IsTrue (D.state disk).honest → IfOk result (λ told. TellsFiles (D.state disk).past told.files) }
 {
     let Ok(mut first) = Block::try_new::<()>(alloc) else {
         return Err(Refused {
@@ -66,7 +81,7 @@ pub fn inspect<D: BlockDisk>(alloc: Global, disk: D) -> Result<Inspected<D>, Ref
         Ok(()) => Ok(Inspected {
             disk: wal.into_disk(),
             form,
-            has_files: begins_with_magic(&first),
+            files: format_of(&first),
         }),
         Err(refusal) => Err(Refused {
             refusal,
@@ -75,9 +90,17 @@ pub fn inspect<D: BlockDisk>(alloc: Global, disk: D) -> Result<Inspected<D>, Ref
     }
 }
 
-// True if a block begins as that of a disk of the file service.
-fn begins_with_magic(block: &Block) -> bool
-    ensures { IsTrue result ↔ (take 8 block.now ≡ FILES_MAGIC) }
+// The format of the files of a disk whose first home block this is.
+fn format_of(block: &Block) -> Option<FileFormat>
+    ensures { HasFormat block.now result }
 {
-    block.as_bytes().starts_with(&FILES_MAGIC)
+    let bytes = block.as_bytes();
+    if !bytes.starts_with(&FILES_MAGIC) {
+        return None;
+    }
+    if bytes[VERSION_AT..].starts_with(&TREE_VERSION) {
+        Some(FileFormat::Tree)
+    } else {
+        Some(FileFormat::Flat)
+    }
 }

@@ -1,7 +1,8 @@
 // The facts that the blocks of a disk in a file have.
-ghost use Rattle.std.specs.Prelude.{◌≡◌, ◌≤◌, IsTrue, IfOk};
+ghost use Rattle.std.specs.Prelude.{◌≡◌, ◌≢◌, ◌≤◌, Some, IfOk};
 ghost use Rattle.std.specs.Option.{ForSome};
 ghost use Rattle.journal_world.specs.declared.layout.TheConstants.{MIN_BLOCKS, MAX_BLOCKS, MAX_LAYOUT_BLOCKS};
+ghost use Rattle.journal_form.specs.declared.inspecting.FileFormat.TheVariants.{Flat};
 ghost use Rattle.journal_program.specs.Labels.{IsLabel};
 
 use crate::disk::SizedDisk;
@@ -9,7 +10,7 @@ use crate::fault::{LabelFault, OpenFault};
 use crate::label::{Label, is_disk_size};
 use crate::labeling::read_label;
 use journal_disk::{BlockDisk, FileDisk};
-use journal_form::{Inspected, LogForm, inspect};
+use journal_form::{FileFormat, Inspected, LogForm, inspect};
 use journal_world::{MAX_BLOCKS, Refused};
 use std::alloc::Global;
 use std::fs::{File, OpenFile};
@@ -24,9 +25,9 @@ pub struct DiskFacts {
     pub label: Option<Label>,
     /// The form of its log.
     pub form: LogForm,
-    /// Whether it is a disk of the file service. One of more than 33299 blocks is none, whatever
-    /// its blocks have.
-    pub has_files: bool,
+    /// The format of its files, where it is a disk of files. One of more than 33299 blocks has no
+    /// flat files, whatever its blocks have.
+    pub files: Option<FileFormat>,
     pub ghost in_range: { (MIN_BLOCKS ≤ blocks) × (blocks ≤ MAX_LAYOUT_BLOCKS) },
     pub ghost labeled: { ForSome label IsLabel },
 }
@@ -47,7 +48,7 @@ pub(crate) struct InspectedDisk {
 /// of blocks that no disk has; J1 `NoMemory` where memory is refused, J6 `DeviceFailed` where the
 /// device fails, and J7 `BadLog` where the log is not well formed.
 pub(crate) fn inspect_file(alloc: Global, file: File) -> Result<InspectedDisk, OpenFault>
-    ensures files { IfOk result (λ found. IsTrue found.facts.has_files → found.facts.blocks ≤ MAX_BLOCKS) }
+    ensures files { IfOk result (λ found. found.facts.files ≡ Some Flat → found.facts.blocks ≤ MAX_BLOCKS) }
     ensures label { IfOk result (λ found. ForSome found.facts.label (λ label. label.blocks ≡ found.facts.blocks)) }
 {
     let in_file = blocks_in(&file)?;
@@ -63,28 +64,34 @@ pub(crate) fn inspect_labeled(
     in_file: u64,
 ) -> Result<InspectedDisk, OpenFault>
     requires { ForSome label IsLabel }
-    ensures files { IfOk result (λ found. IsTrue found.facts.has_files → found.facts.blocks ≤ MAX_BLOCKS) }
+    ensures files { IfOk result (λ found. found.facts.files ≡ Some Flat → found.facts.blocks ≤ MAX_BLOCKS) }
     ensures label { IfOk result (λ found. ForSome found.facts.label (λ label. label.blocks ≡ found.facts.blocks)) }
 {
     let blocks = blocks_by(label, in_file)?;
     let disk = SizedDisk::over(alloc, file, blocks)?;
     match inspect(alloc, disk.holding_log(alloc)) {
-        Ok(
-            Inspected {
-                disk,
-                form,
-                has_files,
-            },
-        ) => Ok(InspectedDisk {
+        Ok(Inspected { disk, form, files }) => Ok(InspectedDisk {
             facts: DiskFacts {
                 blocks,
                 label,
                 form,
-                has_files: has_files && blocks <= MAX_BLOCKS,
+                files: files_in(files, blocks),
             },
             disk,
         }),
         Err(Refused { refusal, .. }) => Err(OpenFault::Refused(refusal)),
+    }
+}
+
+// The format of the files of a disk of so many blocks, of which its first home block tells this
+// one.
+fn files_in(told: Option<FileFormat>, blocks: u64) -> Option<FileFormat>
+    ensures flat { result ≡ Some Flat → blocks ≤ MAX_BLOCKS }
+    ensures other { told ≢ Some Flat → result ≡ told }
+{
+    match told {
+        Some(FileFormat::Flat) if blocks > MAX_BLOCKS => None,
+        other => other,
     }
 }
 

@@ -6,7 +6,7 @@ ghost use Rattle.journal_program.specs.Labels.{IsLabel};
 use crate::clock;
 use crate::fault::ServiceFault;
 use journal_disk::BlockDisk;
-use journal_form::{LogForm, change_form};
+use journal_form::{FileFormat, LogForm, change_form};
 use journal_inode::FormatVersion;
 use journal_program::{
     FoundDisk, Label, Room, Settled, SizedDisk, create_disk, create_labeled_disk, find_disk,
@@ -95,14 +95,14 @@ fn format_sealed(alloc: Global, disk: SizedDisk, moment: Moment) -> Result<(), S
 /// is open. Nothing of it is pending.
 ///
 /// Refused, with no byte changed, as `find_disk` is, but by J8 `BadSuper` where no disk has so many
-/// blocks; and by J8 where it is none of the file service.
+/// blocks; and by J8 where it has no flat files.
 pub(crate) fn open<R: Files<File = File>>(
     rt: &R,
     alloc: Global,
     path: &str,
 ) -> Result<Settled, ServiceFault> {
     match find_disk(rt, alloc, path) {
-        Ok(found) if found.facts.has_files => settle(alloc, found),
+        Ok(found) if found.facts.files == Some(FileFormat::Flat) => settle(alloc, found),
         Ok(_) => Err(ServiceFault::Refused(Refusal::BadSuper)),
         Err(why) => Err(ServiceFault::unopened(why)),
     }

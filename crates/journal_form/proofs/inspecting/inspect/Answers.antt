@@ -1,10 +1,10 @@
-use Rattle.std.proofs.Common.{◌≡◌, ◌<◌, ◌↔◌, ◌∙◌, take, subst, arith, IsTrue}
+use Rattle.std.proofs.Common.{◌≡◌, ◌<◌, ◌∙◌, subst, arith, IsTrue}
 use Rattle.journal_block.specs.Block.{Bytes}
 use Rattle.journal_disk.specs.Disks.{Past}
 use Rattle.journal_disk.specs.Images.{EveryImage}
 use Rattle.journal_circ.specs.StandsFor.{StandsFor}
 use Rattle.journal_wal.specs.Wal.{blocks_now}
-use Rattle.journal_form.specs.declared.inspecting.TheConstants.{FILES_MAGIC}
+use Rattle.journal_form.specs.Inspections.{HasFormat}
 use Rattle.journal_form.proofs.Steps.{tells}
 use Rattle.journal_form.proofs.inspecting.inspect.Goals as goal
 
@@ -14,6 +14,6 @@ returns-in-Ok-read-clause-files g c honest =
     let wal = c.in_ok-wal.wal in
     let large : 513 < p.size = omega (arith, c.requires.in_range) in
     let was : IsTrue wal.ring.disk.honest = c.in_ok-wal.ensures.keeps.honest ∙ honest in
-    tells p (blocks_now wal) c.begins_with_magic.result large
+    tells p (blocks_now wal) c.format_of.result large
     (subst (λ (q : Past). EveryImage q (StandsFor q.size (blocks_now wal))) (c.in_ok-wal.ensures.same honest) (c.in_ok-wal.ensures.images honest))
-    (subst (λ (first : Bytes). IsTrue c.begins_with_magic.result ↔ (take 8 first ≡ FILES_MAGIC)) (c.in-Ok-read.ensures.value was) c.begins_with_magic.ensures)
+    (subst (λ (first : Bytes). HasFormat first c.format_of.result) (c.in-Ok-read.ensures.value was) c.format_of.ensures)
