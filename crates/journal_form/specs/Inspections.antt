@@ -12,7 +12,7 @@ use Rattle.journal_form.specs.declared.inspecting.TheConstants.{FILES_MAGIC, TRE
 
 -- The block has the format: it begins with the name of the formats where there are files, and the
 -- next bytes are the version of a tree exactly where the files are one
-pub HasFormat : Bytes → Option FileFormat → Type 0
+abbrev pub HasFormat : Bytes → Option FileFormat → Type 0
 HasFormat block None = take 8 block ≢ FILES_MAGIC
 HasFormat block (Some Flat) = (take 8 block ≡ FILES_MAGIC) × (take 8 (drop 8 block) ≢ TREE_VERSION)
 HasFormat block (Some Tree) = (take 8 block ≡ FILES_MAGIC) × (take 8 (drop 8 block) ≡ TREE_VERSION)

@@ -1,5 +1,5 @@
 // The form of a disk's log, and the format of its files, as its first home block tells it.
-ghost use Rattle.std.specs.Prelude.{◌≡◌, ◌≤◌, IsTrue, IfOk, IfErr, MatchResult};
+ghost use Rattle.std.specs.Prelude.{◌≡◌, ◌≤◌, ◌↔◌, take, drop, IsTrue, IfOk, IfErr, MatchResult};
 ghost use Rattle.journal_world.specs.declared.layout.TheConstants.{MIN_BLOCKS};
 ghost use Rattle.journal_block.specs.Updates.{Content};
 ghost use Rattle.journal_disk.specs.Disks.{Keeps, IsSettled, read_of};
@@ -94,13 +94,34 @@ pub fn inspect<D: BlockDisk>(alloc: Global, disk: D) -> Result<Inspected<D>, Ref
 fn format_of(block: &Block) -> Option<FileFormat>
     ensures { HasFormat block.now result }
 {
-    let bytes = block.as_bytes();
-    if !bytes.starts_with(&FILES_MAGIC) {
+    if !has_name(block) {
         return None;
     }
-    if bytes[VERSION_AT..].starts_with(&TREE_VERSION) {
+    if has_tree_version(block) {
         Some(FileFormat::Tree)
     } else {
         Some(FileFormat::Flat)
     }
+}
+
+// True if a block begins with the name of the formats.
+fn has_name(block: &Block) -> bool
+    ensures { IsTrue result ↔ (take 8 block.now ≡ FILES_MAGIC) }
+{
+    block.as_bytes().starts_with(&FILES_MAGIC)
+}
+
+// True if the version of a tree lies behind the name.
+fn has_tree_version(block: &Block) -> bool
+    ensures { IsTrue result ↔ (take 8 (drop 8 block.now) ≡ TREE_VERSION) }
+{
+    let rest = &block.as_bytes()[VERSION_AT..];
+    is_tree_version(rest)
+}
+
+// True if bytes begin with the version of a tree.
+fn is_tree_version(bytes: &[u8]) -> bool
+    ensures { IsTrue result ↔ (take 8 bytes.now ≡ TREE_VERSION) }
+{
+    bytes.starts_with(&TREE_VERSION)
 }
