@@ -1,0 +1,3 @@
+pub mod ArgumentLaws
+pub mod Calling
+pub mod Short

@@ -1,0 +1,5 @@
+pub mod Procedures
+pub mod Arguments
+pub mod Requests
+pub mod Mounts
+pub mod Outcomes
