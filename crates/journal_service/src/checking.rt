@@ -2,10 +2,9 @@
 ghost use Rattle.std.specs.Prelude.{◌≡◌};
 ghost use Rattle.journal_world.specs.Files.{files};
 
-use crate::fault::ServiceFault;
 use crate::mounting::{Tried, mount, slot_cell};
-use crate::printing::print_line;
 use crate::serving::close;
+use journal_clients::{ServiceFault, begin_session, print_line};
 use journal_filestore::{Fault, FileStore, Handle};
 use journal_history::{Book, Naming, Session};
 use journal_inode::{INODES, SoundFiles, Version, VersionOne, VersionTwo};
@@ -101,10 +100,7 @@ fn count<'b, J: Naming, V: Version, W: Wait>(
     rt: &W,
     files: &FileStore<'b, SizedDisk, J, V>,
 ) -> Result<u64, ServiceFault> {
-    let mut session = match files.journal().session(rt) {
-        Ok(session) => session,
-        Err(why) => return Err(ServiceFault::refused(why)),
-    };
+    let mut session = begin_session(rt, files.journal())?;
     let mut found: u64 = 0;
     for number in ROOT + 1..INODES {
         if is_file(rt, files, &mut session, number)? {

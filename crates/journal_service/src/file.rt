@@ -3,8 +3,7 @@ ghost use Rattle.std.specs.Prelude.{◌≤◌};
 ghost use Rattle.journal_world.specs.declared.layout.TheConstants.{MIN_BLOCKS, MAX_BLOCKS};
 ghost use Rattle.journal_program.specs.Labels.{IsLabel};
 
-use crate::clock;
-use crate::fault::ServiceFault;
+use journal_clients::{ServiceFault, now};
 use journal_disk::BlockDisk;
 use journal_form::{FileFormat, LogForm, change_form};
 use journal_inode::FormatVersion;
@@ -38,7 +37,7 @@ pub fn format<R: Files<File = File> + Clock>(
         Ok(disk) => disk,
         Err(why) => return Err(ServiceFault::File(why)),
     };
-    match journal_inode::format(alloc, disk, clock::now(rt), FormatVersion::Two) {
+    match journal_inode::format(alloc, disk, now(rt), FormatVersion::Two) {
         Ok(_) => Ok(()),
         Err(Refused { refusal, .. }) => Err(ServiceFault::refused(refusal)),
     }
@@ -66,7 +65,7 @@ pub fn make<R: Files<File = File> + Clock>(
         Ok(disk) => disk,
         Err(why) => return Err(ServiceFault::unopened(why)),
     };
-    let made = format_sealed(alloc, disk, clock::now(rt));
+    let made = format_sealed(alloc, disk, now(rt));
     if made.is_err() {
         // The first fault is answered, whether this succeeds or not.
         let _ = fs::remove_file(rt, path);

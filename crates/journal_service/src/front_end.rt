@@ -1,19 +1,17 @@
 // The front ends of a service of files.
 
-use crate::clients::{Plan, serve_by_pool};
-use crate::fault::ServiceFault;
-use crate::printing::print_line;
 use crate::workers::{FourWorkers, serve_by_workers};
+use journal_clients::{Plan, ServiceFault, Visits, serve_by_pool};
 use journal_disk::BlockDisk;
 use journal_filestore::FileStore;
 use journal_history::Naming;
 use journal_inode::Version;
 use journal_nfs3::Verifier;
-use journal_server::{FileProtocol, Programs};
+use journal_server::{FileProtocol, FilesOf, Programs};
 use journal_world::Layout;
 use std::alloc::Global;
 use std::io::Write;
-use std::net::{Ipv4Addr, Net, TcpListener, TcpStream};
+use std::net::{Net, TcpListener, TcpStream};
 use std::sync::Wait;
 use std::thread::Threads;
 use std::time::Clock;
@@ -71,62 +69,15 @@ pub(crate) fn serve_files<
     match front {
         FrontEnd::Pool(plan) => {
             let programs = P::on(mount.layout, mount.verifier);
-            serve_by_pool(rt, alloc, plan, files, &programs, output)
+            let protocol = FilesOf {
+                files,
+                protocol: &programs,
+            };
+            let visits = Visits::new(alloc, files.journal(), &protocol);
+            serve_by_pool(rt, alloc, plan, files.journal(), &visits, output)
         }
         FrontEnd::Workers(workers) => {
             serve_by_workers(rt, alloc, workers, files, mount.verifier, output)
         }
-    }
-}
-
-/// Listens at a port, or at one that is free for 0.
-///
-/// # Errors
-/// - `CannotListen`: the address or the port is not to be had.
-pub(crate) fn listen_at<R: Net<Listener = TcpListener, Stream = TcpStream>>(
-    rt: &R,
-    address: Ipv4Addr,
-    port: u16,
-) -> Result<TcpListener, ServiceFault> {
-    match TcpListener::bind(rt, (address, port)) {
-        Ok(listener) => Ok(listener),
-        Err(_) => Err(ServiceFault::CannotListen),
-    }
-}
-
-/// The port of a listener.
-///
-/// # Errors
-/// - `CannotListen`: the system does not tell it.
-pub(crate) fn port_of(listener: &TcpListener) -> Result<u16, ServiceFault> {
-    match listener.local_addr() {
-        Ok(there) => Ok(there.port()),
-        Err(_) => Err(ServiceFault::CannotListen),
-    }
-}
-
-/// Prints the port, before the first connection is accepted.
-///
-/// # Errors
-/// - `CannotWrite`: the output failed.
-pub(crate) fn tell_port<O: Write>(port: u16, output: &mut O) -> Result<(), ServiceFault> {
-    print_line(output, "listening", u64::from(port))
-}
-
-/// Waits until all commits are stable.
-///
-/// # Errors
-/// - `Refused`: the session or the wait was refused.
-pub(crate) fn flush<'b, D: BlockDisk, J: Naming, V: Version, W: Wait>(
-    rt: &W,
-    files: &FileStore<'b, D, J, V>,
-) -> Result<(), ServiceFault> {
-    let mut session = match files.journal().session(rt) {
-        Ok(session) => session,
-        Err(why) => return Err(ServiceFault::refused(why)),
-    };
-    match files.journal().flush(rt, &mut session) {
-        Ok(_) => Ok(()),
-        Err(why) => Err(ServiceFault::refused(why)),
     }
 }

@@ -18,25 +18,15 @@
 #![tactic(auto)]
 
 mod checking;
-mod clients;
-mod clock;
-mod control;
-mod fault;
 mod file;
 mod front_end;
 mod migrating;
-mod mirrored;
 mod mounting;
-mod printing;
 mod serving;
-mod visits;
 mod workers;
 
 pub use checking::{check, check_disk};
-pub use clients::Endpoint;
-pub use control::{Control, FAILED, STOP, STOPPED};
-pub use fault::ServiceFault;
 pub use file::{format, make};
+pub use journal_clients::{Control, Endpoint, FAILED, Reads, STOP, STOPPED, ServiceFault};
 pub use migrating::{migrate, migrate_disk};
-pub use mirrored::Reads;
 pub use serving::{Service, export, export_to_read, serve};

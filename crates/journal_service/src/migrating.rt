@@ -2,10 +2,9 @@
 ghost use Rattle.std.specs.Prelude.{◌≡◌};
 ghost use Rattle.journal_world.specs.Files.{files};
 
-use crate::fault::ServiceFault;
 use crate::file;
 use crate::mounting::slot_cell;
-use crate::printing::give_up;
+use journal_clients::{ServiceFault, give_up};
 use journal_history::{Book, Naming};
 use journal_inode::FormatVersion;
 use journal_lockmap::SlotCell;

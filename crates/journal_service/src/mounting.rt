@@ -3,12 +3,13 @@ ghost use Rattle.std.specs.Prelude.{◌≡◌, IsTrue};
 ghost use Rattle.journal_world.specs.Files.{files};
 ghost use Rattle.journal_disk.specs.Disks.{IsSettled};
 
-use crate::fault::ServiceFault;
+use journal_clients::ServiceFault;
 use journal_disk::BlockDisk;
 use journal_filestore::FileStore;
 use journal_history::{Book, Naming};
 use journal_inode::{SoundFiles, Version};
 use journal_lockmap::SlotCell;
+use journal_mirror::Mirror;
 use journal_program::{Settled, SizedDisk};
 use journal_world::{Refusal, Refused};
 use std::alloc::Global;
@@ -32,6 +33,14 @@ impl<T: Drop, D: BlockDisk + Drop> Tried<T, D> {
             Tried::Sound(value) => Ok(value),
             Tried::Other(_) => Err(ServiceFault::Refused(Refusal::BadSuper)),
         }
+    }
+}
+
+/// The outcome of a mount of a disk that is in memory no more.
+pub(crate) fn unmirrored(tried: Tried<Mirror<SizedDisk>, Mirror<SizedDisk>>) -> Tried<SizedDisk> {
+    match tried {
+        Tried::Sound(mirror) => Tried::Sound(mirror.into_disk()),
+        Tried::Other(settled) => Tried::Other(Settled::unwritten(settled.disk().into_disk())),
     }
 }
 

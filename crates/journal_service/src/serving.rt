@@ -3,22 +3,21 @@ ghost use Rattle.std.specs.Prelude.{◌≡◌, IsTrue};
 ghost use Rattle.journal_world.specs.Files.{files};
 ghost use Rattle.journal_disk.specs.Disks.{IsSettled};
 
-use crate::clients::{Access, Endpoint, Plan};
-use crate::clock::verifier_of;
-use crate::control::Control;
-use crate::fault::ServiceFault;
+use crate::file;
 use crate::front_end::{FrontEnd, Mount, serve_files};
-use crate::mirrored::{Explained, Reads, mirror, unmirrored};
-use crate::mounting::{Tried, mount, slot_cell};
-use crate::printing::give_up;
+use crate::mounting::{Tried, mount, slot_cell, unmirrored};
 use crate::workers::FourWorkers;
-use crate::{clock, file};
+use journal_clients::{
+    Access, Control, Endpoint, Explained, Plan, Reads, ServiceFault, begin_session, ended, give_up,
+    mirror, moment_of_mount, verifier_of,
+};
 use journal_disk::BlockDisk;
 use journal_filestore::FileStore;
 use journal_history::{Book, Naming};
 use journal_inode::{SoundFiles, Version, VersionOne, VersionTwo};
 use journal_lockmap::SlotCell;
 use journal_mirror::Mirror;
+use journal_nfs3::Verifier;
 use journal_program::{Settled, SharedDisk, SizedDisk};
 use journal_server::{FileProtocol, NineProcedures, Programs};
 use journal_world::{Layout, Refusal, Refused};
@@ -261,27 +260,12 @@ fn serve_mounted<
     };
     let mount = Mount {
         layout,
-        verifier: verifier_of(clock::moment_of_mount(rt, faults)),
+        verifier: Verifier(verifier_of(moment_of_mount(rt, faults))),
     };
     let served = serve_files::<P, D, J, V, R, O>(rt, alloc, front, &files, mount, output);
     let closed = close(rt, files);
-    match (served, closed) {
-        (Err(fault), Ok(disk)) => Err(fault.or_of_device(disk)),
-        (Err(fault), Err(_)) => Err(fault),
-        (Ok(()), closed) => Ok(Tried::Sound(unless_failed(closed?, front.ends_by_device())?)),
-    }
-}
-
-// The disk, unless a call of it failed and the service ends by that.
-fn unless_failed<D: BlockDisk + Explained>(
-    disk: D,
-    ends_by_device: bool,
-) -> Result<D, ServiceFault> {
-    if ends_by_device && disk.failures() > 0 {
-        Err(ServiceFault::Refused(Refusal::DeviceFailed(())).or_of_device(disk))
-    } else {
-        Ok(disk)
-    }
+    let disk = ended(served, closed, front.ends_by_device())?;
+    Ok(Tried::Sound(disk))
 }
 
 /// Gives the disk up.
@@ -289,10 +273,7 @@ pub(crate) fn close<'b, D: BlockDisk + Drop, J: Naming, V: Version, W: Wait>(
     rt: &W,
     files: FileStore<'b, D, J, V>,
 ) -> Result<D, ServiceFault> {
-    let mut session = match files.journal().session(rt) {
-        Ok(session) => session,
-        Err(why) => return Err(ServiceFault::refused(why)),
-    };
+    let mut session = begin_session(rt, files.journal())?;
     match files.close(&mut session) {
         Ok(disk) => Ok(disk),
         Err(Refused { refusal, .. }) => Err(ServiceFault::refused(refusal)),

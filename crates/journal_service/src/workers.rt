@@ -1,8 +1,6 @@
 // Four workers that serve as many connections as are asked for.
 
-use crate::clock::WallClock;
-use crate::fault::ServiceFault;
-use crate::front_end::{flush, listen_at, port_of, tell_port};
+use journal_clients::{ServiceFault, WallClock, flush, listen_at, port_of, tell_port};
 use journal_disk::BlockDisk;
 use journal_filestore::FileStore;
 use journal_gate::OpenGate;
@@ -62,7 +60,7 @@ pub(crate) fn serve_by_workers<
             } else {
                 Err(ServiceFault::Refused(Refusal::NoMemory))
             };
-            let flushed = flush(rt, files);
+            let flushed = flush(rt, files.journal());
             files.journal().stop(rt);
             served?;
             flushed

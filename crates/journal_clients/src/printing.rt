@@ -5,11 +5,7 @@ use journal_program::Settled;
 use std::io::Write;
 
 /// Prints a line for whoever waits for it.
-pub(crate) fn print_line<O: Write>(
-    output: &mut O,
-    word: &str,
-    number: u64,
-) -> Result<(), ServiceFault> {
+pub fn print_line<O: Write>(output: &mut O, word: &str, number: u64) -> Result<(), ServiceFault> {
     match writeln!(output, "{word} {number}").and_then(|()| output.flush()) {
         Ok(()) => Ok(()),
         Err(_) => Err(ServiceFault::CannotWrite),
@@ -17,7 +13,7 @@ pub(crate) fn print_line<O: Write>(
 }
 
 /// Gives the disk up, and prints a line. Whoever reads it may use the file at once.
-pub(crate) fn give_up<O: Write>(
+pub fn give_up<O: Write>(
     disk: Settled,
     output: &mut O,
     word: &str,

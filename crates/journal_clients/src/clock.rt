@@ -1,8 +1,7 @@
-// The system's clock, as moments of files.
+// The system's clock, as moments.
 ghost use Rattle.std.specs.Prelude.{◌≡◌, ◌++◌};
 ghost use Rattle.std.specs.Int.{w32, to_be_bytes};
 
-use journal_nfs3::Verifier;
 use journal_world::Moment;
 use std::io::Write;
 use std::time::{Clock, SystemTime, UNIX_EPOCH};
@@ -19,7 +18,7 @@ impl<'r, R: Clock> Drop for WallClock<'r, R> {
     }
 }
 
-impl<'r, R: Clock> journal_server::Clock for WallClock<'r, R> {
+impl<'r, R: Clock> journal_protocol::Clock for WallClock<'r, R> {
     fn now(&self) -> Moment {
         now(self.0)
     }
@@ -55,10 +54,10 @@ fn read<R: Clock>(rt: &R) -> Option<Moment> {
 
 /// The verifier of a mount at this moment: its seconds and its nanoseconds, each with the most
 /// significant byte first.
-pub fn verifier_of(moment: Moment) -> Verifier
-    ensures { result.0 ≡ to_be_bytes w32 moment.secs ++ to_be_bytes w32 moment.nanos }
+pub fn verifier_of(moment: Moment) -> [u8; 8]
+    ensures { result ≡ to_be_bytes w32 moment.secs ++ to_be_bytes w32 moment.nanos }
 {
     let [a, b, c, d] = moment.secs.to_be_bytes();
     let [e, f, g, h] = moment.nanos.to_be_bytes();
-    Verifier([a, b, c, d, e, f, g, h])
+    [a, b, c, d, e, f, g, h]
 }

@@ -1,66 +1,64 @@
-// The files of a store, for the connections of a pool.
+// A protocol over a journal, for the connections of a pool.
 
 use crate::clock::WallClock;
 use journal_connections::{Incoming, Outgoing, Peer, Service, Turned};
 use journal_disk::BlockDisk;
-use journal_filestore::FileStore;
 use journal_gate::OpenGate;
 use journal_history::{Naming, Session};
-use journal_inode::{SoundFiles, Version};
 use journal_protocol::{Answerer, Pace, Progress, Protocol, serve_to_pause};
-use journal_server::{FileProtocol, FilesOf};
+use journal_twophase::Journal;
+use journal_world::MapRule;
 use std::alloc::Global;
 use std::sync::Wait;
 use std::sync::atomic::{AtomicU64, Ordering};
 use std::time::Clock;
 
-/// The files of a store, for the connections of a pool.
-pub(crate) struct FileVisits<'s, 'b, D: BlockDisk, J: Naming, V: Version, P> {
-    /// The allocator.
-    pub alloc: Global,
-    protocol: FilesOf<'s, 'b, D, J, V, P>,
+/// A protocol over a journal, as what the connections of a pool are answered by: each under a
+/// session of its own, which is fenced at the connection's end.
+pub struct Visits<'s, 'b, D: BlockDisk, M: MapRule, J: Naming, P> {
+    alloc: Global,
+    journal: &'s Journal<'b, D, M, J>,
+    protocol: &'s P,
     // The number of the next connection.
     next: AtomicU64,
 }
 
-impl<'s, 'b, D: BlockDisk, J: Naming, V: Version, P> Drop for FileVisits<'s, 'b, D, J, V, P> {
+impl<'s, 'b, D: BlockDisk, M: MapRule, J: Naming, P> Drop for Visits<'s, 'b, D, M, J, P> {
     fn drop(self) {
-        let FileVisits {
+        let Visits {
             alloc: _,
+            journal: _,
             protocol: _,
             next: _,
         } = self;
     }
 }
 
-impl<'s, 'b, D: BlockDisk, J: Naming, V: Version, P> FileVisits<'s, 'b, D, J, V, P> {
-    /// No connection has come.
+impl<'s, 'b, D: BlockDisk, M: MapRule, J: Naming, P> Visits<'s, 'b, D, M, J, P> {
+    /// The protocol over the journal. No connection has come.
     pub fn new(
         alloc: Global,
-        protocol: FilesOf<'s, 'b, D, J, V, P>,
-    ) -> FileVisits<'s, 'b, D, J, V, P> {
-        FileVisits {
+        journal: &'s Journal<'b, D, M, J>,
+        protocol: &'s P,
+    ) -> Visits<'s, 'b, D, M, J, P> {
+        Visits {
             alloc,
+            journal,
             protocol,
             next: AtomicU64::new(0),
         }
-    }
-
-    /// The store.
-    pub fn files(&self) -> &'s FileStore<'b, D, J, V> {
-        self.protocol.files
     }
 }
 
 /// A connection between its turns: its session, its number, and the number of its calls that were
 /// answered.
-pub(crate) struct Visit<'b, J: Naming, V: Version> {
-    session: Session<'b, J, SoundFiles<V>>,
+pub struct Visit<'b, M: MapRule, J: Naming> {
+    session: Session<'b, J, M>,
     number: u64,
     answered: u64,
 }
 
-impl<'b, J: Naming, V: Version> Drop for Visit<'b, J, V> {
+impl<'b, M: MapRule, J: Naming> Drop for Visit<'b, M, J> {
     fn drop(self) {
         let Visit {
             session: _,
@@ -89,12 +87,18 @@ impl<'p, 'c, 'l, 'r, R: Clock + Wait> Pace for Fair<'p, 'c, 'l, 'r, R> {
     }
 }
 
-impl<'s, 'b, D: BlockDisk, J: Naming + Send, V: Version + Send, P: FileProtocol<V>> Service
-    for FileVisits<'s, 'b, D, J, V, P> {
-    type Session = Visit<'b, J, V>;
+impl<
+    's,
+    'b,
+    D: BlockDisk,
+    M: MapRule + Send,
+    J: Naming + Send,
+    P: Protocol<Session = Session<'b, J, M>>,
+> Service for Visits<'s, 'b, D, M, J, P> {
+    type Session = Visit<'b, M, J>;
 
-    fn begin<W: Wait>(&self, rt: &W, _may_stop: bool) -> Option<Visit<'b, J, V>> {
-        let session = self.files().journal().session(rt).ok()?;
+    fn begin<W: Wait>(&self, rt: &W, _may_stop: bool) -> Option<Visit<'b, M, J>> {
+        let session = self.journal.session(rt).ok()?;
         let number = self.next.fetch_add(1, Ordering::SeqCst);
         Some(Visit {
             session,
@@ -106,14 +110,14 @@ impl<'s, 'b, D: BlockDisk, J: Naming + Send, V: Version + Send, P: FileProtocol<
     fn turn<R: Clock + Wait>(
         &self,
         rt: &R,
-        visit: &mut Visit<'b, J, V>,
+        visit: &mut Visit<'b, M, J>,
         peer: &Peer<'_, '_, '_, R>,
         buffer: &mut [u8],
     ) -> Turned {
         let clock = WallClock(rt);
         let answerer = Answerer {
             alloc: self.alloc,
-            protocol: &self.protocol,
+            protocol: self.protocol,
             clock: &clock,
             gate: &OpenGate,
             number: visit.number,
@@ -135,7 +139,7 @@ impl<'s, 'b, D: BlockDisk, J: Naming + Send, V: Version + Send, P: FileProtocol<
     }
 
     // A session that ended by itself is fenced already, and is not changed by it.
-    fn end<W: Wait>(&self, rt: &W, mut visit: Visit<'b, J, V>) {
+    fn end<W: Wait>(&self, rt: &W, mut visit: Visit<'b, M, J>) {
         self.protocol.fence(rt, &mut visit.session);
     }
 }

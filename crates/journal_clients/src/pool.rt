@@ -1,17 +1,17 @@
 // A pool that serves more clients than it has threads, until the service is ended.
+ghost use Rattle.std.specs.Prelude.{◌≡◌, min};
+ghost use Rattle.journal_clients.specs.declared.pool.TheConstants.{MOST_WORKERS};
 
 use crate::control::Control;
+use crate::ending::flush;
 use crate::fault::ServiceFault;
-use crate::front_end::{flush, listen_at, port_of, tell_port};
-use crate::visits::FileVisits;
-use journal_connections::{Ending, Entrance, Listener, Load, PoolFault, PoolSize};
+use crate::listening::{listen_at, port_of, tell_port};
+use journal_connections::{Ending, Entrance, Listener, Load, PoolFault, PoolSize, Service};
 use journal_disk::BlockDisk;
-use journal_filestore::FileStore;
 use journal_history::Naming;
-use journal_inode::Version;
 use journal_program::Daemon;
-use journal_server::{FileProtocol, FilesOf};
-use journal_world::Refusal;
+use journal_twophase::Journal;
+use journal_world::{MapRule, Refusal};
 use std::alloc::Global;
 use std::io::Write;
 use std::net::{Ipv4Addr, Net, TcpListener, TcpStream};
@@ -24,11 +24,11 @@ use std::time::Clock;
 // one time.
 const MOST_WORKERS: u64 = 16;
 
-/// Where a file service is reached that serves until it is ended.
+/// Where a service is reached that serves until it is ended.
 #[derive(Clone, Copy)]
 pub struct Endpoint {
-    /// The address of this machine to which connections come. A client that reaches it reads and
-    /// writes all files.
+    /// The address of this machine to which connections come. A client that reaches it may make
+    /// each call that the protocol answers.
     pub address: Ipv4Addr,
     /// The port, or 0 for one that is free.
     pub port: u16,
@@ -37,9 +37,21 @@ pub struct Endpoint {
     pub connections: u64,
 }
 
+impl Endpoint {
+    // How many threads serve how many connections.
+    fn pool_size(self) -> PoolSize
+        ensures { result ≡ record { workers = min self.connections MOST_WORKERS; connections = self.connections } }
+    {
+        PoolSize {
+            workers: self.connections.min(MOST_WORKERS),
+            connections: self.connections,
+        }
+    }
+}
+
 /// Whether a service may write its disk.
 #[derive(Clone, Copy, Debug, PartialEq, Eq)]
-pub(crate) enum Access {
+pub enum Access {
     /// It writes it.
     ReadWrite,
     /// It only reads it.
@@ -59,36 +71,62 @@ impl Access {
 /// Where connections come from, by which control the service is ended, if by any, and whether it
 /// may write its disk.
 #[derive(Clone, Copy)]
-pub(crate) struct Plan<'c> {
+pub struct Plan<'c> {
+    /// Where it is reached.
     pub endpoint: Endpoint,
+    /// By what a client ends it. Without one it ends where its device fails.
     pub control: Option<&'c Control>,
+    /// Whether it may write its disk. Where it only reads it, the protocol is to commit nothing
+    /// that writes.
     pub access: Access,
 }
 
-/// Serves files by a protocol, until a client asks for the end by the control, if there is one, or
-/// until the device fails.
+/// Serves a service over a journal, as a protocol by its `Visits`, with the daemon of the journal
+/// beside it, until a client asks for the end by the control, if there is one, or until the device
+/// fails. The port is printed once the daemon runs and connections are taken, before the first of
+/// them is accepted. At the end all commits are stable, and the journal is stopped.
 ///
 /// # Errors
-/// Those of `serve_files`.
-pub(crate) fn serve_by_pool<
-    's,
+/// - `CannotListen`: the address or the port is not to be had, or the system refused a connection.
+/// - `Refused`: what the service needs, or the last flush.
+/// - `CannotWrite`: the output failed.
+///
+/// Once the daemon was begun, the journal is stopped then too.
+pub fn serve_by_pool<
     'b,
-    P: FileProtocol<V> + Sync,
+    S: Service + Sync,
     D: BlockDisk + Send,
+    M: MapRule + Send + Sync,
     J: Naming + Send + Sync,
-    V: Version + Send + Sync,
     R: Net<Listener = TcpListener, Stream = TcpStream> + Clock + Threads + Wait + Sync,
     O: Write,
 >(
     rt: &R,
     alloc: Global,
     plan: Plan<'_>,
-    files: &'s FileStore<'b, D, J, V>,
-    protocol: &'s P,
+    journal: &Journal<'b, D, M, J>,
+    service: &S,
     output: &mut O,
 ) -> Result<(), ServiceFault> {
-    let visits = FileVisits::new(alloc, FilesOf { files, protocol });
-    open(rt, &visits, plan, output)
+    let Ok(load) = Load::new(alloc, plan.endpoint.pool_size()) else {
+        return Err(ServiceFault::Refused(Refusal::NoMemory));
+    };
+    let opened = open(rt, alloc, plan.endpoint)?;
+    let Ok(ending) = Ending::new(alloc, &load, &opened.entrance) else {
+        return Err(ServiceFault::CannotListen);
+    };
+    let shared = Shared {
+        ending,
+        daemon: plan.access.daemon(),
+        control: plan.control,
+    };
+    serve_threads(
+        rt,
+        &shared,
+        || run_daemon(rt, journal, &shared),
+        || serve_clients(rt, alloc, service, &shared, opened, output),
+        || finish(rt, journal, &shared),
+    )
 }
 
 // Where connections come in, and the port's number.
@@ -107,66 +145,28 @@ struct Shared<'s> {
     control: Option<&'s Control>,
 }
 
-// Opens the port, and serves what comes there.
-fn open<
-    's,
-    'b,
-    P: FileProtocol<V> + Sync,
-    D: BlockDisk + Send,
-    J: Naming + Send + Sync,
-    V: Version + Send + Sync,
-    R: Net<Listener = TcpListener, Stream = TcpStream> + Clock + Threads + Wait + Sync,
-    O: Write,
->(
+// Opens the port.
+fn open<R: Net<Listener = TcpListener, Stream = TcpStream>>(
     rt: &R,
-    visits: &'s FileVisits<'s, 'b, D, J, V, P>,
-    plan: Plan<'s>,
-    output: &mut O,
-) -> Result<(), ServiceFault> {
-    let Endpoint {
-        address,
-        port,
-        connections,
-    } = plan.endpoint;
-    let size = PoolSize {
-        workers: connections.min(MOST_WORKERS),
-        connections,
-    };
-    let Ok(load) = Load::new(visits.alloc, size) else {
-        return Err(ServiceFault::Refused(Refusal::NoMemory));
-    };
-    let listener = listen_at(rt, address, port)?;
+    alloc: Global,
+    endpoint: Endpoint,
+) -> Result<Opened, ServiceFault> {
+    let listener = listen_at(rt, endpoint.address, endpoint.port)?;
     let port = port_of(&listener)?;
-    let mut listeners = Vec::new(visits.alloc);
+    let mut listeners = Vec::new(alloc);
     if listeners.push(Listener::Port(listener)).is_err() {
         return Err(ServiceFault::Refused(Refusal::NoMemory));
     }
-    let Ok(entrance) = Entrance::new(rt, listeners) else {
-        return Err(ServiceFault::CannotListen);
-    };
-    let Ok(ending) = Ending::new(visits.alloc, &load, &entrance) else {
-        return Err(ServiceFault::CannotListen);
-    };
-    let shared = Shared {
-        ending,
-        daemon: plan.access.daemon(),
-        control: plan.control,
-    };
-    let files = visits.files();
-    let opened = Opened { port, entrance };
-    serve_threads(
-        rt,
-        &shared,
-        || run_daemon(rt, files, &shared),
-        || serve_clients(rt, visits, &shared, opened, output),
-        || finish(rt, files, &shared),
-    )
+    match Entrance::new(rt, listeners) {
+        Ok(entrance) => Ok(Opened { port, entrance }),
+        Err(_) => Err(ServiceFault::CannotListen),
+    }
 }
 
 // Serves while the daemon runs, and ends it. All commits are stable then.
 //
-// It knows neither the disk nor its files, so that little has to be proved of what it sends to a
-// thread: the daemon, what is served and the end come as closures.
+// It knows neither the disk nor what is served, so that little has to be proved of what it sends to a
+// thread: the daemon, the clients and the end come as closures.
 fn serve_threads<
     F: FnOnce() + Send,
     G: FnOnce() -> Result<(), ServiceFault>,
@@ -200,11 +200,11 @@ fn serve_threads<
 fn run_daemon<
     'b,
     D: BlockDisk + Send,
+    M: MapRule + Send + Sync,
     J: Naming + Send + Sync,
-    V: Version + Send + Sync,
     R: Clock + Threads + Wait + Sync,
->(rt: &R, files: &FileStore<'b, D, J, V>, shared: &Shared<'_>) {
-    shared.daemon.run(rt, files.journal());
+>(rt: &R, journal: &Journal<'b, D, M, J>, shared: &Shared<'_>) {
+    shared.daemon.run(rt, journal);
     shared.ending.end();
 }
 
@@ -217,38 +217,31 @@ fn await_stop<R: Clock + Wait>(rt: &R, shared: &Shared<'_>) {
 }
 
 // Ends what the other threads wait for, once all commits are stable.
-fn finish<'b, D: BlockDisk, J: Naming, V: Version, W: Wait>(
+fn finish<'b, D: BlockDisk, M: MapRule, J: Naming, W: Wait>(
     rt: &W,
-    files: &FileStore<'b, D, J, V>,
+    journal: &Journal<'b, D, M, J>,
     shared: &Shared<'_>,
 ) -> Result<(), ServiceFault> {
     if let Some(control) = shared.control {
         control.close();
     }
-    let flushed = flush(rt, files);
-    files.journal().stop(rt);
+    let flushed = flush(rt, journal);
+    journal.stop(rt);
     flushed
 }
 
 // Prints the port, and serves what comes in.
-fn serve_clients<
-    'b,
-    P: FileProtocol<V> + Sync,
-    D: BlockDisk + Send,
-    J: Naming + Send + Sync,
-    V: Version + Send + Sync,
-    R: Clock + Threads + Wait + Sync,
-    O: Write,
->(
+fn serve_clients<S: Service + Sync, R: Clock + Threads + Wait + Sync, O: Write>(
     rt: &R,
-    visits: &FileVisits<'_, 'b, D, J, V, P>,
+    alloc: Global,
+    service: &S,
     shared: &Shared<'_>,
     opened: Opened,
     output: &mut O,
 ) -> Result<(), ServiceFault> {
     let Opened { port, entrance } = opened;
     tell_port(port, output)?;
-    match journal_connections::serve(rt, visits.alloc, visits, &shared.ending, entrance) {
+    match journal_connections::serve(rt, alloc, service, &shared.ending, entrance) {
         Ok(()) => Ok(()),
         Err(PoolFault::NoMemory) => Err(ServiceFault::Refused(Refusal::NoMemory)),
         Err(PoolFault::CannotAccept) => Err(ServiceFault::CannotListen),

@@ -1,9 +1,8 @@
 // Disks that are served from the file, or from memory.
-ghost use Rattle.std.specs.Prelude.{◌≡◌, IsTrue, IfOk};
+ghost use Rattle.std.specs.Prelude.{◌≡◌, IfOk};
 ghost use Rattle.journal_disk.specs.Disks.{IsSettled};
 
 use crate::fault::ServiceFault;
-use crate::mounting::Tried;
 use journal_mirror::Mirror;
 use journal_program::{Settled, SizedDisk};
 use journal_world::Refused;
@@ -21,7 +20,7 @@ pub enum Reads {
 }
 
 /// A disk in a file, as it is or mirrored.
-pub(crate) trait Explained {
+pub trait Explained {
     /// The system's reason for which the first call of the file failed that did. The file is
     /// closed.
     fn into_reason(self) -> Option<io::Error>;
@@ -46,20 +45,12 @@ impl Explained for Mirror<SizedDisk> {
 /// - `Refused`: memory is refused.
 ///
 /// Nothing was written, and the file is closed.
-pub(crate) fn mirror(alloc: Global, disk: Settled) -> Result<Mirror<SizedDisk>, ServiceFault>
+pub fn mirror(alloc: Global, disk: Settled) -> Result<Mirror<SizedDisk>, ServiceFault>
     ensures size { IfOk result (λ mirror. mirror.past.size ≡ disk.inner.size) }
     ensures settled { IfOk result (λ mirror. IsSettled mirror.past) }
 {
     match Mirror::over(alloc, disk.disk()) {
         Ok(mirror) => Ok(mirror),
         Err(Refused { refusal, disk }) => Err(ServiceFault::refused(refusal).or_of_device(disk)),
-    }
-}
-
-/// The same of a disk that is in memory no more.
-pub(crate) fn unmirrored(tried: Tried<Mirror<SizedDisk>, Mirror<SizedDisk>>) -> Tried<SizedDisk> {
-    match tried {
-        Tried::Sound(mirror) => Tried::Sound(mirror.into_disk()),
-        Tried::Other(settled) => Tried::Other(Settled::unwritten(settled.disk().into_disk())),
     }
 }

@@ -28,7 +28,7 @@ pub enum ServiceFault {
 impl ServiceFault {
     /// The disk in a file was not opened. Where no disk has so many blocks, that is a mount's
     /// refusal.
-    pub(crate) fn unopened(why: OpenFault) -> ServiceFault {
+    pub fn unopened(why: OpenFault) -> ServiceFault {
         match why {
             OpenFault::File(why) => ServiceFault::File(why),
             OpenFault::NoDisk { .. } => ServiceFault::Refused(Refusal::BadSuper),
@@ -39,7 +39,7 @@ impl ServiceFault {
     }
 
     /// The same fault, or where a call of the disk failed, the reason for that.
-    pub(crate) fn or_of_device<D: Explained>(self, disk: D) -> ServiceFault {
+    pub fn or_of_device<D: Explained>(self, disk: D) -> ServiceFault {
         match disk.into_reason() {
             Some(why) => ServiceFault::DeviceFailed(why),
             None => self,
@@ -47,7 +47,7 @@ impl ServiceFault {
     }
 
     /// It was refused.
-    pub(crate) fn refused<C: Drop>(why: Refusal<C>) -> ServiceFault {
+    pub fn refused<C: Drop>(why: Refusal<C>) -> ServiceFault {
         ServiceFault::Refused(why.with_cause(()))
     }
 }
