@@ -38,13 +38,12 @@ pub fn flush<'b, D: BlockDisk, M: MapRule, J: Naming, W: Wait>(
     }
 }
 
-/// The disk of a service that has ended, from how it was served and how its store was closed. Of two
-/// faults the first is told.
+/// The disk of a service that has ended, from how it was served and how its store was closed.
 ///
 /// # Errors
-/// - The fault of the service, or of the close. Where a call of the disk failed, and it is there to
-///   tell the reason, it is `DeviceFailed`.
-/// - `DeviceFailed`: the service ends by its device, and a call of the disk failed.
+/// - `DeviceFailed`: a call of the disk failed, and this was served badly or ends by its device.
+/// - The fault of the service, where its disk has failed in no call, or was not given up.
+/// - The fault of the close, where all was served well.
 pub fn ended<D: BlockDisk + Explained>(
     served: Result<(), ServiceFault>,
     closed: Result<D, ServiceFault>,

@@ -8,10 +8,10 @@
 //!
 //! Nothing here names a file or a tree: what the calls mean is the protocol's matter, and the disk
 //! is mounted by whoever has its rule. `Reads` says where the disk is read from, `ended` which of
-//! two faults is told, and `moment_of_mount` and `verifier_of` by what two runs of a service differ.
+//! two faults is answered, and `verifier_of` by what two runs of a service differ.
 //!
-//! What was sent to a connection is stated by `journal_protocol`, and what is on the disk at the end
-//! by `journal_twophase`. Of threads, sockets and clocks no contract says anything.
+//! `journal_protocol` states what is sent to a connection, and `journal_twophase` what is on the
+//! disk at the end. Of threads, sockets and clocks no contract says anything.
 #![tactic(auto)]
 
 mod clock;

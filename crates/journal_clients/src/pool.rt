@@ -165,8 +165,8 @@ fn open<R: Net<Listener = TcpListener, Stream = TcpStream>>(
 
 // Serves while the daemon runs, and ends it. All commits are stable then.
 //
-// It knows neither the disk nor what is served, so that little has to be proved of what it sends to a
-// thread: the daemon, the clients and the end come as closures.
+// It knows neither the disk nor what is served, so that little has to be proved of what it sends to
+// a thread: the daemon, the clients and the end come as closures.
 fn serve_threads<
     F: FnOnce() + Send,
     G: FnOnce() -> Result<(), ServiceFault>,
