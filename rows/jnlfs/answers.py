@@ -48,7 +48,7 @@ def stop_says_what_a_service_answers(room):
 
 def begin(in_room):
     """A service of a new disk, that of a user whose new files everybody may use."""
-    line = ["jnlfs", "make", "disk", "--blocks", "532"]
+    line = ["jnlfs", "make", "disk", "--format", "2", "--blocks", "532"]
     wants_run(in_room.run(line), Ended(b"", b"", 0))
     line = ["jnlfs", "serve", "disk", "--port", "0", "--control", "s"]
     return in_room.start(line, preexec_fn=lambda: os.umask(0))

@@ -23,7 +23,7 @@ FEW = b"jnlfs: the system lets it open %d files, so %d connections and one visit
 
 def begin(room, **more):
     """A service of a new disk, with a socket by which it is ended."""
-    line = ["jnlfs", "make", "disk", "--blocks", "532"]
+    line = ["jnlfs", "make", "disk", "--format", "2", "--blocks", "532"]
     wants_run(room.run(line), Ended(b"", b"", 0))
     return room.start(["jnlfs", "serve", "disk", "--port", "0", "--control", "s"], **more)
 

@@ -15,7 +15,7 @@ UNIT = 512
 
 def make(room, *words):
     """A new disk of a user whose new files everybody may use, and what the system says of it."""
-    line = ["jnlfs", "make", "disk", "--blocks", str(BLOCKS), *words]
+    line = ["jnlfs", "make", "disk", "--format", "2", "--blocks", str(BLOCKS), *words]
     wants_run(room.run(line, preexec_fn=lambda: os.umask(0)), Ended(b"", b"", 0))
     return room.path("disk").stat()
 
@@ -40,7 +40,7 @@ def limit_files():
 
 # Of `journal_service::make`.
 def no_file_is_left_where_it_cannot_be_so_long(room):
-    line = ["jnlfs", "make", "disk", "--blocks", str(BLOCKS)]
+    line = ["jnlfs", "make", "disk", "--format", "2", "--blocks", str(BLOCKS)]
     ended = room.run(line, preexec_fn=limit_files, restore_signals=False)
     wants_run(ended, Ended(b"", b"jnlfs: cannot use disk: File too large (os error 27)\n", 1))
     room.do_absent("disk")

@@ -8,7 +8,7 @@ NO_ENTRY = record_of("1 1 0 0 0 0 2 0", {})
 
 
 def two_services_read_the_same_files(room):
-    wants_run(room.run(["jnlfs", "make", "disk", "--blocks", "532"]), Ended(b"", b"", 0))
+    wants_run(room.run(["jnlfs", "make", "disk", "--format", "2", "--blocks", "532"]), Ended(b"", b"", 0))
     words = ["jnlfs", "serve", "disk", "--port", "0", "--read-only", "--control"]
     services = [room.start([*words, socket]) for socket in ("s", "t")]
     for service in services:

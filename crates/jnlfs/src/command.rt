@@ -1,12 +1,13 @@
 // The command line.
 
+use crate::making::{NewDisk, NewFiles};
 use crate::serving::Service;
 use clap::{Arg, ArgMatches, Command, value_parser};
+use journal_clients::{Endpoint, Reads};
 use journal_commands::{
     FILE, Fault, JNLFS_VERSIONS, file_arg, flag_arg, option_arg, program_command, subcommand, word,
 };
 use journal_program::Room;
-use journal_service::{Endpoint, Reads};
 use std::alloc::{AllocError, Global};
 use std::net::Ipv4Addr;
 
@@ -16,13 +17,22 @@ pub const PROGRAM: &str = "jnlfs";
 const ABOUT: &str = "Files on a disk of a transactional block journal";
 
 const SERVE_NOTES: &str =
-    "A client mounts /files, or /, by version 3 of NFS and of MOUNT, which are both on this port:\n  mount -t nfs -o vers=3,nolock,proto=tcp,port=P,mountproto=tcp,mountport=P HOST:/files DIRECTORY\n\nThe service looks at no credential. Whoever reaches the address reads and writes all files: each program on this machine, and with another address than 127.0.0.1 each machine of the network too.\n\nThe first line of the output says at which port it listens. jnlfs stop ends it once all is stable, where --control names a socket. Only the owner of that socket can open it. A socket whose program is gone is replaced, and anything else at PATH is refused. A signal ends the service as a crash does: all that was answered as stable stands, and a client sends its other writes again once the disk is served anew. Where the device fails, standard error has the reason, and the status is 1.\n\nWith --read-only nothing is written to FILE, which need not be writable then, and others may read it too. A client mounts it with the option ro.\n\njnlfs make makes a disk of files. Any other is refused.";
+    "A client mounts /files, or /, by version 3 of NFS and of MOUNT, which are both on this port:\n  mount -t nfs -o vers=3,nolock,proto=tcp,port=P,mountproto=tcp,mountport=P HOST:/files DIRECTORY\n\nOf a disk of version 3 a call has the rights of the user and the groups that it names, as the modes of files and directories say. Nothing proves who calls: a program may name any user, also root, which has no more rights than nobody with --squash. Of a disk of version 1 or 2 the service looks at no user. So whoever reaches the address reads and writes all files: each program on this machine, and with another address than 127.0.0.1 each machine of the network too.\n\nThe first line of the output says at which port it listens. jnlfs stop ends it once all is stable, where --control names a socket. Only the owner of that socket can open it. A socket whose program is gone is replaced, and anything else at PATH is refused. A signal ends the service as a crash does: all that was answered as stable stands, and a client sends its other writes again once the disk is served anew. Where the device fails, standard error has the reason, and the status is 1.\n\nWith --read-only nothing is written to FILE, which need not be writable then, and others may read it too. A client mounts it with the option ro.\n\njnlfs make makes a disk of files. Any other is refused.";
+
+const MAKE_NOTES: &str =
+    "Refused where FILE is there. Where it is refused later, as for want of room, no FILE is left. When it is done, FILE's name and the room of the log are stable, and its owner alone may use it. The other blocks take room once they are written, where there may be none, or at once with --allocate. The disk cannot grow later.\n\nA disk of version 3 has a tree of directories and files. Each of these takes an inode, a name has at most 255 bytes, and a file at most 196608. The root directory belongs to root, and is there at once. Nothing can be renamed or linked yet.\n\nA disk of version 2 has files of the names f002 to f511 in one directory, of at most 49152 bytes each, and N - 531 blocks for them.";
+
+const FIXED_INODES: &str = "a disk of version 2 has 512 inodes, and --inodes is of version 3 alone";
 
 // How many connections are open beside a visitor.
 const MOST_CONNECTIONS: u64 = 1024;
 
 // The names of the arguments.
 const BLOCKS: &str = "blocks";
+
+const INODES: &str = "inodes";
+
+const FORMAT: &str = "format";
 
 const ALLOCATE: &str = "allocate";
 
@@ -36,29 +46,29 @@ const READ_ONLY: &str = "read-only";
 
 const MIRROR: &str = "mirror";
 
+const SQUASH: &str = "squash";
+
+// The versions of the disks that are made.
+const FLAT_VERSION: u64 = 2;
+
+const TREE_VERSION: u64 = 3;
+
+// The version where none is named.
+const NEWEST: &str = "3";
+
 /// The task that the words of the command line name.
 #[derive(Drop)]
 pub enum Subcommand<'w> {
-    /// Make a disk without files, of this number of blocks, in a new file.
-    Make {
-        path: &'w str,
-        blocks: u64,
-        room: Room,
-    },
+    /// Make a disk without files in a new file.
+    Make(NewDisk<'w>),
     /// Print whether the files of the disk in a file are sound.
-    Check {
-        path: &'w str,
-    },
+    Check { path: &'w str },
     /// Make the disk in a file one of version 2.
-    Migrate {
-        path: &'w str,
-    },
+    Migrate { path: &'w str },
     /// Serve the files of the disk in a file so that clients mount them.
     Serve(Service<'w>),
     /// End the service at a socket.
-    Stop {
-        socket: &'w str,
-    },
+    Stop { socket: &'w str },
 }
 
 impl<'w> Subcommand<'w> {
@@ -100,11 +110,23 @@ fn parse_make<'w>(given: &ArgMatches<'w>) -> Result<Subcommand<'w>, Fault<'w>> {
     } else {
         Room::Log
     };
-    Ok(Subcommand::Make {
+    Ok(Subcommand::Make(NewDisk {
         path: word(given, FILE)?,
         blocks,
+        files: parse_files(given)?,
         room,
-    })
+    }))
+}
+
+// The files that a new disk is to have.
+fn parse_files<'w>(given: &ArgMatches<'w>) -> Result<NewFiles, Fault<'w>> {
+    let inodes = given.get_one::<u64>(INODES);
+    match (given.get_one::<u64>(FORMAT), inodes) {
+        (Some(TREE_VERSION), inodes) => Ok(NewFiles::Tree { inodes }),
+        (Some(FLAT_VERSION), None) => Ok(NewFiles::Flat),
+        (Some(FLAT_VERSION), Some(_)) => Err(Fault::NoSuchDisk { why: FIXED_INODES }),
+        _ => Err(Fault::NoCommand),
+    }
 }
 
 fn parse_serve<'w>(given: &ArgMatches<'w>) -> Result<Subcommand<'w>, Fault<'w>> {
@@ -124,6 +146,7 @@ fn parse_serve<'w>(given: &ArgMatches<'w>) -> Result<Subcommand<'w>, Fault<'w>> 
         },
         control: given.get_str(CONTROL),
         is_read_only: given.get_flag(READ_ONLY),
+        squash: given.get_flag(SQUASH),
         reads: if given.get_flag(MIRROR) {
             Reads::FromMemory
         } else {
@@ -151,11 +174,13 @@ fn make_command<'w>(alloc: Global) -> Result<Command<'w>, AllocError> {
     subcommand(
         alloc,
         "make",
-        "Makes a disk of version 2 without files, with a sealed log, in a new file",
-        "Refused where FILE is there. Where it is refused later, as for want of room, no FILE is left. When it is done, FILE's name and the room of the log are stable, and its owner alone may use it. The other blocks take room once they are written, where there may be none, or at once with --allocate. N - 531 blocks are for files, of which there are at most 510, of at most 49152 bytes each. The disk cannot grow later.",
+        "Makes a disk without files, with a sealed log, in a new file",
+        MAKE_NOTES,
     )
     .arg(file_arg(alloc, "The file to make"))?
     .arg(blocks_arg(alloc))?
+    .arg(inodes_arg(alloc))?
+    .arg(format_arg(alloc))?
     .arg(allocate)
 }
 
@@ -163,7 +188,7 @@ fn check_command<'w>(alloc: Global) -> Result<Command<'w>, AllocError> {
     subcommand(
         alloc,
         "check",
-        "Checks that the files of a disk are sound, and prints its version and their number",
+        "Checks that the files of a disk are sound, and prints its version and their number, or that of the nodes of a tree",
         "Nothing is written to FILE.",
     )
     .arg(file_arg(alloc, "The file of the disk"))
@@ -174,7 +199,7 @@ fn migrate_command<'w>(alloc: Global) -> Result<Command<'w>, AllocError> {
         alloc,
         "migrate",
         "Makes a disk of version 1 one of version 2, with the same files",
-        "To a disk of version 2 nothing is done. All files stay, also where the program is killed or the power fails: the disk is then of either version.",
+        "To a disk of version 2 nothing is done, and one of version 3 is refused. All files stay, also where the program is killed or the power fails: the disk is then of either version.",
     )
     .arg(file_arg(alloc, "The file of the disk"))
 }
@@ -190,6 +215,11 @@ fn serve_command<'w>(alloc: Global) -> Result<Command<'w>, AllocError> {
         MIRROR,
         "Reads the whole disk into memory at the start, and answers each read from there",
     );
+    let squash = flag_arg(
+        alloc,
+        SQUASH,
+        "Gives root the rights of nobody, which only the service of a tree can",
+    );
     subcommand(
         alloc,
         "serve",
@@ -201,7 +231,8 @@ fn serve_command<'w>(alloc: Global) -> Result<Command<'w>, AllocError> {
     .arg(address_arg(alloc))?
     .arg(control_arg(alloc, "The socket to make, by which the service is ended"))?
     .arg(read_only)?
-    .arg(mirror)
+    .arg(mirror)?
+    .arg(squash)
 }
 
 fn stop_command<'w>(alloc: Global) -> Result<Command<'w>, AllocError> {
@@ -225,10 +256,33 @@ fn blocks_arg<'w>(alloc: Global) -> Arg<'w> {
         alloc,
         BLOCKS,
         "N",
-        "How many blocks of 4096 bytes the disk has, 532 to 33299",
+        "How many blocks of 4096 bytes the disk has, 645 to 4294967296; 532 to 33299 with --format 2",
     )
     .required(true)
-    .value_parser(value_parser!(u64).range(532..=33299))
+    .value_parser(value_parser!(u64).range(532..=4294967296))
+}
+
+// The number of inodes of a disk with a tree.
+fn inodes_arg<'w>(alloc: Global) -> Arg<'w> {
+    option_arg(
+        alloc,
+        INODES,
+        "I",
+        "How many inodes it has, a multiple of 8 from 1024 to 134217728: by default an eighth of N, within 1024 and 1048576",
+    )
+    .value_parser(value_parser!(u64).range(1024..=134217728))
+}
+
+// The version of a disk.
+fn format_arg<'w>(alloc: Global) -> Arg<'w> {
+    option_arg(
+        alloc,
+        FORMAT,
+        "VERSION",
+        "The version of the disk: 3 with a tree of directories and files, 2 with flat files",
+    )
+    .default_value(NEWEST)
+    .value_parser(value_parser!(u64).range(2..=3))
 }
 
 // The port to listen on.

@@ -1,46 +1,31 @@
 // The subcommands on disks of files.
 
 use crate::unserved::unserved;
-use journal_commands::{Fault, find, label_of, open_to_read, refuse_other_regions};
-use journal_program::{DiskFacts, Room, Settled, SharedDisk, share_disk};
+use journal_commands::{Fault, find, open_to_read, refuse_other_regions};
+use journal_form::FileFormat;
+use journal_program::{DiskFacts, Settled, SharedDisk, share_disk};
+use journal_treeservice::{TreeCut, cut_of};
 use std::alloc::Global;
 use std::fs::{File, Files};
 use std::io::Write;
 use std::sync::Wait;
-use std::time::Clock;
 
-/// Makes a disk of version 2 without files, of this number of blocks, in a new file at the path,
-/// with this room in its file system. Its log is sealed, and its label has the regions of files.
-///
-/// # Errors
-/// - `File`: anything is at the path, which stays as it is; or the system's reason, for which the
-///   new file is removed.
-/// - `NoDisk`: no disk of files has so many blocks.
-/// - `Refused`: memory is refused, or the device fails. The new file is removed.
-pub fn make<'w, R: Files<File = File> + Clock>(
-    rt: &R,
-    alloc: Global,
-    path: &'w str,
-    blocks: u64,
-    room: Room,
-) -> Result<(), Fault<'w>> {
-    let Some(label) = label_of(blocks, None) else {
-        return Err(Fault::NoDisk { path, blocks });
-    };
-    match journal_service::make(rt, alloc, path, &label, room) {
-        Ok(()) => Ok(()),
-        Err(why) => Err(unserved(path, why)),
-    }
+/// The files of a disk.
+#[derive(Clone, Copy, Debug)]
+pub enum HeldFiles {
+    /// Flat files: version 1 or 2.
+    Flat,
+    /// A tree, cut so: version 3.
+    Tree(TreeCut),
 }
 
 /// Prints that the files of the disk in the file at the path are sound, in which version of the
-/// format, and how many there are. Nothing is written to it.
+/// format, and how many there are, or how many nodes a tree has. Nothing is written to it.
 ///
 /// # Errors
 /// - Those of a disk that is opened to be read.
-/// - `HasNoFiles`: it is no disk of files.
-/// - `OtherRegions`: its label tells other regions than those of files.
-/// - `Refused`: its files are sound in no version, or memory is refused, or the device fails.
+/// - Those of `files_of`.
+/// - `Refused`: its files are not sound, or memory is refused, or the device fails.
 pub fn check<'w, R: Files<File = File> + Wait, O: Write, E: Write>(
     rt: &R,
     alloc: Global,
@@ -49,8 +34,13 @@ pub fn check<'w, R: Files<File = File> + Wait, O: Write, E: Write>(
     faults: &mut E,
 ) -> Result<(), Fault<'w>> {
     let opened = open_to_read(rt, alloc, path, faults)?;
-    want_files(path, &opened.facts)?;
-    match journal_service::check_disk(rt, alloc, opened.disk, output) {
+    let checked = match files_of(path, &opened.facts)? {
+        HeldFiles::Flat => journal_service::check_disk(rt, alloc, opened.disk, output),
+        HeldFiles::Tree(cut) => {
+            journal_treeservice::check_disk(rt, alloc, opened.disk, cut, output)
+        }
+    };
+    match checked {
         Ok(()) => Ok(()),
         Err(why) => Err(unserved(path, why)),
     }
@@ -61,6 +51,7 @@ pub fn check<'w, R: Files<File = File> + Wait, O: Write, E: Write>(
 ///
 /// # Errors
 /// - Those of `open`.
+/// - `HasTree`: it has a tree. Nothing was written.
 /// - Those of `journal_service::migrate_disk`. The disk has the same files, in version 1 or 2.
 pub fn migrate<'w, R: Files<File = File> + Wait, O: Write>(
     rt: &R,
@@ -68,31 +59,47 @@ pub fn migrate<'w, R: Files<File = File> + Wait, O: Write>(
     path: &'w str,
     output: &mut O,
 ) -> Result<(), Fault<'w>> {
-    let disk = open(rt, alloc, path)?;
+    let OpenedDisk { disk, files } = open(rt, alloc, path)?;
+    if let HeldFiles::Tree(_) = files {
+        return Err(Fault::HasTree { path });
+    }
     match journal_service::migrate_disk(rt, alloc, disk, output) {
         Ok(()) => Ok(()),
         Err(why) => Err(unserved(path, why)),
     }
 }
 
+/// A disk of files, and which these are.
+#[derive(Drop)]
+pub struct OpenedDisk {
+    pub disk: Settled,
+    pub files: HeldFiles,
+}
+
 /// The disk of files in the file at the path, which no other program uses as long as it is open.
-/// What it reads is stable.
+/// All that it reads is stable.
 ///
 /// # Errors
 /// - Those of a disk that is opened to be written.
-/// - `HasNoFiles`: it is no disk of files. Nothing was written.
-/// - `OtherRegions`: its label tells other regions than those of files. Nothing was written.
+/// - Those of `files_of`. Nothing was written.
 pub fn open<'w, R: Files<File = File>>(
     rt: &R,
     alloc: Global,
     path: &'w str,
-) -> Result<Settled, Fault<'w>> {
+) -> Result<OpenedDisk, Fault<'w>> {
     let found = find(rt, alloc, path)?;
-    want_files(path, &found.facts)?;
+    let files = files_of(path, &found.facts)?;
     match found.settle(alloc) {
-        Ok(disk) => Ok(disk),
+        Ok(disk) => Ok(OpenedDisk { disk, files }),
         Err(why) => Err(Fault::unopened(path, why)),
     }
+}
+
+/// A disk of files that is only read, and which these are.
+#[derive(Drop)]
+pub struct OpenedToRead {
+    pub disk: SharedDisk,
+    pub files: HeldFiles,
 }
 
 /// The disk of files in the file at the path, to be read alone. No program writes it as long as it
@@ -100,26 +107,37 @@ pub fn open<'w, R: Files<File = File>>(
 ///
 /// # Errors
 /// - Those of `share_disk`.
-/// - `HasNoFiles`: it is no disk of files.
-/// - `OtherRegions`: its label has other regions than those of files.
+/// - Those of `files_of`.
 pub fn share<'w, R: Files<File = File>>(
     rt: &R,
     alloc: Global,
     path: &'w str,
-) -> Result<SharedDisk, Fault<'w>> {
+) -> Result<OpenedToRead, Fault<'w>> {
     match share_disk(rt, alloc, path) {
-        Ok(shared) => {
-            want_files(path, &shared.facts)?;
-            Ok(shared)
+        Ok(disk) => {
+            let files = files_of(path, &disk.facts)?;
+            Ok(OpenedToRead { disk, files })
         }
         Err(why) => Err(Fault::unopened(path, why)),
     }
 }
 
-// Refuses a disk that is none of files, by its block 513 or by its label.
-fn want_files<'w>(path: &'w str, facts: &DiskFacts) -> Result<(), Fault<'w>> {
-    if facts.files.is_none() {
-        return Err(Fault::HasNoFiles { path });
+/// The files of the disk at the path that has these facts.
+///
+/// # Errors
+/// - `HasNoFiles`: it is no disk of files, by its block 513.
+/// - `OtherRegions`: it has flat files, and its label names other regions than theirs.
+/// - `NotCut`: it has a tree, and no label that says how it is cut.
+fn files_of<'w>(path: &'w str, facts: &DiskFacts) -> Result<HeldFiles, Fault<'w>> {
+    match facts.files {
+        None => Err(Fault::HasNoFiles { path }),
+        Some(FileFormat::Flat) => {
+            refuse_other_regions(path, facts)?;
+            Ok(HeldFiles::Flat)
+        }
+        Some(FileFormat::Tree) => match cut_of(facts) {
+            Some(cut) => Ok(HeldFiles::Tree(cut)),
+            None => Err(Fault::NotCut { path }),
+        },
     }
-    refuse_other_regions(path, facts)
 }

@@ -1,14 +1,16 @@
-//! The files of a disk at the command line. `jnlfs make` makes a disk without files, `jnlfs check`
-//! prints whether the files of a disk are sound, and `jnlfs migrate` makes a disk of version 1 one
-//! of version 2. `jnlfs serve` serves the files so that a Linux machine mounts them, and
-//! `jnlfs stop` ends such a service. `jnlfs --help` is the manual. The program `jnl` looks at such
-//! a disk too, and seals its log.
+//! The files of a disk at the command line. `jnlfs make` makes a disk without files, with a tree or
+//! with flat files. `jnlfs check` prints whether the files of a disk are sound, and `jnlfs migrate`
+//! makes a disk of version 1 one of version 2. `jnlfs serve` serves the files so that a Linux
+//! machine mounts them, and `jnlfs stop` ends such a service. The version of a disk says which
+//! protocol it is served by: 1 and 2 have flat files, and 3 a tree. `jnlfs --help` is the manual.
+//! The program `jnl` looks at such a disk too, and seals its log.
 #![tactic(auto)]
 
 ghost use Rattle.std.specs.Prelude.{◌≤◌};
 
 mod command;
 mod disks;
+mod making;
 mod serving;
 mod stopping;
 mod unserved;
@@ -21,6 +23,7 @@ use std::fs::{File, Files};
 use std::io::Write;
 use std::net::{Net, TcpListener, TcpStream};
 use std::process::ExitCode;
+use std::random::RandomSource;
 use std::sync::Wait;
 use std::thread::Threads;
 use std::time::Clock;
@@ -33,6 +36,7 @@ pub fn run<
         + Net<Listener = TcpListener, Stream = TcpStream>
         + Clock
         + Threads
+        + RandomSource
         + Wait
         + Sync,
     O: Write,
@@ -53,6 +57,7 @@ fn obey<
         + Net<Listener = TcpListener, Stream = TcpStream>
         + Clock
         + Threads
+        + RandomSource
         + Wait
         + Sync,
     O: Write,
@@ -65,7 +70,7 @@ fn obey<
     faults: &mut E,
 ) -> Result<(), Fault<'w>> {
     match Subcommand::parse(alloc, words)? {
-        Subcommand::Make { path, blocks, room } => disks::make(rt, alloc, path, blocks, room),
+        Subcommand::Make(disk) => making::make(rt, alloc, disk),
         Subcommand::Check { path } => disks::check(rt, alloc, path, output, faults),
         Subcommand::Migrate { path } => disks::migrate(rt, alloc, path, output),
         Subcommand::Serve(service) => serving::serve(rt, alloc, service, output, faults),

@@ -1,13 +1,14 @@
 // The files of a disk are served so that clients mount them.
 
 use crate::command::PROGRAM;
-use crate::disks::{open, share};
+use crate::disks::{HeldFiles, OpenedDisk, OpenedToRead, open, share};
 use crate::unserved::unserved;
+use journal_clients::{Control, Endpoint, Reads, ServiceFault};
 use journal_commands::{Fault, make_socket, print_line, remove_socket};
 use journal_connections::file_numbers;
 use journal_mount3::{Exported, ExportedToRead};
 use journal_program::{Settled, SharedDisk};
-use journal_service::{Control, Endpoint, Reads};
+use journal_treeservice::{Asked, TreeCut};
 use std::alloc::Global;
 use std::fs::{File, Files};
 use std::io::Write;
@@ -33,6 +34,15 @@ pub struct Service<'w> {
     pub is_read_only: bool,
     /// Where reads of the disk come from.
     pub reads: Reads,
+    /// True if root has the rights of nobody.
+    pub squash: bool,
+}
+
+// The disk of a service, and its files.
+#[derive(Drop)]
+struct Served {
+    disk: ServedDisk,
+    files: HeldFiles,
 }
 
 // The disk of a service.
@@ -44,7 +54,7 @@ enum ServedDisk {
     Read(SharedDisk),
 }
 
-/// Serves the files of the disk in a file, of either version, so that clients mount them: NFS and
+/// Serves the files of the disk in a file, of each version, so that clients mount them: NFS and
 /// MOUNT in their versions 3 (RFC 1813). Prints the port before the first connection is accepted,
 /// and that it has stopped once a client has ended it by its socket. All is stable then, the disk
 /// is closed and unlocked, and the socket is gone. Where the address is not one that this machine
@@ -58,9 +68,9 @@ enum ServedDisk {
 /// `DeviceFailed`.
 ///
 /// # Errors
-/// - Those of `open`, or of `share`. `Refused`: the files are sound in no version. `CannotListen`:
-///   the address or the port is not to be had. `File`: the socket is not. Nothing listens then, and
-///   no file was changed.
+/// - Those of `open`, or of `share`. `NoSquash`: root is to be nobody, and the disk has no tree.
+///   `Refused`: the files are not sound. `CannotListen`: the address or the port is not to be had.
+///   `File`: the socket is not. Nothing listens then, and no file was changed.
 /// - `DeviceFailed`: the device has failed.
 pub fn serve<
     'w,
@@ -79,15 +89,15 @@ pub fn serve<
     output: &mut O,
     faults: &mut E,
 ) -> Result<(), Fault<'w>> {
-    let disk = open_served(rt, alloc, service)?;
+    let served = open_served(rt, alloc, service)?;
     let Some(socket) = service.control else {
-        return export(rt, alloc, disk, service, None, output, faults);
+        return export(rt, alloc, served, service, None, output, faults);
     };
     let control = open_control(rt, alloc, socket)?;
-    let served = export(rt, alloc, disk, service, Some(&control), output, faults);
+    let ended = export(rt, alloc, served, service, Some(&control), output, faults);
     remove_socket(rt, socket);
-    control.answer(rt, served.is_ok());
-    served?;
+    control.answer(rt, ended.is_ok());
+    ended?;
     print_line(output, "stopped", "")
 }
 
@@ -96,11 +106,24 @@ fn open_served<'w, R: Files<File = File>>(
     rt: &R,
     alloc: Global,
     service: Service<'w>,
-) -> Result<ServedDisk, Fault<'w>> {
-    if service.is_read_only {
-        Ok(ServedDisk::Read(share(rt, alloc, service.path)?))
+) -> Result<Served, Fault<'w>> {
+    let path = service.path;
+    let served = if service.is_read_only {
+        let OpenedToRead { disk, files } = share(rt, alloc, path)?;
+        Served {
+            disk: ServedDisk::Read(disk),
+            files,
+        }
     } else {
-        Ok(ServedDisk::Written(open(rt, alloc, service.path)?))
+        let OpenedDisk { disk, files } = open(rt, alloc, path)?;
+        Served {
+            disk: ServedDisk::Written(disk),
+            files,
+        }
+    };
+    match served.files {
+        HeldFiles::Flat if service.squash => Err(Fault::NoSquash { path }),
+        _ => Ok(served),
     }
 }
 
@@ -118,34 +141,90 @@ fn export<
 >(
     rt: &R,
     alloc: Global,
-    disk: ServedDisk,
+    served: Served,
     service: Service<'w>,
     control: Option<&Control>,
     output: &mut O,
     faults: &mut E,
 ) -> Result<(), Fault<'w>> {
-    let Service {
-        path,
-        endpoint,
-        reads,
-        ..
-    } = service;
+    let path = service.path;
     let endpoint = Endpoint {
-        connections: allowed(endpoint.connections, faults),
-        ..endpoint
+        connections: allowed(service.endpoint.connections, faults),
+        ..service.endpoint
     };
     warn_of_address(service, faults);
-    let served = match disk {
+    let asked = Asked {
+        reads: service.reads,
+        endpoint,
+        control,
+        squash: service.squash,
+    };
+    let Served { disk, files } = served;
+    let ended = match files {
+        HeldFiles::Flat => export_flat(rt, alloc, disk, asked, output, faults),
+        HeldFiles::Tree(cut) => export_tree(rt, alloc, disk, cut, asked, output, faults),
+    };
+    match ended {
+        Ok(()) => Ok(()),
+        Err(why) => Err(unserved(path, why)),
+    }
+}
+
+// Serves flat files.
+fn export_flat<
+    R: Files<File = File>
+        + Net<Listener = TcpListener, Stream = TcpStream>
+        + Clock
+        + Threads
+        + Wait
+        + Sync,
+    O: Write,
+    E: Write,
+>(
+    rt: &R,
+    alloc: Global,
+    disk: ServedDisk,
+    asked: Asked<'_>,
+    output: &mut O,
+    faults: &mut E,
+) -> Result<(), ServiceFault> {
+    let Asked {
+        reads,
+        endpoint,
+        control,
+        ..
+    } = asked;
+    match disk {
         ServedDisk::Written(disk) => journal_service::export::<Exported, R, O, E>(
             rt, alloc, disk, reads, endpoint, control, output, faults,
         ),
         ServedDisk::Read(disk) => journal_service::export_to_read::<ExportedToRead, R, O, E>(
             rt, alloc, disk, reads, endpoint, control, output, faults,
         ),
-    };
-    match served {
-        Ok(()) => Ok(()),
-        Err(why) => Err(unserved(path, why)),
+    }
+}
+
+// Serves a tree.
+fn export_tree<
+    R: Net<Listener = TcpListener, Stream = TcpStream> + Clock + Threads + Wait + Sync,
+    O: Write,
+    E: Write,
+>(
+    rt: &R,
+    alloc: Global,
+    disk: ServedDisk,
+    cut: TreeCut,
+    asked: Asked<'_>,
+    output: &mut O,
+    faults: &mut E,
+) -> Result<(), ServiceFault> {
+    match disk {
+        ServedDisk::Written(disk) => {
+            journal_treeservice::export(rt, alloc, disk, cut, asked, output, faults)
+        }
+        ServedDisk::Read(disk) => {
+            journal_treeservice::export_to_read(rt, alloc, disk, cut, asked, output, faults)
+        }
     }
 }
 

@@ -2,8 +2,8 @@
 ghost use Rattle.std.specs.Prelude.{◌≤◌, IfOk};
 ghost use Rattle.jnlfs.specs.declared.stopping.TheConstants.{ANSWER_BYTES};
 
+use journal_clients::{FAILED, STOP, STOPPED};
 use journal_commands::Fault;
-use journal_service::{FAILED, STOP, STOPPED};
 use std::io;
 use std::io::{ErrorKind, Read, Write};
 use std::net::Net;

@@ -1,7 +1,7 @@
 // Why a disk of files is not made, checked or served.
 
+use journal_clients::ServiceFault;
 use journal_commands::Fault;
-use journal_service::ServiceFault;
 
 /// The fault by which the program ends where the disk in the file at the path was not made,
 /// checked, migrated or served to the end.

@@ -36,6 +36,10 @@ pub enum Fault<'w> {
     BadSlots {
         slots: u16,
     },
+    /// No disk of files has the numbers that were asked for, as this text says.
+    NoSuchDisk {
+        why: &'static str,
+    },
     /// The file at the path cannot be used, for the system's reason.
     File {
         path: &'w str,
@@ -115,6 +119,19 @@ pub enum Fault<'w> {
     },
     /// The disk in the file at the path is none of the file service.
     HasNoFiles {
+        path: &'w str,
+    },
+    /// The disk in the file at the path has a tree, whose label does not say how it is cut.
+    NotCut {
+        path: &'w str,
+    },
+    /// The disk in the file at the path has a tree, and was to get another version.
+    HasTree {
+        path: &'w str,
+    },
+    /// The disk in the file at the path has flat files, whose service looks at no credential, and
+    /// was to be served with root squashed.
+    NoSquash {
         path: &'w str,
     },
     /// Something is where a copy with this path is to be made until it is whole.
@@ -214,7 +231,8 @@ impl<'w> Fault<'w> {
             | Fault::NoRegion { .. }
             | Fault::TooManyRegions
             | Fault::BadRegions
-            | Fault::BadSlots { .. } => 2,
+            | Fault::BadSlots { .. }
+            | Fault::NoSuchDisk { .. } => 2,
             Fault::File { .. }
             | Fault::NoDisk { .. }
             | Fault::NeedsRegions { .. }
@@ -232,6 +250,9 @@ impl<'w> Fault<'w> {
             | Fault::DeviceFailed { .. }
             | Fault::HasFiles { .. }
             | Fault::HasNoFiles { .. }
+            | Fault::NotCut { .. }
+            | Fault::HasTree { .. }
+            | Fault::NoSquash { .. }
             | Fault::HasPart { .. }
             | Fault::CannotListen
             | Fault::NoAnswer { .. }
@@ -274,6 +295,7 @@ impl<'w> Fault<'w> {
                 faults,
                 "{program}: the number of slots is odd and at most {MAX_SLOTS}, and not {slots}"
             ),
+            Fault::NoSuchDisk { why } => writeln!(faults, "{program}: {why}"),
             Fault::File { path, why } if why.kind() == ErrorKind::WouldBlock => {
                 writeln!(faults, "{program}: {path} is used by another program")
             }
@@ -333,6 +355,18 @@ impl<'w> Fault<'w> {
             Fault::HasNoFiles { path } => writeln!(
                 faults,
                 "{program}: {path} is no disk of the file service, which jnlfs make makes"
+            ),
+            Fault::NotCut { path } => writeln!(
+                faults,
+                "{program}: {path} has no label that says how a tree is cut"
+            ),
+            Fault::HasTree { path } => writeln!(
+                faults,
+                "{program}: {path} is a disk of version 3, and one of version 1 is migrated"
+            ),
+            Fault::NoSquash { path } => writeln!(
+                faults,
+                "{program}: {path} has no tree, and without one no credential is looked at: --squash is of a tree"
             ),
             Fault::HasPart { copy } => writeln!(
                 faults,

@@ -5,4 +5,4 @@
 pub const JNL_VERSIONS: &str = "1.0\nlog plain, sealed\nlabel 1\nprotocol 1, 2";
 
 /// The versions of `jnlfs`, which reads disks of files.
-pub const JNLFS_VERSIONS: &str = "1.0\nlog plain, sealed\nlabel 1\nfiles 1, 2";
+pub const JNLFS_VERSIONS: &str = "1.0\nlog plain, sealed\nlabel 1\nfiles 1, 2, 3";
