@@ -1,0 +1,428 @@
+"""Clients that change a tree of files which `jnlfs serve` serves, and what may be found of their files afterwards.
+
+A module: `kill-tree` and `lose-tree` use it. Each client has a folder of its own with folders and files, and files in one
+folder of all clients. It sends several calls at once. What it has must always be as its calls leave it up to some one of
+them, in order: the last that it was told to be stable, or one after that. Told to be stable is a call that was answered
+OK, but for a WRITE that was answered UNSTABLE and for what changes nothing; and all before a COMMIT that was answered OK
+with the verifier of the writes.
+"""
+
+import random
+import re
+import struct
+import subprocess
+import threading
+from typing import NamedTuple, Optional
+
+from tree_calls import *
+
+FILE_BYTES = 20000
+SHARED = b"shared"
+FOLDERS = 3
+FILES_EACH = 2
+START_SECONDS = 60
+
+
+class Wrong(Exception):
+    """The service did what it must not do."""
+
+
+class Node(NamedTuple):
+    """A file, or a folder, whose content is None. A handle or a ctime that is None is not known: of a call without an
+    answer nobody knows it. A folder's ctime is not looked at, because its names change it."""
+
+    handle: Optional[bytes]
+    mode: int
+    content: Optional[bytes]
+    ctime: Optional[Time]
+
+    def is_found_as(self, found):
+        return (
+            found is not None
+            and (self.mode, self.content) == (found.mode, found.content)
+            and self.handle in (None, found.handle)
+            and self.ctime in (None, found.ctime)
+        )
+
+    def __str__(self):
+        handle = "any" if self.handle is None else f"{int.from_bytes(self.handle[8:12], 'big')}/{int.from_bytes(self.handle[12:], 'big')}"
+        moment = "any" if self.ctime is None else "{}.{:09}".format(*self.ctime)
+        if self.content is None:
+            return f"folder {handle}, mode {self.mode:o}"
+        written = ", ".join(f"{stamp.hex()}*{count}" for stamp, count in runs(self.content))
+        return f"file {handle}, mode {self.mode:o}, ctime {moment}, {len(self.content)} bytes: {written}"
+
+
+def runs(content):
+    """The bytes by fours, each the number of the write that wrote it, and how often it stands there in a row."""
+    found = []
+    for at in range(0, len(content), 4):
+        stamp = content[at : at + 4]
+        if found and found[-1][0] == stamp:
+            found[-1][1] += 1
+        else:
+            found.append([stamp, 1])
+    return found[:12]
+
+
+class Call:
+    """A call that changes a path. Before it is answered it may have been done or not."""
+
+    tells_stable = True
+    is_done = True  # False once it was answered that nothing was done.
+    ctime = None
+    handle = None
+
+    def __init__(self, path):
+        self.path = path
+
+    def after(self, state):
+        """The state that it leaves."""
+        return {**state, self.path: self.node(state.get(self.path))} if self.is_done else state
+
+
+class Create(Call):
+    procedure = CREATE
+
+    def __init__(self, path, directory, mode, size):
+        super().__init__(path)
+        self.arguments = entry(directory, path[-1]) + words(GUARDED) + settings(mode=mode, size=size)
+        self.mode, self.size = mode, size
+
+    def take(self, made):
+        self.handle, self.ctime = made.handle, made.attributes.ctime
+
+    def node(self, before):
+        return Node(self.handle, self.mode, bytes(self.size), self.ctime)
+
+
+class MakeFolder(Call):
+    procedure = MKDIR
+
+    def __init__(self, path, directory, mode):
+        super().__init__(path)
+        self.arguments, self.mode = entry(directory, path[-1]) + settings(mode=mode), mode
+
+    def take(self, made):
+        self.handle = made.handle
+
+    def node(self, before):
+        return Node(self.handle, self.mode, None, None)
+
+
+class Remove(Call):
+    procedure = REMOVE
+
+    def __init__(self, path, directory):
+        super().__init__(path)
+        self.arguments = entry(directory, path[-1])
+
+    def take(self, change):
+        pass
+
+    def node(self, before):
+        return None
+
+
+class RemoveFolder(Remove):
+    procedure = RMDIR
+
+
+class Set(Call):
+    """SETATTR of a size, or of a mode."""
+
+    procedure = SETATTR
+
+    def __init__(self, path, handle, **asked):
+        super().__init__(path)
+        self.arguments, self.asked = opaque(handle) + settings(**asked) + words(0), asked
+
+    def take(self, change):
+        self.ctime = change.after.ctime
+
+    def node(self, before):
+        size = self.asked.get("size", len(before.content))
+        return Node(before.handle, self.asked.get("mode", before.mode), before.content[:size].ljust(size, b"\0"), self.ctime)
+
+
+class Write(Call):
+    procedure = WRITE
+    verifier = None
+
+    def __init__(self, path, handle, offset, data, how):
+        super().__init__(path)
+        self.arguments = written(handle, offset, data, how)
+        self.offset, self.data, self.tells_stable = offset, data, how != UNSTABLE
+
+    def take(self, wrote):
+        self.ctime, self.verifier = wrote.change.after.ctime, wrote.verifier
+        if (wrote.count, wrote.committed) != (len(self.data), FILE_SYNC if self.tells_stable else UNSTABLE):
+            raise Wrong(f"{self.path}: a WRITE of {len(self.data)} bytes answers {wrote.count}, committed {wrote.committed}")
+
+    def node(self, before):
+        content = before.content.ljust(self.offset, b"\0")
+        content = content[: self.offset] + self.data + content[self.offset + len(self.data) :]
+        return Node(before.handle, before.mode, content, self.ctime)
+
+
+class Commit(Call):
+    procedure = COMMIT
+    verifier = None
+
+    def __init__(self, path, handle):
+        super().__init__(path)
+        self.arguments = at_place(handle, 0, 0)
+
+    def take(self, committed):
+        self.verifier = committed.verifier
+
+    def after(self, state):
+        return state
+
+
+class Client:
+    """The calls of a connection to paths of its own, and what it was told of them. It goes on from run to run."""
+
+    def __init__(self, number, most_at_once, choice=random):
+        self.number, self.most_at_once, self.choice = number, most_at_once, choice
+        self.own = b"client%d" % number
+        self.folders = [(self.own, b"folder%d" % place) for place in range(FOLDERS)]
+        inner = [(self.own, *folder[1:], b"file%d" % place) for folder in [(self.own,), *self.folders] for place in range(FILES_EACH)]
+        self.files = inner + [(SHARED, b"client%d file%d" % (number, place)) for place in range(FILES_EACH)]
+        self.found, self.writes, self.made = {}, 0, set()
+        self.begin_run({})
+
+    def begin_run(self, top):
+        """Goes on from what was found. `top` has the handles of the folders that no client removes."""
+        self.handles = dict(top) | {path: node.handle for path, node in self.found.items() if node}
+        self.calls, self.stable, self.verifier, self.fault = [], 0, None, None
+
+    def is_own(self, path):
+        return path in self.folders or path in self.files
+
+    def run(self, port, is_ended, note=lambda kind, count: None, bursts=None):
+        """Calls until the service ends, or so many bursts were sent. `note` learns how many calls were sent and are stable."""
+        try:
+            with Connection(port) as connection:
+                while bursts is None or bursts > 0:
+                    self.send_burst(connection, note)
+                    bursts = bursts and bursts - 1
+        except OSError as fault:
+            if not is_ended():
+                self.fault = Wrong(f"client {self.number}: the connection failed: {fault}")
+        except Exception as fault:
+            self.fault = Wrong(f"client {self.number}: {fault}")
+
+    def send_burst(self, connection, note):
+        burst = self.burst()
+        self.calls += burst
+        note("sent", len(self.calls))
+        for call in burst:
+            connection.send_nfs(call.procedure, call.arguments)
+        for place in range(len(self.calls) - len(burst), len(self.calls)):
+            self.take(connection, place)
+            note("stable", self.stable)
+
+    def burst(self):
+        """Calls that are sent at once. What makes or removes a name comes last, since later calls need its answer."""
+        there = [path for path in self.files if self.handles.get(path)]
+        calls = [self.change(self.choice.choice(there)) for _ in range(self.choice.randint(1, self.most_at_once)) if there]
+        if not calls or self.choice.random() < 0.4:
+            calls.append(self.change_of_names())
+        return calls
+
+    def change(self, path):
+        handle, chance = self.handles[path], self.choice.random()
+        if chance < 0.12:
+            return Commit(path, handle)
+        if chance < 0.22:
+            return Set(path, handle, size=self.choice.randint(0, FILE_BYTES))
+        if chance < 0.3:
+            return Set(path, handle, mode=self.choice.choice((0o600, 0o644, 0o755)))
+        self.writes += 1
+        stamp = struct.pack(">I", self.number + 1 << 24 | self.writes)
+        start = self.choice.choice([0, 0, self.choice.randrange(FILE_BYTES)])
+        end = self.choice.choice([FILE_BYTES, self.choice.randint(start + 1, FILE_BYTES)])
+        data = (stamp * (FILE_BYTES // 4))[start:end]
+        return Write(path, handle, start, data, self.choice.choice([UNSTABLE, UNSTABLE, DATA_SYNC, FILE_SYNC]))
+
+    def change_of_names(self):
+        """A file or a folder that is made or removed, where its folder is there and it is empty."""
+        possible = [path for path in self.folders + self.files if self.handles.get(path[:-1])]
+        path = self.choice.choice(possible)
+        directory = self.handles[path[:-1]]
+        if not self.handles.get(path):
+            if path in self.folders:
+                return MakeFolder(path, directory, 0o755)
+            return Create(path, directory, 0o644, self.choice.choice([0, 0, 1, 5000, FILE_BYTES]))
+        if path in self.folders:
+            inner = [file for file in self.files if file[:-1] == path and self.handles.get(file)]
+            return Remove(inner[0], self.handles[path]) if inner else RemoveFolder(path, directory)
+        return Remove(path, directory)
+
+    def take(self, connection, place):
+        """Takes the answer to a call."""
+        call = self.calls[place]
+        status, results = connection.receive_nfs(call.procedure)
+        if status == JUKEBOX:
+            # Others were in the way, and nothing was done.
+            call.is_done = False
+            return
+        if status != OK:
+            raise Wrong(f"{b'/'.join(call.path)}: {NAMES[call.procedure]} is answered {status}")
+        call.take(results)
+        self.learn(call)
+        if call.tells_stable:
+            self.stable = place + 1
+
+    def learn(self, call):
+        """What the answer tells of handles and of the verifier."""
+        if isinstance(call, (Write, Commit)):
+            self.verifier = self.verifier or call.verifier
+            if call.verifier != self.verifier:
+                raise Wrong(f"{call.path}: another verifier in the same run")
+        if isinstance(call, (Create, MakeFolder)):
+            if call.handle in self.made:
+                raise Wrong(f"{call.path}: {NAMES[call.procedure]} gives an old handle")
+            self.made.add(call.handle)
+            self.handles[call.path] = call.handle
+        if isinstance(call, Remove):
+            self.handles[call.path] = None
+
+    def states(self, stable, sent):
+        """What its paths may be where so many calls are stable, and so many were sent at most; and after how many."""
+        state = dict(self.found)
+        for place, call in enumerate(self.calls[:sent]):
+            if place >= stable:
+                yield place, state
+            state = call.after(state)
+        yield sent, state
+
+    def place_of(self, found, stable, sent):
+        """After how many of its calls its paths are as they were found."""
+        states = list(self.states(stable, sent))
+        paths = self.folders + self.files
+        for place, state in states:
+            if all(is_found(state.get(path), found.get(path)) for path in paths):
+                return place
+        raise Wrong("\n".join(self.difference([state for _, state in states], found, paths)))
+
+    def difference(self, states, found, paths):
+        """The paths that are as no state has them; or else all, which are in no state together."""
+        odd = [path for path in paths if not any(is_found(state.get(path), found.get(path)) for state in states)]
+        if not odd:
+            yield f"client {self.number}: each path is as it may be, but they are never so at once:"
+        for path in odd or paths:
+            name = b"/".join(path).decode()
+            yield f"{name} found:   {found.get(path) or 'absent'}"
+            for line in dict.fromkeys(str(state.get(path) or "absent") for state in states):
+                yield f"{name} allowed: {line}"
+
+
+def is_found(node, found):
+    return found is None if node is None else node.is_found_as(found)
+
+
+class Service:
+    """A run of `jnlfs serve` over a disk."""
+
+    def __init__(self, jnlfs, disk, environment=None):
+        line = ["setpriv", "--pdeathsig", "KILL", jnlfs, "serve", disk, "--port", "0"]
+        pipes = {"stdout": subprocess.PIPE, "stderr": subprocess.PIPE}
+        self.process = subprocess.Popen([str(word) for word in line], text=True, env=environment, **pipes)
+        self.is_killed = False
+        self.watch = threading.Timer(START_SECONDS, self.process.kill)
+        self.watch.start()
+
+    def __enter__(self):
+        return self
+
+    def __exit__(self, *_):
+        self.kill()
+        self.process.wait()
+        self.watch.cancel()
+        self.process.stdout.close()
+        self.process.stderr.close()
+
+    def listen(self):
+        """Waits for the port. None says that the program ended before it told one."""
+        line = self.process.stdout.readline()
+        self.watch.cancel()
+        found = re.fullmatch(r"listening (?:on [\d.]+:)?(\d+)\n", line)
+        if line and not found:
+            raise Wrong(f"serve prints {line!r}")
+        return int(found[1]) if found else None
+
+    def kill(self):
+        self.is_killed = True
+        self.process.kill()
+
+    def end(self):
+        """What it has printed since, its faults and its status."""
+        status = self.process.wait()
+        return self.process.stdout.read(), self.process.stderr.read(), status
+
+
+def make_disk(jnlfs, disk, *words):
+    subprocess.run([jnlfs, "make", disk, *words], check=True, stdout=subprocess.DEVNULL)
+
+
+def make_tops(jnlfs, disk, clients):
+    """Makes the folders that no client removes. Their handles, by their paths."""
+    with Service(jnlfs, disk) as service, Connection(listening(service)) as connection:
+        root = connection.root()
+        tops = {(): root}
+        for name in (SHARED, *(client.own for client in clients)):
+            tops[(name,)] = connection.must(MKDIR, entry(root, name) + settings(mode=0o755)).handle
+        return tops
+
+
+def listening(service):
+    port = service.listen()
+    if port is None:
+        raise Wrong(f"serve does not serve the disk: {service.end()}")
+    return port
+
+
+def check_disk(jnlfs, disk):
+    """`jnlfs check` must find a sound tree."""
+    ended = subprocess.run([jnlfs, "check", disk], capture_output=True, text=True)
+    if ended.returncode or "sound" not in ended.stdout:
+        raise Wrong(f"check: status {ended.returncode}, {ended.stdout!r}, {ended.stderr!r}")
+
+
+def all_nodes(jnlfs, disk):
+    """Each node of the disk by its path, as a run of the service tells them."""
+    with Service(jnlfs, disk) as service, Connection(listening(service)) as connection:
+        nodes, waiting = {}, [((), connection.root())]
+        while waiting:
+            path, directory = waiting.pop()
+            for line in connection.list_all(directory):
+                nodes[(*path, line.name)] = node_of(connection, line)
+                if line.attributes.kind == DIRECTORY:
+                    waiting.append(((*path, line.name), line.handle))
+        return nodes
+
+
+def node_of(connection, line):
+    told = line.attributes
+    if told.kind == DIRECTORY:
+        return Node(line.handle, told.mode, None, None)
+    content = connection.read_all(line.handle)
+    if len(content) != told.size:
+        raise Wrong(f"{line.name}: size {told.size}, and {len(content)} bytes to read")
+    return Node(line.handle, told.mode, content, told.ctime)
+
+
+def own_nodes(client, nodes):
+    return {path: node for path, node in nodes.items() if client.is_own(path)}
+
+
+def refuse_strangers(nodes, clients, tops):
+    """Each path is one of a client, or one of the folders that are never removed."""
+    strangers = [path for path in nodes if path not in tops and not any(client.is_own(path) for client in clients)]
+    if strangers:
+        raise Wrong(f"paths that nobody made: {strangers}")
+    lost = [path for path in tops if path and (path not in nodes or nodes[path].handle != tops[path])]
+    if lost:
+        raise Wrong(f"folders that nobody removed: {lost}")
