@@ -1,7 +1,9 @@
-"""Calls to a tree of files by NFS version 3 and MOUNT, and their replies, spelled by hand from RFC 1813 and RFC 5531.
+"""Calls to a tree of files by NFS version 3 and MOUNT, and their replies, spelled by hand from RFC
+1813 and RFC 5531.
 
-A module: `tree-vectors`, `kill-tree` and `lose-tree` use it. A reply must be spelled as the standard says, each boolean
-0 or 1, each pad of zeros, and nothing after the end: else it is `Malformed`.
+A module: `tree-vectors`, `kill-tree` and `lose-tree` use it. A reply must be spelled as the
+standard says, each boolean 0 or 1, each pad of zeros, and nothing after the end: else it is
+`Malformed`.
 """
 
 import socket
@@ -16,7 +18,8 @@ NAMES = (
     "READDIR READDIRPLUS FSSTAT FSINFO PATHCONF COMMIT"
 ).split()
 
-OK, PERM, NOENT, IO, ACCES, EXIST, NOTDIR, ISDIR, INVAL, FBIG, NOSPC, ROFS = 0, 1, 2, 5, 13, 17, 20, 21, 22, 27, 28, 30
+OK, PERM, NOENT, IO, ACCES, EXIST, NOTDIR, ISDIR = 0, 1, 2, 5, 13, 17, 20, 21
+INVAL, FBIG, NOSPC, ROFS = 22, 27, 28, 30
 NAMETOOLONG, NOTEMPTY, STALE, BADHANDLE, NOT_SYNC, NOTSUPP, TOOSMALL = 63, 66, 70, 10001, 10002, 10004, 10005
 SERVERFAULT, JUKEBOX = 10006, 10008
 
@@ -25,13 +28,15 @@ UNCHECKED, GUARDED, EXCLUSIVE = 0, 1, 2
 FILE, DIRECTORY = 1, 2
 
 # How many words follow the status of a refusal: a zero for each part that may be there.
-AFTER_REFUSAL = {procedure: 1 for procedure in (LOOKUP, ACCESS, READLINK, READ, READDIR, READDIRPLUS, FSSTAT, FSINFO, PATHCONF)}
-AFTER_REFUSAL |= {procedure: 2 for procedure in (SETATTR, WRITE, CREATE, MKDIR, SYMLINK, MKNOD, REMOVE, RMDIR, COMMIT)}
-AFTER_REFUSAL |= {GETATTR: 0, RENAME: 4, LINK: 3}
+AFTER_REFUSAL = {GETATTR: 0, RENAME: 4, LINK: 3}
+AFTER_REFUSAL |= dict.fromkeys((LOOKUP, ACCESS, READLINK, READ, READDIR, READDIRPLUS), 1)
+AFTER_REFUSAL |= dict.fromkeys((FSSTAT, FSINFO, PATHCONF), 1)
+AFTER_REFUSAL |= dict.fromkeys((SETATTR, WRITE, CREATE, MKDIR, SYMLINK, MKNOD, REMOVE, RMDIR, COMMIT), 2)
 
 SECONDS = 60
 LAST_FRAGMENT = 1 << 31
-# What stands after the number of a reply that accepts a call (RFC 5531, section 9), and why one is not done.
+# What stands after the number of a reply that accepts a call (RFC 5531, section 9), and why one is
+# not done.
 ACCEPTED = struct.pack(">4I", 1, 0, 0, 0)
 
 
@@ -273,11 +278,10 @@ class Reader:
         return Time(self.word(), self.word())
 
     def attributes(self):
-        kind, mode, links, owner, group = (self.word() for _ in range(5))
-        size, used = self.hyper(), self.hyper()
-        device = (self.word(), self.word())
-        disk, number = self.hyper(), self.hyper()
-        return Attributes(kind, mode, links, owner, group, size, used, device, disk, number, self.time(), self.time(), self.time())
+        first = [self.word() for _ in range(5)]
+        sizes, device = [self.hyper(), self.hyper()], (self.word(), self.word())
+        named = [self.hyper(), self.hyper()]
+        return Attributes(*first, *sizes, device, *named, *(self.time() for _ in range(3)))
 
     def before(self):
         return Before(self.hyper(), self.time(), self.time())
@@ -348,7 +352,8 @@ RESULTS = {
 
 
 def read_results(procedure, data):
-    """The status and the results of a procedure. After a refusal there is no part that may be there."""
+    """The status and the results of a procedure. After a refusal there is no part that may be
+    there."""
     reader = Reader(data)
     status = reader.word()
     if status == OK:
@@ -364,7 +369,8 @@ def read_results(procedure, data):
 
 
 class Connection:
-    """A connection. Replies come in the order of the calls, and many calls may be sent before one is read."""
+    """A connection. Replies come in the order of the calls, and many calls may be sent before one
+    is read."""
 
     def __init__(self, port, host="127.0.0.1", credential=ROOT_USER):
         self.socket = socket.create_connection((host, port), timeout=SECONDS)
@@ -422,7 +428,8 @@ class Connection:
         return self.receive_nfs(procedure)
 
     def must(self, procedure, arguments, credential=None):
-        """The results of a call that is done. One that is answered JUKEBOX is sent again, as the standard says."""
+        """The results of a call that is done. One that is answered JUKEBOX is sent again, as the
+        standard says."""
         status = JUKEBOX
         while status == JUKEBOX:
             status, results = self.ask(procedure, arguments, credential)

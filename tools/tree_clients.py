@@ -1,9 +1,11 @@
-"""Clients that change a tree of files which `jnlfs serve` serves, and what may be found of their files afterwards.
+"""Clients that change a tree of files which `jnlfs serve` serves, and what may be found of their
+files afterwards.
 
-A module: `kill-tree` and `lose-tree` use it. Each client has a folder of its own with folders and files, and files in one
-folder of all clients. It sends several calls at once. What it has must always be as its calls leave it up to some one of
-them, in order: the last that it was told to be stable, or one after that. Told to be stable is a call that was answered
-OK, but for a WRITE that was answered UNSTABLE and for what changes nothing; and all before a COMMIT that was answered OK
+A module: `kill-tree` and `lose-tree` use it. Each client has a folder of its own with folders and
+files, and files in one folder of all clients. It sends several calls at once. What it has must
+always be as its calls leave it up to some one of them, in order: the last that it was told to be
+stable, or one after that. Told to be stable is a call that was answered OK, but for a WRITE that
+was answered UNSTABLE and for what changes nothing; and all before a COMMIT that was answered OK
 with the verifier of the writes.
 """
 
@@ -28,8 +30,9 @@ class Wrong(Exception):
 
 
 class Node(NamedTuple):
-    """A file, or a folder, whose content is None. A handle or a ctime that is None is not known: of a call without an
-    answer nobody knows it. A folder's ctime is not looked at, because its names change it."""
+    """A file, or a folder, whose content is None. A handle or a ctime that is None is not known: of
+    a call without an answer nobody knows it. A folder's ctime is not looked at, because its names
+    change it."""
 
     handle: Optional[bytes]
     mode: int
@@ -45,7 +48,7 @@ class Node(NamedTuple):
         )
 
     def __str__(self):
-        handle = "any" if self.handle is None else f"{int.from_bytes(self.handle[8:12], 'big')}/{int.from_bytes(self.handle[12:], 'big')}"
+        handle = "any" if self.handle is None else self.handle[8:].hex()
         moment = "any" if self.ctime is None else "{}.{:09}".format(*self.ctime)
         if self.content is None:
             return f"folder {handle}, mode {self.mode:o}"
@@ -54,7 +57,8 @@ class Node(NamedTuple):
 
 
 def runs(content):
-    """The bytes by fours, each the number of the write that wrote it, and how often it stands there in a row."""
+    """The bytes by fours, each the number of the write that wrote it, and how often it stands there
+    in a row."""
     found = []
     for at in range(0, len(content), 4):
         stamp = content[at : at + 4]
@@ -141,8 +145,8 @@ class Set(Call):
         self.ctime = change.after.ctime
 
     def node(self, before):
-        size = self.asked.get("size", len(before.content))
-        return Node(before.handle, self.asked.get("mode", before.mode), before.content[:size].ljust(size, b"\0"), self.ctime)
+        mode, size = self.asked.get("mode", before.mode), self.asked.get("size", len(before.content))
+        return Node(before.handle, mode, before.content[:size].ljust(size, b"\0"), self.ctime)
 
 
 class Write(Call):
@@ -156,8 +160,9 @@ class Write(Call):
 
     def take(self, wrote):
         self.ctime, self.verifier = wrote.change.after.ctime, wrote.verifier
-        if (wrote.count, wrote.committed) != (len(self.data), FILE_SYNC if self.tells_stable else UNSTABLE):
-            raise Wrong(f"{self.path}: a WRITE of {len(self.data)} bytes answers {wrote.count}, committed {wrote.committed}")
+        wanted = (len(self.data), FILE_SYNC if self.tells_stable else UNSTABLE)
+        if (wrote.count, wrote.committed) != wanted:
+            raise Wrong(f"{self.path}: WRITE answers {wrote.count}, {wrote.committed}, not {wanted}")
 
     def node(self, before):
         content = before.content.ljust(self.offset, b"\0")
@@ -181,14 +186,16 @@ class Commit(Call):
 
 
 class Client:
-    """The calls of a connection to paths of its own, and what it was told of them. It goes on from run to run."""
+    """The calls of a connection to paths of its own, and what it was told of them. It goes on from
+    run to run."""
 
     def __init__(self, number, most_at_once, choice=random):
         self.number, self.most_at_once, self.choice = number, most_at_once, choice
         self.own = b"client%d" % number
         self.folders = [(self.own, b"folder%d" % place) for place in range(FOLDERS)]
-        inner = [(self.own, *folder[1:], b"file%d" % place) for folder in [(self.own,), *self.folders] for place in range(FILES_EACH)]
-        self.files = inner + [(SHARED, b"client%d file%d" % (number, place)) for place in range(FILES_EACH)]
+        places = range(FILES_EACH)
+        inner = [(*top, b"file%d" % place) for top in [(self.own,), *self.folders] for place in places]
+        self.files = inner + [(SHARED, b"client%d file%d" % (number, place)) for place in places]
         self.found, self.writes, self.made = {}, 0, set()
         self.begin_run({})
 
@@ -201,7 +208,8 @@ class Client:
         return path in self.folders or path in self.files
 
     def run(self, port, is_ended, note=lambda kind, count: None, bursts=None):
-        """Calls until the service ends, or so many bursts were sent. `note` learns how many calls were sent and are stable."""
+        """Calls until the service ends, or so many bursts were sent. `note` learns how many calls
+        were sent and are stable."""
         try:
             with Connection(port) as connection:
                 while bursts is None or bursts > 0:
@@ -224,9 +232,11 @@ class Client:
             note("stable", self.stable)
 
     def burst(self):
-        """Calls that are sent at once. What makes or removes a name comes last, since later calls need its answer."""
+        """Calls that are sent at once. What makes or removes a name comes last, since later calls
+        need its answer."""
         there = [path for path in self.files if self.handles.get(path)]
-        calls = [self.change(self.choice.choice(there)) for _ in range(self.choice.randint(1, self.most_at_once)) if there]
+        count = self.choice.randint(1, self.most_at_once) if there else 0
+        calls = [self.change(self.choice.choice(there)) for _ in range(count)]
         if not calls or self.choice.random() < 0.4:
             calls.append(self.change_of_names())
         return calls
@@ -244,7 +254,8 @@ class Client:
         start = self.choice.choice([0, 0, self.choice.randrange(FILE_BYTES)])
         end = self.choice.choice([FILE_BYTES, self.choice.randint(start + 1, FILE_BYTES)])
         data = (stamp * (FILE_BYTES // 4))[start:end]
-        return Write(path, handle, start, data, self.choice.choice([UNSTABLE, UNSTABLE, DATA_SYNC, FILE_SYNC]))
+        how = self.choice.choice([UNSTABLE, UNSTABLE, DATA_SYNC, FILE_SYNC])
+        return Write(path, handle, start, data, how)
 
     def change_of_names(self):
         """A file or a folder that is made or removed, where its folder is there and it is empty."""
@@ -290,7 +301,8 @@ class Client:
             self.handles[call.path] = None
 
     def states(self, stable, sent):
-        """What its paths may be where so many calls are stable, and so many were sent at most; and after how many."""
+        """What its paths may be where so many calls are stable, and so many were sent at most; and
+        after how many."""
         state = dict(self.found)
         for place, call in enumerate(self.calls[:sent]):
             if place >= stable:
@@ -309,7 +321,8 @@ class Client:
 
     def difference(self, states, found, paths):
         """The paths that are as no state has them; or else all, which are in no state together."""
-        odd = [path for path in paths if not any(is_found(state.get(path), found.get(path)) for state in states)]
+        is_odd = lambda path: not any(is_found(it.get(path), found.get(path)) for it in states)
+        odd = [path for path in paths if is_odd(path)]
         if not odd:
             yield f"client {self.number}: each path is as it may be, but they are never so at once:"
         for path in odd or paths:
@@ -420,7 +433,8 @@ def own_nodes(client, nodes):
 
 def refuse_strangers(nodes, clients, tops):
     """Each path is one of a client, or one of the folders that are never removed."""
-    strangers = [path for path in nodes if path not in tops and not any(client.is_own(path) for client in clients)]
+    is_known = lambda path: path in tops or any(client.is_own(path) for client in clients)
+    strangers = [path for path in nodes if not is_known(path)]
     if strangers:
         raise Wrong(f"paths that nobody made: {strangers}")
     lost = [path for path in tops if path and (path not in nodes or nodes[path].handle != tops[path])]

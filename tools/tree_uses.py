@@ -1,11 +1,12 @@
-"""What a Linux kernel does with a tree of files that it mounts. `mount-tree` runs it as root within the kernel's machine.
+"""What a Linux kernel does with a tree of files that it mounts. `mount-tree` runs it as root within
+the kernel's machine.
 
     python3 tree_uses.py HOST PORT SMALL_PORT DATA_BLOCKS INODES [WORD]
 
-The tree is served at HOST:PORT, and a small one of few blocks, which gets full, at SMALL_PORT; DATA_BLOCKS and INODES are
-the first one's. Each check prints a line, `ok NAME` or `WRONG NAME: WHY`. With WORD those checks alone are made whose
-name has it. A line `DO restart` asks that the service is killed and started again. What is needed lies below /mnt, which
-must be writable.
+The tree is served at HOST:PORT, and a small one of few blocks, which gets full, at SMALL_PORT;
+DATA_BLOCKS and INODES are the first one's. Each check prints a line, `ok NAME` or `WRONG NAME:
+WHY`. With WORD those checks alone are made whose name has it. A line `DO restart` asks that the
+service is killed and started again. What is needed lies below /mnt, which must be writable.
 """
 
 import collections
@@ -137,7 +138,8 @@ def names_in(folder):
 
 
 def make_tree(top):
-    """A tree of folders and files of every size, with rights and times of their own. It is not on the mount."""
+    """A tree of folders and files of every size, with rights and times of their own. It is not on
+    the mount."""
     sizes = [0, 1, 511, 4095, 4096, 4097, 8192, 49152, 65535, 65536, 65537, 131072, MOST_BYTES - 1, MOST_BYTES]
     for number in range(12):
         folder = top / f"folder{number}" / "inner" / "deep"
@@ -182,7 +184,8 @@ def copies_of_a_tree():
     equal("find", *[len(run("find", top).splitlines()) for top in (A / "copied", HERE / "tree")])
     run("du", "-s", A / "copied")
     run("diff", "-r", A / "copied", HERE / "tree")
-    # Without --reflink=never cp asks the system to copy past the end, which it refuses at the greatest size.
+    # Without --reflink=never cp asks the system to copy past the end, which it refuses at the
+    # greatest size.
     run("cp", "-a", "--reflink=never", A / "copied", A / "again")
     same_tree("cp -a on the mount", A / "again", HERE / "tree")
 
@@ -303,8 +306,9 @@ def sticky_and_set_group_folders():
     os.chmod(A / "sticky", 0o1777)
     as_user(USER, USER, lambda: write(A / "sticky" / "his", b"x"))
     refusals = (errno.EPERM, errno.EACCES)
-    as_user(NOBODY, NOBODY, lambda: refused("removing another's file", refusals, lambda: os.remove(A / "sticky" / "his")))
-    as_user(USER, USER, lambda: os.remove(A / "sticky" / "his"))
+    remove = lambda: os.remove(A / "sticky" / "his")
+    as_user(NOBODY, NOBODY, lambda: refused("removing another's file", refusals, remove))
+    as_user(USER, USER, remove)
     (A / "group").mkdir()
     os.chown(A / "group", 0, GROUP)
     os.chmod(A / "group", 0o2777)
@@ -340,7 +344,8 @@ def suid_bits():
 
 
 def names():
-    for name in ("n" * LONGEST_NAME, "ü" * 127, " ", "...", "-rf", "a\nb", "\x01", "%s", "f002", ".nfs", "UPPER", "upper"):
+    plain = ("f002", ".nfs", "UPPER", "upper")
+    for name in ("n" * LONGEST_NAME, "ü" * 127, " ", "...", "-rf", "a\nb", "\x01", "%s", *plain):
         write(A / name, name.encode())
     forget()
     for name in names_in(A):
@@ -372,7 +377,8 @@ def greatest_size():
     refused("one byte more", errno.EFBIG, lambda: write(A / "more", bytes(MOST_BYTES + 1)))
     refused("a size of one more", (errno.EFBIG, errno.EINVAL), lambda: os.truncate(A / "greatest", MOST_BYTES + 1))
     equal("its size stays", (A / "greatest").stat().st_size, MOST_BYTES)
-    ran = subprocess.run(["dd", "if=/dev/zero", f"of={A / 'dd'}", "bs=4096", "count=49", "conv=fsync"], capture_output=True, text=True)
+    line = ["dd", "if=/dev/zero", f"of={A / 'dd'}", "bs=4096", "count=49", "conv=fsync"]
+    ran = subprocess.run(line, capture_output=True, text=True)
     equal("dd of 49 blocks", ("File too large" in ran.stderr, ran.returncode), (True, 1))
     for name in names_in(A):
         os.remove(A / name)
@@ -488,7 +494,8 @@ def set_times():
 
 
 def times_grow():
-    """By a mount that remembers no attributes: ctime grows with each change, and a folder's times with each of its names."""
+    """By a mount that remembers no attributes: ctime grows with each change, and a folder's times
+    with each of its names."""
     mount("/files", SMALL, PORT, ",noac,nosharecache")
     try:
         folder = SMALL / "grows"
@@ -539,7 +546,8 @@ def kinds_of_writing():
     wanted[100:106] = b"mapped"
     forget()
     equal("what was written in each way", path.read_bytes() == bytes(wanted[:9000]) + bytes(11000), True)
-    refused("O_EXCL of a file that is there", errno.EEXIST, lambda: os.open(path, os.O_CREAT | os.O_EXCL | os.O_WRONLY))
+    exclusively = lambda: os.open(path, os.O_CREAT | os.O_EXCL | os.O_WRONLY)
+    refused("O_EXCL of a file that is there", errno.EEXIST, exclusively)
     run("dd", f"if={HERE / 'tree.tar'}", f"of={A / 'synced'}", "bs=4096", "count=40", "oflag=sync", "status=none")
     equal("what was written by dd", (A / "synced").read_bytes(), (HERE / "tree.tar").read_bytes()[: 40 * BLOCK])
     run("rm", path, A / "synced")
@@ -564,7 +572,8 @@ def random_bytes():
                 os.ftruncate(file.fileno(), start)
                 wanted[:] = wanted[:start].ljust(start, b"\0")
             else:
-                equal(f"read {number}", os.pread(file.fileno(), size, start) == bytes(wanted[start : start + size]), True)
+                read = os.pread(file.fileno(), size, start)
+                equal(f"read {number}", read == bytes(wanted[start : start + size]), True)
     forget()
     equal("all bytes", (A / "random").read_bytes() == bytes(wanted), True)
     os.remove(A / "random")
@@ -574,7 +583,8 @@ def random_bytes():
 
 
 def two_clients():
-    """What one mount changes another sees: a new file, a removed one, and other bytes under a time that was set back."""
+    """What one mount changes another sees: a new file, a removed one, and other bytes under a time
+    that was set back."""
     write(A / "shared", b"one")
     equal("a new file", (B / "shared").read_bytes(), b"one")
     for number in range(5):
@@ -607,7 +617,8 @@ def made(path):
 
 
 def what_is_lacking():
-    """RENAME, links and pipes are refused, and nothing is harmed; so is the removal of a file that is open."""
+    """RENAME, links and pipes are refused, and nothing is harmed; so is the removal of a file that
+    is open."""
     write(A / "file", b"x")
     lacks = (ENOTSUPP, errno.EOPNOTSUPP)
     refused("rename", lacks, lambda: os.rename(A / "file", A / "other"))
@@ -625,7 +636,8 @@ def what_is_lacking():
 
 
 def calls_of_eight_uses():
-    """How many calls the kernel makes for eight uses of 100 files. Another server is asked some 1007."""
+    """How many calls the kernel makes for eight uses of 100 files. Another server is asked some
+    1007."""
     folder = A / "uses"
     folder.mkdir()
     paths = [folder / f"file{number}" for number in range(100)]
@@ -656,7 +668,8 @@ def calls_of_eight_uses():
 
 
 def a_kill_under_a_copy():
-    """The service is killed while files are copied, and started again: each is there as it was told stable."""
+    """The service is killed while files are copied, and started again: each is there as it was told
+    stable."""
     (A / "killed").mkdir()
     for number in range(60):
         write(HERE / f"k{number}", bytes_of(40 * 1024))
@@ -665,15 +678,19 @@ def a_kill_under_a_copy():
             print("DO restart", flush=True)
         time.sleep(0.05)
     forget()
-    for number in range(60):
-        equal(f"file {number}", filecmp.cmp(HERE / f"k{number}", A / "killed" / f"k{number}", shallow=False), True)
+    same_files("by the same mount", A / "killed")
     mount("/", SMALL, PORT, ",nosharecache")
     try:
-        for number in range(60):
-            equal(f"file {number}, by a fresh mount", filecmp.cmp(HERE / f"k{number}", SMALL / "killed" / f"k{number}", shallow=False), True)
+        same_files("by a fresh mount", SMALL / "killed")
     finally:
         unmount(SMALL)
     run("rm", "-r", A / "killed")
+
+
+def same_files(what, folder):
+    for number in range(60):
+        is_same = filecmp.cmp(HERE / f"k{number}", folder / f"k{number}", shallow=False)
+        equal(f"file {number}, {what}", is_same, True)
 
 
 CHECKS = (

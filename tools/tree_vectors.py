@@ -1,9 +1,10 @@
 """What RFC 1813 and RFC 5531 ask for of a tree of files that `jnlfs serve` serves, call by call.
 
-A module: `tree-vectors` and the rows of rows/jnlfs/trees.py use it. Calls are bytes that are made by hand (`tree_calls.py`).
-Statuses, attributes and rights are written down here, from the standard and from what docs/OPERATING.md says that this tree
-is. `GROUPS` has what is asked over any new disk, and `DISKS` what needs disks or services of its own. Each raises `Differs`
-at the first answer that is another than the one that is written down.
+A module: `tree-vectors` and the rows of rows/jnlfs/trees.py use it. Calls are bytes that are made
+by hand (`tree_calls.py`). Statuses, attributes and rights are written down here, from the standard
+and from what docs/OPERATING.md says that this tree is. `GROUPS` has what is asked over any new
+disk, and `DISKS` what needs disks or services of its own. Each raises `Differs` at the first answer
+that is another than the one that is written down.
 """
 
 import os
@@ -199,7 +200,8 @@ def credentials(v):
     v.equal("GETATTR without its argument", v.connection.call(NFS, 3, GETATTR, b"", ROOT_USER), GARBAGE)
 
 
-# The arguments of each procedure, by a handle: with names that are there where the handle is that of the folder.
+# The arguments of each procedure, by a handle: with names that are there where the handle is that
+# of the folder.
 def arguments_by(handle, folder, file):
     return {
         GETATTR: opaque(handle),
@@ -227,7 +229,8 @@ def arguments_by(handle, folder, file):
 
 
 def handles(v):
-    """Handles that name nothing: of another disk, of another length, of numbers and generations that are not there."""
+    """Handles that name nothing: of another disk, of another length, of numbers and generations
+    that are not there."""
     folder = v.folder(v.root, b"handles")
     file = v.make(folder, b"gone")
     v.does("REMOVE", REMOVE, entry(folder, b"gone"))
@@ -297,9 +300,9 @@ def names(v):
         LINK: b"",
     }
     in_folder = lambda procedure, name: (opaque(file) if procedure == LINK else b"") + entry(folder, name)
-    no_names = {b"": INVAL, b"a/b": INVAL, b"/": INVAL, b"a\0b": INVAL, too_long: NAMETOOLONG, too_long + b"/": INVAL}
-    at_dots = {CREATE: (EXIST, EXIST), MKDIR: (EXIST, EXIST), SYMLINK: (EXIST, EXIST), MKNOD: (EXIST, EXIST), LINK: (EXIST, EXIST)}
-    at_dots |= {REMOVE: (ISDIR, ISDIR), RMDIR: (INVAL, EXIST)}
+    no_names = dict.fromkeys((b"", b"a/b", b"/", b"a\0b", too_long + b"/"), INVAL)
+    no_names[too_long] = NAMETOOLONG
+    at_dots = dict.fromkeys(new, (EXIST, EXIST)) | {REMOVE: (ISDIR, ISDIR), RMDIR: (INVAL, EXIST)}
     for procedure in (LOOKUP, *new, REMOVE, RMDIR):
         more = new.get(procedure, b"")
         for name, status in no_names.items():
@@ -345,7 +348,8 @@ def no_folder(v, file, new):
 
 
 def what_the_tree_lacks(v):
-    """READLINK, SYMLINK, MKNOD, LINK, RENAME and CREATE EXCLUSIVE are NOTSUPP, after what is wrong otherwise."""
+    """READLINK, SYMLINK, MKNOD, LINK, RENAME and CREATE EXCLUSIVE are NOTSUPP, after what is wrong
+    otherwise."""
     folder = v.folder(v.root, b"lacks", mode=0o755)
     file = v.make(folder, b"file")
     asked = settings()
@@ -379,7 +383,8 @@ def what_the_tree_lacks(v):
 
 
 def new_nodes(v):
-    """CREATE and MKDIR: what is told of the node and of its directory, and what GETATTR and LOOKUP tell of both."""
+    """CREATE and MKDIR: what is told of the node and of its directory, and what GETATTR and LOOKUP
+    tell of both."""
     folder = v.folder(v.root, b"new")
     v.looks("an empty folder", v.attributes(folder), kind=DIRECTORY, size=0, mode=0o755)
     for name, procedure, more, kind, mode in (
@@ -403,7 +408,8 @@ def new_nodes(v):
         found = v.does(f"LOOKUP {name}", LOOKUP, entry(folder, name))
         v.equal(f"LOOKUP {name}", found, Found(made.handle, made.attributes, made.directory.after))
     v.looks("a folder with names", v.attributes(folder), kind=DIRECTORY, size=BLOCK)
-    made = v.does("CREATE", CREATE, entry(folder, b"set") + words(GUARDED) + settings(0o600, 7, 8, 5000, FromServer, Time(5, 6)))
+    asked = settings(0o600, 7, 8, 5000, FromServer, Time(5, 6))
+    made = v.does("CREATE", CREATE, entry(folder, b"set") + words(GUARDED) + asked)
     v.looks("CREATE with settings", made.attributes, mode=0o600, user=7, group=8, size=5000, mtime=Time(5, 6))
     v.equal("new bytes are zeros", v.content(made.handle), bytes(5000))
     for procedure, more in ((CREATE, words(GUARDED)), (MKDIR, b"")):
@@ -535,8 +541,8 @@ def sizes(v):
 
 
 def times(v):
-    """ctime grows with each change, and a directory's times with each change of its names; both also over mtimes that a
-    client sets, and others stay."""
+    """ctime grows with each change, and a directory's times with each change of its names; both
+    also over mtimes that a client sets, and others stay."""
     folder = v.folder(v.root, b"times")
     file = v.make(folder, b"file")
     seen = [v.attributes(file).ctime]
@@ -599,7 +605,8 @@ def writing(v):
         before, data = v.attributes(file), bytes([offset % 251 + 1]) * size
         wrote = v.does(f"WRITE {size} at {offset}", WRITE, written(file, offset, data, how))
         v.changes(f"WRITE {size} at {offset}", wrote.change, before, file)
-        v.equal(f"WRITE {size} at {offset}", (wrote.count, wrote.committed), (size, UNSTABLE if how == UNSTABLE else FILE_SYNC))
+        committed = UNSTABLE if how == UNSTABLE else FILE_SYNC
+        v.equal(f"WRITE {size} at {offset}", (wrote.count, wrote.committed), (size, committed))
         verifiers.add(wrote.verifier)
         if size:
             expected = expected[:offset].ljust(offset, b"\0") + data + expected[offset + size :]
@@ -629,8 +636,9 @@ def reading(v):
     data = bytes(number * 7 % 251 for number in range(100000))
     for offset in range(0, len(data), TRANSFER):
         v.write(file, data[offset : offset + TRANSFER], offset)
-    for offset, count in ((0, 0), (0, 1), (0, 4096), (4090, 10), (1, 65536), (0, 65537), (0, 2**32 - 1), (99999, 1), (99999, 2),
-                          (99990, 5), (100000, 10), (100001, 10), (2**63, 10), (2**64 - 1, 2**32 - 1)):
+    within = ((0, 0), (0, 1), (0, 4096), (4090, 10), (1, 65536), (0, 65537), (0, 2**32 - 1), (99990, 5))
+    at_end = ((99999, 1), (99999, 2), (100000, 10), (100001, 10), (2**63, 10), (2**64 - 1, 2**32 - 1))
+    for offset, count in within + at_end:
         portion = v.does(f"READ {count} at {offset}", READ, at_place(file, offset, count))
         wanted = data[offset : offset + min(count, TRANSFER)]
         v.equal(f"READ {count} at {offset}", (portion.count, portion.data), (len(wanted), wanted))
@@ -752,7 +760,8 @@ def sticky(v, folder):
     for name, make, procedure in ((b"file", v.make, REMOVE), (b"folder", v.folder, RMDIR)):
         for by, status in ((STRANGER, ACCES), (OWNER, OK), (MEMBER, OK), (ROOT_USER, OK)):
             make(folder, name, OWNER)
-            v.equal(f"{NAMES[procedure]} of a sticky folder", v.ask("sticky", procedure, entry(folder, name), by)[0], status)
+            told = v.ask("sticky", procedure, entry(folder, name), by)[0]
+            v.equal(f"{NAMES[procedure]} of a sticky folder", told, status)
             if status != OK:
                 v.does("root removes it", procedure, entry(folder, name))
 
@@ -828,10 +837,14 @@ def check_pages(v, folder, lines):
         v.refuses(f"READDIR of {count} bytes", TOOSMALL, READDIR, listed(folder, 0, count))
 
 
+# How many bytes a page may have: of numbers, names and cookies alone, and in all.
+PLUS_COUNTS = ((65536, 65536), (0, 65536), (28, 65536), (60, 65536), (65536, 500), (65536, FRAME + PLUS + 28), (512, 8192))
+
+
 def check_pages_plus(v, folder, lines, made):
     for start in (0, 2, 30):
         cookie = lines[start - 1].cookie if start else 0
-        for names_count, count in ((65536, 65536), (0, 65536), (28, 65536), (60, 65536), (65536, 500), (65536, FRAME + PLUS + 28), (512, 8192)):
+        for names_count, count in PLUS_COUNTS:
             by_names = fitting(lines[start:], names_count, line_bytes)
             by_all = fitting(lines[start:], count - FRAME, lambda line: line_bytes(line) + PLUS)
             fits = min(by_names, by_all)
@@ -952,9 +965,10 @@ def full_disk(jnlfs, folder):
         other = v.folder(v.root, b"folder")
         v.refuses("CREATE in a folder without a block", NOSPC, CREATE, entry(other, b"x") + words(GUARDED) + settings())
         v.does("REMOVE", REMOVE, entry(v.root, b"file"))
+        inner = v.make(other, b"x")
         for number in range(disk.data_blocks - 2):
-            v.write(v.make(other, b"x") if number == 0 else v.does("LOOKUP", LOOKUP, entry(other, b"x")).handle, b"e" * BLOCK, BLOCK * number)
-        v.set(v.does("LOOKUP", LOOKUP, entry(other, b"x")).handle, size=0)
+            v.write(inner, b"e" * BLOCK, BLOCK * number)
+        v.set(inner, size=0)
         v.write(v.make(v.root, b"again"), b"f" * BLOCK)
         all_numbers_taken(v, disk)
         return v.compared
@@ -1044,7 +1058,8 @@ def another_run(jnlfs, folder):
 
 
 def standing_clock(jnlfs, folder):
-    """Where the clock cannot be read it shows 0 for ever, and times grow all the same, by a nanosecond each."""
+    """Where the clock cannot be read it shows 0 for ever, and times grow all the same, by a
+    nanosecond each."""
     library = folder / "refuse_clock.so"
     source = Path(__file__).resolve().parent / "refuse_clock.c"
     subprocess.run(["cc", "-shared", "-fPIC", source, "-o", library, "-ldl"], check=True)
@@ -1076,6 +1091,7 @@ def shared_disk(jnlfs, folder, group):
 
 
 def all_groups(jnlfs, folder):
-    """Each group by its name, as a function that asks it and answers how many things it has compared."""
+    """Each group by its name, as a function that asks it and answers how many things it has
+    compared."""
     groups = {group.__name__: lambda group=group: shared_disk(jnlfs, folder, group) for group in GROUPS}
     return groups | {group.__name__: lambda group=group: group(jnlfs, folder) for group in DISKS}
