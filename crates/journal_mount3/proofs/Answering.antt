@@ -29,7 +29,7 @@ use Rattle.journal_server.specs.FileProtocols.{IsAwaitedCall, StandsInFor}
 use Rattle.journal_mount3.specs.declared.results.Told as code_told
 use Rattle.journal_mount3.specs.declared.results.Told.TheVariants as code_tellings
 use Rattle.journal_nfs3_wire.specs.Queries.{Query}
-use Rattle.journal_mount3.specs.Arguments.{MountCall}
+use Rattle.journal_mount_wire.specs.Arguments.{MountCall}
 use Rattle.journal_mount3.specs.Calls.{Requested, nine, query, mount, asks}
 use Rattle.journal_mount3.specs.Results.{QueryResults, query_text}
 use Rattle.journal_mount3.specs.Mounts.{mount_text}

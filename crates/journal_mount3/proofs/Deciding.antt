@@ -5,10 +5,9 @@ use Rattle.journal_rpc.specs.declared.replies.CallRefused.{CallRefused}
 use Rattle.journal_rpc.specs.declared.replies.CallRefused.TheVariants.{RpcMismatch, ProgramUnavailable, ProgramMismatch, ProcedureUnavailable, GarbageArguments}
 use Rattle.journal_rpc.specs.Calls.{Asked, OtherVersion, Procedure}
 use Rattle.journal_rpc.specs.CallViews.{Routes}
-use Rattle.journal_mount3.specs.Procedures.{mount_procedure_of}
 use Rattle.journal_mount3.specs.Calls.{asks, asks_files, asks_mount}
 
-pub asks_of_mount : (asked : Asked) (procedure : ℕ) (arguments : List ℕ) → asked ≡ Procedure 100005 3 procedure arguments → asks asked ≡ asks_mount (mount_procedure_of procedure) arguments
+pub asks_of_mount : (asked : Asked) (procedure : ℕ) (arguments : List ℕ) → asked ≡ Procedure 100005 3 procedure arguments → asks asked ≡ asks_mount procedure arguments
 asks_of_mount asked procedure arguments is = ap asks is
 
 pub asks_of_files : (asked : Asked) (procedure : ℕ) (arguments : List ℕ) → asked ≡ Procedure 100003 3 procedure arguments → asks asked ≡ asks_files procedure arguments

@@ -22,6 +22,11 @@ pub root_in : handle_in (74 ∷ 78 ∷ 76 ∷ 49 ∷ 0 ∷ 0 ∷ 0 ∷ 1 ∷ 0 �
 unfolding file_handle word spelled_number
 root_in = refl
 
+-- and these bytes are it
+pub root_is : 74 ∷ 78 ∷ 76 ∷ 49 ∷ 0 ∷ 0 ∷ 0 ∷ 1 ∷ 0 ∷ 0 ∷ 0 ∷ 1 ∷ [] ≡ file_handle.spelling root_handle
+unfolding file_handle word
+root_is = refl
+
 -- a LOOKUP as journal_nfs3 does it
 abbrev looks_at : FormatVersion → Option FileHandle → List ℕ → SessionState → SessionState → Result Found NfsError → Type 0
 looks_at version handle name old new told =

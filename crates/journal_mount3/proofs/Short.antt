@@ -3,13 +3,12 @@ use Rattle.std.proofs.Common.{◌≡◌, ◌+◌, ◌<◌, ◌≤◌, ◌^◌, �
 use Rattle.std.specs.Result.{ForOk}
 use Rattle.std.proofs.lemmas.List.{length-append}
 use Rattle.journal_xdr.specs.Items.{Item}
-use Rattle.journal_xdr.specs.Basic.{word, hyper, boolean, string, opaque, fixed}
+use Rattle.journal_xdr.specs.Basic.{word, hyper, boolean}
 use Rattle.journal_xdr.specs.BasicLaws.{length-word, length-hyper, length-boolean}
 use Rattle.journal_inode.specs.declared.version.FormatVersion.{FormatVersion}
 use Rattle.journal_nfs3_wire.specs.declared.results.NfsError.{NfsError}
 use Rattle.journal_nfs3_wire.specs.Arguments.{time}
-use Rattle.journal_nfs3_wire.specs.Handles.{file_handle}
-use Rattle.journal_nfs3_wire.specs.Results.{given_handle, post_op_attributes}
+use Rattle.journal_nfs3_wire.specs.Results.{post_op_attributes}
 use Rattle.journal_nfs3_wire.specs.QueryResults.{entry, AccessResults, access_results, StatusResults, status_results, InformationResults, information_results, ConfigurationResults, configuration_results, page_results}
 use Rattle.journal_nfs3_wire.proofs.ResultFacts.{length-time, after_short, ok_short, err_short}
 use Rattle.journal_mount3.specs.declared.entry.PlainEntry as code_plain
@@ -19,12 +18,9 @@ use Rattle.journal_rpc.specs.declared.replies.CallRefused.{CallRefused}
 use Rattle.journal_mount3.specs.declared.results.Told as code_told
 use Rattle.journal_mount3.specs.declared.results.QueryResults as code_query
 use Rattle.journal_mount3.specs.declared.results.QueryResults.TheVariants as code_queries
-use Rattle.journal_mount3.specs.declared.results.MountResults as code_mount
-use Rattle.journal_mount3.specs.declared.results.MountResults.TheVariants as code_mounts
 use Rattle.journal_mount3.specs.Entries.{entry_plus}
 use Rattle.journal_mount3.specs.Results.{told, query_text}
-use Rattle.journal_mount3.specs.Mounts.{export}
-use Rattle.journal_mount3.specs.CodeViews.{listed_of, access_seen, status_seen, plain_entry_of, plus_entry_of, page_seen, query_results_of, mount_results_text, told_text}
+use Rattle.journal_mount3.specs.CodeViews.{listed_of, access_seen, status_seen, plain_entry_of, plus_entry_of, page_seen, query_results_of, told_text}
 use Rattle.journal_mount3.specs.Served.{information_of, configuration_of}
 use Rattle.journal_mount3.proofs.Lengths.{length-plain, length-plus, length-page}
 
@@ -154,14 +150,6 @@ query_short version (code_queries.FileSystemInformation (Ok a)) = omega (arith, 
 query_short version (code_queries.FileSystemInformation (Err why)) = omega (arith, refused_short information_results why)
 query_short version (code_queries.PathConfiguration (Ok a)) = omega (arith, ok_short configuration_results post_op_attributes (configuration_of version a) 112 (configuration_short (configuration_of version a)))
 query_short version (code_queries.PathConfiguration (Err why)) = omega (arith, refused_short configuration_results why)
-
-pub mount_short : (r : code_mount.MountResults) → length (mount_results_text r) < 2 ^ 30
-unfolding word boolean string opaque fixed export given_handle file_handle
-mount_short code_mounts.Nothing = omega arith
-mount_short code_mounts.Mounted = omega arith
-mount_short code_mounts.NoEntry = omega arith
-mount_short code_mounts.NoMounts = omega arith
-mount_short code_mounts.Exports = omega arith
 
 told_is : (a b : code_told.Told) → ◌≡◌ {A = Result code_told.Told CallRefused} (Ok a) (Ok b) → a ≡ b
 told_is a b e = cc

@@ -2,7 +2,7 @@
 -- section 3.3 and appendix I).
 use Rattle.std.specs.Prelude.{ℕ, ◌==◌, if◌then◌else◌, List, Option, Some, None, Result, Ok, Err}
 use Rattle.journal_rpc.specs.declared.replies.CallRefused.{CallRefused}
-use Rattle.journal_rpc.specs.declared.replies.CallRefused.TheVariants.{RpcMismatch, ProgramUnavailable, ProgramMismatch, ProcedureUnavailable, GarbageArguments}
+use Rattle.journal_rpc.specs.declared.replies.CallRefused.TheVariants.{RpcMismatch, ProgramUnavailable, ProgramMismatch, GarbageArguments}
 use Rattle.journal_rpc.specs.Calls.{Asked, OtherVersion, Procedure}
 use Rattle.journal_nfs3_wire.specs.Arguments.{Operation, operation_of}
 use Rattle.journal_nfs3_wire.specs.Calls.{called}
@@ -11,12 +11,10 @@ use Rattle.journal_nfs3_wire.specs.declared.query.Query as code_query
 use Rattle.journal_nfs3_wire.specs.declared.query.QueryProcedure.{QueryProcedure}
 use Rattle.journal_nfs3_wire.specs.Queries.{query_procedure_of, Query, query_of, query_arguments}
 use Rattle.journal_nfs3_wire.specs.Whole.{whole}
-use Rattle.journal_mount3.specs.declared.arguments.MountCall as code_mount
 use Rattle.journal_mount3.specs.declared.arguments.Requested as code_requested
 use Rattle.journal_mount3.specs.declared.arguments.Requested.TheVariants as code_requests
-use Rattle.journal_mount3.specs.declared.procedure.MountProcedure.{MountProcedure}
-use Rattle.journal_mount3.specs.Procedures.{mount_procedure_of}
-use Rattle.journal_mount3.specs.Arguments.{MountCall, mount_call_of, mount_arguments}
+use Rattle.journal_mount_wire.specs.Arguments.{MountCall, mount_call_of}
+use Rattle.journal_mount_wire.specs.Requests.{mount_requested}
 
 -- The question: one of the nine procedures, or another of the programs'
 pub data Requested : Type 0 where
@@ -40,16 +38,19 @@ asks_query None number arguments = asks_nine (called (procedure_of number) argum
 abbrev pub asks_files : ℕ → List ℕ → Result Requested CallRefused
 asks_files number arguments = asks_query (query_procedure_of number) number arguments
 
--- MOUNT
-abbrev pub asks_mount : Option MountProcedure → List ℕ → Result Requested CallRefused
-asks_mount None arguments = Err ProcedureUnavailable
-asks_mount (Some procedure) arguments = refusable mount (whole (mount_arguments procedure) arguments)
+-- MOUNT: what journal_mount_wire makes of the number
+abbrev pub asks_mount_call : Result MountCall CallRefused → Result Requested CallRefused
+asks_mount_call (Ok call) = Ok (mount call)
+asks_mount_call (Err why) = Err why
+
+abbrev pub asks_mount : ℕ → List ℕ → Result Requested CallRefused
+asks_mount number arguments = asks_mount_call (mount_requested number arguments)
 
 -- The program is looked at first, and then its version, which is 3 of each
 abbrev pub asks : Asked → Result Requested CallRefused
 asks OtherVersion = Err RpcMismatch
 asks (Procedure program version procedure arguments) =
-    if program == 100005 then (if version == 3 then asks_mount (mount_procedure_of procedure) arguments else Err (ProgramMismatch 3))
+    if program == 100005 then (if version == 3 then asks_mount procedure arguments else Err (ProgramMismatch 3))
     else if program == 100003 then (if version == 3 then asks_files procedure arguments else Err (ProgramMismatch 3))
     else Err ProgramUnavailable
 
@@ -66,7 +67,3 @@ decided (Err why) = Err why
 abbrev pub found_query : Option code_query.Query → Option Query
 found_query None = None
 found_query (Some q) = Some (query_of q)
-
-abbrev pub found_mount : Option code_mount.MountCall → Option MountCall
-found_mount None = None
-found_mount (Some c) = Some (mount_call_of c)

@@ -1,7 +1,8 @@
 -- The meaning of the code's values.
-use Rattle.std.specs.Prelude.{◌≡◌, ℕ, ◌-◌, ◌≤◌, true, false, List, [], ◌++◌, length, map, Option, Some, None, Result, Ok, Err}
+use Rattle.std.specs.Prelude.{◌≡◌, ℕ, ◌-◌, ◌≤◌, List, ◌++◌, length, map, Option, Some, None, Result, Ok, Err}
 use Rattle.journal_inode.specs.declared.version.FormatVersion.{FormatVersion}
 use Rattle.journal_rpc.specs.declared.replies.CallRefused.{CallRefused}
+use Rattle.journal_nfs3_wire.specs.declared.procedure.Procedure.{Procedure}
 use Rattle.journal_nfs3_wire.specs.declared.results.NfsError.{NfsError}
 use Rattle.journal_xdr.specs.Basic.{boolean, fixed}
 use Rattle.journal_xdr.specs.Lists.{list_text}
@@ -23,13 +24,9 @@ use Rattle.journal_mount3.specs.declared.results.QueryResults as code_query
 use Rattle.journal_mount3.specs.declared.results.QueryResults.TheVariants as code_queries
 use Rattle.journal_mount3.specs.declared.results.Told as code_told
 use Rattle.journal_mount3.specs.declared.results.Told.TheVariants as code_tellings
-use Rattle.journal_mount3.specs.declared.results.MountResults as code_mount
-use Rattle.journal_mount3.specs.declared.results.MountResults.TheVariants as code_mounts
-use Rattle.journal_mount3.specs.Arguments.{Dump, Export}
 use Rattle.journal_mount3.specs.Entries.{EntryPlus, entry_of, entry_plus_of}
 use Rattle.journal_mount3.specs.Listings.{Listed, Seen, page_of, cookie_verifier}
 use Rattle.journal_mount3.specs.Served.{information_of, configuration_of}
-use Rattle.journal_mount3.specs.Mounts.{mounted_text, mount_text}
 use Rattle.journal_mount3.specs.Results.{query_text}
 use Rattle.journal_mount3.specs.Results as results
 
@@ -88,18 +85,11 @@ query_results_of version (code_queries.FileSystemStatus r) = results.FileSystemS
 query_results_of version (code_queries.FileSystemInformation r) = results.FileSystemInformation (told_of (information_of version) r)
 query_results_of version (code_queries.PathConfiguration r) = results.PathConfiguration (told_of (configuration_of version) r)
 
-abbrev pub mount_results_text : code_mount.MountResults → List ℕ
-mount_results_text code_mounts.Nothing = []
-mount_results_text code_mounts.Mounted = mounted_text true
-mount_results_text code_mounts.NoEntry = mounted_text false
-mount_results_text code_mounts.NoMounts = mount_text Dump
-mount_results_text code_mounts.Exports = mount_text Export
-
--- how what a call is told is spelled
+-- How what a call is told is spelled. A reply of MOUNT is seen as its text
 abbrev pub told_text : code_told.Told → List ℕ
 told_text (code_tellings.Nine r) = results_text (results_of r.version r.results)
 told_text (code_tellings.Query version r) = query_text (query_results_of version r)
-told_text (code_tellings.Mount r) = mount_results_text r
+told_text (code_tellings.Mount text) = text
 
 abbrev pub texts_of : Result code_told.Told CallRefused → Result (List ℕ) CallRefused
 texts_of (Ok r) = Ok (told_text r)
@@ -111,10 +101,18 @@ listing_text spelling (Err why) = status.spelling (Some why) ++ post_op_attribut
 listing_text spelling (Ok l) =
     status.spelling None ++ post_op_attributes.spelling None ++ (fixed 8).spelling cookie_verifier ++ list_text spelling l.entries.items ++ boolean.spelling l.is_end
 
+-- the procedure of a reply, if it is one of the nine
+abbrev pub procedure_of : Result code_told.Told CallRefused → Option Procedure
+procedure_of (Ok (code_tellings.Nine r)) = Some (procedure_of_results (results_of r.version r.results))
+procedure_of told = None
+
 -- the wait of a reply, with its procedure
+abbrev pub wait_of : {P : Type 0} → Option Procedure → PendingWait P → Option (ReplyWait P)
+wait_of (Some procedure) (Wait receipt) = Some (record { procedure = procedure; receipt = receipt })
+wait_of procedure wait = None
+
 abbrev pub reply_wait_of : {P : Type 0} → Result code_told.Told CallRefused → PendingWait P → Option (ReplyWait P)
-reply_wait_of (Ok (code_tellings.Nine r)) (Wait receipt) = Some (record { procedure = procedure_of_results (results_of r.version r.results); receipt = receipt })
-reply_wait_of told wait = None
+reply_wait_of told wait = wait_of (procedure_of told) wait
 
 -- the wait is of one of the nine procedures, which was asked; any other reply has none
 abbrev pub IsWaitFor : {P : Type 0} → Result code_told.Told CallRefused → PendingWait P → Result Operation CallRefused → Type 0

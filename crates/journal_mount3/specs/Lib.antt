@@ -1,5 +1,3 @@
-pub mod Procedures
-pub mod Arguments
 pub mod Calls
 pub mod Entries
 pub mod Roots

@@ -13,10 +13,9 @@ use Rattle.journal_nfs3_wire.specs.Queries.{query_procedure_of, Query, query_arg
 use Rattle.journal_nfs3_wire.specs.Whole.{whole}
 use Rattle.journal_rpc.specs.declared.replies.CallRefused.{CallRefused}
 use Rattle.journal_rpc.specs.declared.replies.CallRefused.TheVariants.{ProgramUnavailable, ProgramMismatch}
-use Rattle.journal_mount3.specs.declared.procedure.MountProcedure.{MountProcedure}
-use Rattle.journal_mount3.specs.Procedures.{mount_procedure_of}
-use Rattle.journal_mount3.specs.Arguments.{MountCall, mount_arguments}
-use Rattle.journal_mount3.specs.Calls.{Requested, nine, query, mount, refusable, asks, asks_nine, asks_query, asks_files, asks_mount}
+use Rattle.journal_mount_wire.specs.Arguments.{MountCall}
+use Rattle.journal_mount_wire.specs.Requests.{mount_requested}
+use Rattle.journal_mount3.specs.Calls.{Requested, nine, query, refusable, asks, asks_nine, asks_query, asks_files, asks_mount, asks_mount_call}
 
 -- no number is that of one of the nine and of another procedure of NFS
 no_query : (p : file_procedure.Procedure) → query_procedure_of (procedure_number p) ≡ None
@@ -75,26 +74,22 @@ query_not_nine : (o : Option Query) (operation : Operation) → refusable query 
 query_not_nine None operation e = absurd cc
 query_not_nine (Some q) operation e = absurd cc
 
-mount_not_nine : (o : Option MountCall) (operation : Operation) → refusable mount o ≡ Ok (nine operation) → ⊥
-mount_not_nine None operation e = absurd cc
-mount_not_nine (Some q) operation e = absurd cc
+mount_not_nine : (r : Result MountCall CallRefused) (operation : Operation) → asks_mount_call r ≡ Ok (nine operation) → ⊥
+mount_not_nine (Ok call) operation e = absurd cc
+mount_not_nine (Err why) operation e = absurd cc
 
 pub nine_asked : (asked : Asked) (operation : Operation) → asks asked ≡ Ok (nine operation) → asks_nine_alone asked ≡ Ok operation
 nine_asked OtherVersion operation is = absurd cc
 nine_asked (Procedure program version number arguments) operation is = of (program == 100005) (program == 100003) (version == 3) refl refl refl
   where
-    of_mount : (o : Option MountProcedure) → asks_mount o arguments ≡ Ok (nine operation) → ⊥
-    of_mount None e = absurd cc
-    of_mount (Some p) e = mount_not_nine (whole (mount_arguments p) arguments) operation e
-
     of_query : (o : Option QueryProcedure) → asks_query o number arguments ≡ Ok (nine operation) → called (procedure_of number) arguments ≡ Ok operation
     of_query None e = nine_is (called (procedure_of number) arguments) operation e
     of_query (Some p) e = absurd (query_not_nine (whole (query_arguments p) arguments) operation e)
 
     of : (a b c : Bool) → (program == 100005) ≡ a → (program == 100003) ≡ b → (version == 3) ≡ c → asks_nine_alone (Procedure program version number arguments) ≡ Ok operation
     of true b true e f g =
-        let here : asks (Procedure program version number arguments) ≡ asks_mount (mount_procedure_of number) arguments = rw (e, g) refl in
-        absurd (of_mount (mount_procedure_of number) (sym here ∙ is))
+        let here : asks (Procedure program version number arguments) ≡ asks_mount number arguments = rw (e, g) refl in
+        absurd (mount_not_nine (mount_requested number arguments) operation (sym here ∙ is))
     of true b false e f g =
         let here : asks (Procedure program version number arguments) ≡ Err (ProgramMismatch 3) = rw (e, g) refl in
         let bad : Err (ProgramMismatch 3) ≡ Ok (nine operation) = sym here ∙ is in

@@ -3,22 +3,13 @@ ghost use Rattle.std.specs.Prelude.{◌≡◌};
 ghost use Rattle.journal_rpc.specs.CallViews.{asked_of};
 ghost use Rattle.journal_nfs3_wire.specs.Queries.{query_procedure_of, query_arguments};
 ghost use Rattle.journal_nfs3_wire.specs.Whole.{whole};
-ghost use Rattle.journal_mount3.specs.Arguments.{mount_arguments};
-ghost use Rattle.journal_mount3.specs.Procedures.{mount_procedure_of};
-ghost use Rattle.journal_mount3.specs.Calls.{asks, asks_files, asks_mount, decided, found_query, found_mount};
+ghost use Rattle.journal_mount3.specs.Calls.{asks, asks_files, asks_mount, decided, found_query};
 
-use crate::arguments::{MountCall, Requested};
-use crate::procedure::MountProcedure;
-use crate::reading::read_mount;
+use crate::arguments::Requested;
+use journal_mount_wire::{MOUNT_PROGRAM, MOUNT_VERSION, read_mount_call};
 use journal_nfs3_wire::{PROGRAM, Query, QueryProcedure, VERSION, decide_procedure, read_query};
 use journal_rpc::{Call, CallRefused};
 use journal_xdr::{Enumeration, Reader};
-
-/// The number of the program MOUNT (RFC 1813, appendix I).
-pub const MOUNT_PROGRAM: u32 = 100_005;
-
-/// The version of it that is served.
-pub const MOUNT_VERSION: u32 = 3;
 
 // The question of a call, or why it is refused. The first of these that holds is answered: it is in
 // another version of RPC, it asks a program that is not served, another version of one that is, or
@@ -53,15 +44,9 @@ fn decide_files(number: u32, arguments: &[u8]) -> Result<Requested<'_>, CallRefu
 
 // The question to MOUNT.
 fn decide_mount(number: u32, arguments: &[u8]) -> Result<Requested<'_>, CallRefused>
-    ensures { decided result ≡ asks_mount (mount_procedure_of number) arguments.now }
+    ensures { decided result ≡ asks_mount number arguments.now }
 {
-    let Some(procedure) = MountProcedure::from_number(number) else {
-        return Err(CallRefused::ProcedureUnavailable);
-    };
-    match read_whole_mount(procedure, arguments) {
-        Some(call) => Ok(Requested::Mount(call)),
-        None => Err(CallRefused::GarbageArguments),
-    }
+    Ok(Requested::Mount(read_mount_call(number, arguments)?))
 }
 
 // Reads arguments, behind which nothing is to stand.
@@ -75,13 +60,4 @@ fn read_whole_query(procedure: QueryProcedure, bytes: &[u8]) -> Option<Query<'_>
     } else {
         None
     }
-}
-
-// The same of MOUNT.
-fn read_whole_mount(procedure: MountProcedure, bytes: &[u8]) -> Option<MountCall<'_>>
-    ensures { found_mount result ≡ whole (mount_arguments procedure) bytes.now }
-{
-    let mut reader = Reader::new(bytes);
-    let call = read_mount(procedure, &mut reader)?;
-    if reader.is_at_end() { Some(call) } else { None }
 }

@@ -21,7 +21,7 @@ use std::alloc::Global;
 use std::sync::Wait;
 
 // The handle of the root.
-const ROOT_HANDLE: [u8; 12] = *b"JNL1\0\0\0\x01\0\0\0\x01";
+pub(crate) const ROOT_HANDLE: &[u8] = b"JNL1\0\0\0\x01\0\0\0\x01";
 
 // The numbers of the files.
 pub(crate) const FIRST_FILE: u32 = 2;
@@ -167,7 +167,7 @@ pub(crate) fn find_file<'b, D: BlockDisk, J: Naming, V: Version, W: Wait>(
 {
     let name = file_name(number);
     let place = DirectoryEntry {
-        directory: &ROOT_HANDLE,
+        directory: ROOT_HANDLE,
         name: &name,
     };
     match look_up(rt, session, files, &place) {

@@ -16,16 +16,13 @@ use journal_filestore::FileStore;
 use journal_history::{Naming, Receipt, Session};
 use journal_inode::{SoundFiles, Time, Version};
 use journal_nfs3::PendingReply;
-use journal_nfs3_wire::{Operation, Procedure, Query, Verifier};
+use journal_nfs3_wire::{NfsError, Operation, Procedure, Query, Verifier};
 use journal_rpc::{Call, CallRefused, Results, write_reply};
 use journal_server::{FileProtocol, Programs};
 use journal_world::{Layout, Moment, Refusal};
 use journal_xdr::Writer;
 use std::alloc::{AllocError, Global};
 use std::sync::Wait;
-
-// NFS3ERR_ROFS (RFC 1813, section 2.6).
-const READ_ONLY: u32 = 30;
 
 // The rights of ACCESS that change nothing: READ 1 and LOOKUP 2 (RFC 1813, section 3.3.4).
 const READING: u32 = 0x03;
@@ -59,7 +56,7 @@ impl Results for Denied {
     ghost spelling = { λ _. denied_text };
 
     fn write(&self, writer: &mut Writer) -> Result<(), AllocError> {
-        writer.word(READ_ONLY)?;
+        writer.word(NfsError::ReadOnly as u32)?;
         writer.boolean(false)?;
         writer.boolean(false)
     }

@@ -11,7 +11,7 @@ ghost use Rattle.journal_nfs3_wire.specs.Arguments.{operation_of};
 ghost use Rattle.journal_nfs3_wire.specs.Calls.{asks as asks_nine};
 ghost use Rattle.journal_mount3.specs.Calls.{nine, asks};
 ghost use Rattle.journal_mount3.specs.Answers.{AnswersBoth, Comes};
-ghost use Rattle.journal_mount3.specs.CodeViews.{told_text, texts_of, reply_wait_of, IsWaitFor};
+ghost use Rattle.journal_mount3.specs.CodeViews.{told_text, texts_of, procedure_of, wait_of, IsWaitFor};
 
 use crate::arguments::Requested;
 use crate::decision::decide;
@@ -23,7 +23,7 @@ use journal_filestore::{FileStore, PendingWait};
 use journal_history::{Naming, Receipt, Session};
 use journal_inode::{SoundFiles, Time, Version};
 use journal_nfs3::{Pending, PendingReply, ReplyWait, serve_no_wait};
-use journal_nfs3_wire::{FormatResults, Operation, Results, Verifier};
+use journal_nfs3_wire::{FormatResults, Operation, Procedure, Results, Verifier};
 use journal_rpc::{Call, CallRefused, write_reply};
 use journal_world::{Layout, Moment};
 use std::alloc::{AllocError, Global};
@@ -60,7 +60,8 @@ pub(crate) fn answer_no_wait<'b, D: BlockDisk, J: Naming, V: Version, W: Wait>(
 {
     let Pending { value, wait } = run_no_wait(rt, alloc, session, call, files, exported, moment);
     let reply = write_reply(alloc, call.xid, &value, room_for(&value))?;
-    let wait = awaited(&value, wait);
+    let procedure = procedure_of(&value);
+    let wait = awaited(procedure, wait);
     Ok(PendingReply { reply, wait })
 }
 
@@ -125,18 +126,22 @@ fn serve_nine<'b, D: BlockDisk, J: Naming, V: Version, W: Wait>(
     }
 }
 
-// The wait, with the procedure of the results that wait.
-fn awaited<P: Drop>(
-    outcome: &Result<Told, CallRefused>,
-    wait: PendingWait<P>,
-) -> Option<ReplyWait<P>>
-    ensures { result ≡ reply_wait_of outcome.now wait }
+// The procedure of a reply, if it is one of the nine.
+fn procedure_of(outcome: &Result<Told, CallRefused>) -> Option<Procedure>
+    ensures { result ≡ procedure_of outcome.now }
 {
-    match (outcome, wait) {
-        (Ok(Told::Nine(results)), PendingWait::Wait(receipt)) => Some(ReplyWait {
-            procedure: results.procedure(),
-            receipt,
-        }),
+    match outcome {
+        Ok(Told::Nine(results)) => Some(results.procedure()),
+        _ => None,
+    }
+}
+
+// The wait of a reply, with its procedure.
+fn awaited<P: Drop>(procedure: Option<Procedure>, wait: PendingWait<P>) -> Option<ReplyWait<P>>
+    ensures { result ≡ wait_of procedure wait }
+{
+    match (procedure, wait) {
+        (Some(procedure), PendingWait::Wait(receipt)) => Some(ReplyWait { procedure, receipt }),
         _ => None,
     }
 }

@@ -6,11 +6,11 @@ ghost use Rattle.journal_mount3.specs.CodeViews.{query_results_of};
 use crate::entry::{PlainEntry, PlusEntry};
 use crate::page::Listing;
 use crate::writing::{
-    write_access, write_information, write_listing, write_mount, write_path_configuration,
-    write_use,
+    write_access, write_information, write_listing, write_path_configuration, write_use,
 };
 use journal_filestore::Attributes;
 use journal_inode::FormatVersion;
+use journal_mount_wire::MountReply;
 use journal_nfs3_wire::{FormatResults, NfsError};
 use journal_xdr::Writer;
 use std::alloc::AllocError;
@@ -45,27 +45,12 @@ pub(crate) enum QueryResults {
     PathConfiguration(Result<Attributes, NfsError>),
 }
 
-// The answer of a procedure of MOUNT.
-#[derive(Clone, Copy, Debug)]
-pub(crate) enum MountResults {
-    // NULL, UMNT and UMNTALL answer nothing.
-    Nothing,
-    // The path is exported.
-    Mounted,
-    // It is not.
-    NoEntry,
-    // Nobody is told who has mounted what.
-    NoMounts,
-    // The paths that are exported.
-    Exports,
-}
-
 // The answer of a call.
 #[derive(Debug, Drop)]
 pub(crate) enum Told {
     Nine(FormatResults),
     Query(FormatVersion, QueryResults),
-    Mount(MountResults),
+    Mount(MountReply<'static>),
 }
 
 impl journal_rpc::Results for Told {
@@ -77,7 +62,7 @@ impl journal_rpc::Results for Told {
         match self {
             Told::Nine(results) => journal_rpc::Results::write(results, writer),
             Told::Query(version, results) => results.write(writer, *version),
-            Told::Mount(results) => write_mount(writer, *results),
+            Told::Mount(reply) => journal_rpc::Results::write(reply, writer),
         }
     }
 }

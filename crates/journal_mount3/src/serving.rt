@@ -1,23 +1,23 @@
 // The questions beside the nine procedures are answered.
-ghost use Rattle.std.specs.Prelude.{◌≡◌, ℕ, Result, IfOk, IfErr};
+ghost use Rattle.std.specs.Prelude.{◌≡◌, ◌≤◌, ℕ, Result, length, IfOk, IfErr};
 ghost use Rattle.journal_file_types.specs.declared.reply.Attributes.{Attributes};
 ghost use Rattle.journal_nfs3_wire.specs.declared.results.NfsError.{NfsError};
 ghost use Rattle.journal_nfs3_wire.specs.Queries.{query_of};
-ghost use Rattle.journal_mount3.specs.Arguments.{mount_call_of};
-ghost use Rattle.journal_mount3.specs.Mounts.{mount_text, is_exported};
+ghost use Rattle.journal_mount_wire.specs.Arguments.{mount_call_of};
+ghost use Rattle.journal_mount3.specs.Mounts.{mount_text};
 ghost use Rattle.journal_mount3.specs.Listings.{IsCutShort};
 ghost use Rattle.journal_mount3.specs.Served.{Queries, TellsThen, TellsNow, StatusOf, FindsAll, access_of, rights_of, shown};
-ghost use Rattle.journal_mount3.specs.CodeViews.{query_results_of, mount_results_text, told_of, access_seen, status_seen};
+ghost use Rattle.journal_mount3.specs.CodeViews.{query_results_of, told_of, access_seen, status_seen};
 
-use crate::arguments::MountCall;
 use crate::entry::{PlainEntry, PlusEntry};
-use crate::listing::{FIRST_FILE, LAST_FILE, find_file, list, plain_room, plus_room};
-use crate::results::{Granted, MountResults, QueryResults, SpaceUse};
+use crate::listing::{FIRST_FILE, LAST_FILE, ROOT_HANDLE, find_file, list, plain_room, plus_room};
+use crate::results::{Granted, QueryResults, SpaceUse};
 use crate::root::{ROOT, attributes_at};
 use journal_disk::BlockDisk;
 use journal_filestore::{Attributes, FileStore};
 use journal_history::{Naming, Session};
 use journal_inode::{SoundFiles, Time, Version};
+use journal_mount_wire::{MountCall, MountReply, answer};
 use journal_nfs3::get_attributes;
 use journal_nfs3_wire::{NfsError, Query, used_bytes};
 use journal_world::{BLOCK_BYTES, FIRST_DATA, Layout};
@@ -175,29 +175,9 @@ fn count_files<'b, D: BlockDisk, J: Naming, V: Version, W: Wait>(
 }
 
 // The answer of a call of MOUNT.
-pub(crate) fn serve_mount(call: &MountCall<'_>) -> MountResults
-    ensures { mount_results_text result ≡ mount_text (mount_call_of call.now) }
+pub(crate) fn serve_mount(call: &MountCall<'_>) -> MountReply<'static>
+    ensures exact { result ≡ mount_text (mount_call_of call.now) }
+    ensures short { length result ≤ 84 }
 {
-    match call {
-        MountCall::Null | MountCall::Unmount(_) | MountCall::UnmountAll => MountResults::Nothing,
-        MountCall::Mount(path) => {
-            if is_exported(path) {
-                MountResults::Mounted
-            } else {
-                MountResults::NoEntry
-            }
-        }
-        MountCall::Dump => MountResults::NoMounts,
-        MountCall::Export => MountResults::Exports,
-    }
-}
-
-// Whether a path can be mounted. Each is the root's.
-fn is_exported(path: &[u8]) -> bool
-    ensures { result ≡ is_exported path.now }
-{
-    match path {
-        b"/" | b"//" | b"/files" | b"/files/" => true,
-        _ => false,
-    }
+    answer(call, ROOT_HANDLE)
 }

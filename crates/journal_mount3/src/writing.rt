@@ -4,29 +4,16 @@ ghost use Rattle.journal_xdr.specs.Items.{Writes};
 ghost use Rattle.journal_nfs3_wire.specs.QueryResults.{access_results, status_results, information_results, configuration_results};
 ghost use Rattle.journal_mount3.specs.Results.{told};
 ghost use Rattle.journal_mount3.specs.Served.{information_of, configuration_of};
-ghost use Rattle.journal_mount3.specs.CodeViews.{told_of, access_seen, status_seen, listing_text, mount_results_text};
+ghost use Rattle.journal_mount3.specs.CodeViews.{told_of, access_seen, status_seen, listing_text};
 
-use crate::entry::{ROOT_GENERATION, Shown};
+use crate::entry::Shown;
 use crate::page::Listing;
-use crate::results::{Granted, MountResults, SpaceUse};
-use crate::root::ROOT;
+use crate::results::{Granted, SpaceUse};
 use journal_filestore::Attributes;
 use journal_inode::{FormatVersion, Time};
-use journal_nfs3_wire::{NfsError, Untold, write_after, write_handle, write_status, write_time};
-use journal_xdr::{Element, Writer};
+use journal_nfs3_wire::{NfsError, Untold, write_after, write_status, write_time};
+use journal_xdr::Writer;
 use std::alloc::AllocError;
-
-// The path that is exported.
-pub(crate) const EXPORT: &[u8] = b"/files";
-
-// The status of MNT (RFC 1813, appendix I, mountstat3): OK, or that there is no such path.
-const MOUNTED: u32 = 0;
-
-const NO_SUCH_PATH: u32 = 2;
-
-// The flavors of credentials that are taken: of the system's users and groups, and none (RFC 5531,
-// section 8.2).
-const FLAVORS: [u32; 2] = [1, 0];
 
 // The verifier of each cookie, since no cookie ends.
 const COOKIE_VERIFIER: [u8; 8] = [0; 8];
@@ -163,36 +150,4 @@ pub(crate) fn write_path_configuration(
     writer.boolean(true)?;
     writer.boolean(false)?;
     writer.boolean(true)
-}
-
-// An export (RFC 1813, appendix I, exportnode): its path, and no groups, so that it is everybody's.
-struct Exported;
-
-impl Element for Exported {
-    ghost use Rattle.journal_mount3.specs.Mounts.{export, files_export};
-
-    ghost spelling = { λ e. export.spelling files_export };
-
-    #[tactic(auto, unfolding(crate::specs::Mounts::export))]
-    fn write(&self, writer: &mut Writer) -> Result<(), AllocError> {
-        writer.string(EXPORT)?;
-        writer.boolean(false)
-    }
-}
-
-// The results of MOUNT (RFC 1813, appendix I).
-pub(crate) fn write_mount(writer: &mut Writer, results: MountResults) -> Result<(), AllocError>
-    ensures { OnOk result (writer.new ≡ writer.old ++ mount_results_text results) }
-{
-    match results {
-        MountResults::Nothing => Ok(()),
-        MountResults::Mounted => {
-            writer.word(MOUNTED)?;
-            write_handle(writer, ROOT, ROOT_GENERATION)?;
-            writer.array(&FLAVORS)
-        }
-        MountResults::NoEntry => writer.word(NO_SUCH_PATH),
-        MountResults::NoMounts => writer.boolean(false),
-        MountResults::Exports => writer.list(&[Exported]),
-    }
 }

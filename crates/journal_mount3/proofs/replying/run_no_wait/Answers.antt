@@ -1,10 +1,11 @@
+use Rattle.std.proofs.Common.{arith}
 use Rattle.journal_rpc.specs.CallViews.{asked_of}
 use Rattle.journal_filestore.specs.Handles.{time_of}
 use Rattle.journal_nfs3.specs.Served.{awaiting}
 use Rattle.journal_mount3.specs.Calls.{asks}
 use Rattle.journal_mount3.specs.CodeViews.{texts_of}
 use Rattle.journal_mount3.proofs.Answering.{refused_comes, mount_comes, query_comes, asked_comes, asked_waits}
-use Rattle.journal_mount3.proofs.Short.{query_short, mount_short, short_so}
+use Rattle.journal_mount3.proofs.Short.{query_short, short_so}
 use Rattle.journal_mount3.proofs.replying.run_no_wait.Goals as goal
 
 pub returns-in-Err-clause-comes : goal.returns-in-Err-clause-comes
@@ -14,10 +15,10 @@ returns-in-Err-clause-comes g c =
 pub returns-in-Ok-Mount-clause-comes : goal.returns-in-Ok-Mount-clause-comes
 returns-in-Ok-Mount-clause-comes g c =
     rw (c.ready-in-Ok-Mount.ensures.value, c.ready-in-Ok-Mount.ensures.wait)
-    (mount_comes g.V.Version.VERSION c.args.exported.now.layout.blocks c.args.exported.now.verifier.0 (time_of c.args.moment) _ _ _ _ (rw c.in-Ok-Mount.field-0-is at c.in-Ok-Mount.ensures) c.serve_mount.ensures)
+    (mount_comes g.V.Version.VERSION c.args.exported.now.layout.blocks c.args.exported.now.verifier.0 (time_of c.args.moment) _ _ _ _ (rw c.in-Ok-Mount.field-0-is at c.in-Ok-Mount.ensures) c.serve_mount.ensures.exact)
 
 pub returns-in-Ok-Mount-clause-short : goal.returns-in-Ok-Mount-clause-short
-returns-in-Ok-Mount-clause-short g c = rw c.ready-in-Ok-Mount.ensures.value (short_so _ (mount_short c.serve_mount.result))
+returns-in-Ok-Mount-clause-short g c = rw c.ready-in-Ok-Mount.ensures.value (short_so _ (omega (arith, c.serve_mount.ensures.short)))
 
 pub returns-in-Ok-Query-clause-comes : goal.returns-in-Ok-Query-clause-comes
 returns-in-Ok-Query-clause-comes g c =
