@@ -95,9 +95,9 @@ impl<'s, 'b, D: BlockDisk, R: TreeRule, J: Naming> Search<'s, 'b, D, R, J> {
         self.pool.give(wanted, to);
     }
 
-    /// Takes back what a call was given and has not taken. It has taken the first ones, and about as
-    /// many as are named: the first one after these is looked for that is free, and where fewer were
-    /// taken the next search finds the others.
+    /// Takes back what a call was given and has not taken. It has taken the first ones, and about
+    /// as many as are named: the first one after these is looked for that is free, and where fewer
+    /// were taken the next search finds the others.
     pub fn put_back<W: Wait>(&mut self, rt: &W, given: &[u32], taken: usize) {
         for number in given {
             self.pool.note_back(*number);

@@ -53,8 +53,8 @@ struct Service<'c> {
 
 /// Serves the tree of a disk that is cut so, until a client asks for its end by the control, if
 /// there is one. It prints the port before the first connection is taken. When it has ended all is
-/// stable, and the disk is closed and unlocked. Where the clock cannot be read, a fault says so, and
-/// the disk is served all the same.
+/// stable, and the disk is closed and unlocked. Where the clock cannot be read, a fault says so,
+/// and the disk is served all the same.
 ///
 /// # Errors
 /// - `DeviceFailed`: the device failed. The calls under way were answered.

@@ -1,0 +1,32 @@
+use Rattle.std.proofs.Common.{refl, subst}
+use Rattle.journal_protocol.specs.Moments.{time_of}
+use Rattle.journal_tree.specs.declared.time.Time.{Time}
+use Rattle.journal_treewire.specs.Calls.{call_on}
+use Rattle.journal_treewire.specs.CodeViews.{results_of}
+use Rattle.journal_treewire.specs.Requests.{request_of}
+use Rattle.journal_treeserver.specs.Asking.{files}
+use Rattle.journal_treeserver.specs.Answers.{awaiting, ComesTo, told}
+use Rattle.journal_treeserver.specs.CodeViews.{served_as}
+use Rattle.journal_treeserver.proofs.Holding.{loses, on_err}
+use Rattle.journal_treeserver.proofs.server.TreeServer.answer_files.Goals as goal
+
+pub returns-in_err-reply-clause-lost : goal.returns-in_err-reply-clause-lost
+returns-in_err-reply-clause-lost g c =
+    let S = served_as c.args.self.now.store.now.cut c.args.self.now.export in
+    let asked = request_of c.args.requested.now in
+    let results = results_of S.disk c.serve-done.result.results in
+    let comes = subst (λ (now : Time). ComesTo S (awaiting c.serve-done.result.wait) asked c.args.caller now (call_on S.disk asked) c.args.session.now c.serve-done.new.session results) c.time_at.ensures.time c.serve-done.ensures in
+    on_err _ (loses S c.serve-done.result.wait (time_of c.args.moment) c.args.xid (files c.args.caller asked) c.args.session.now c.serve-done.new.session (told results) (results, refl, comes))
+
+pub returns-clause-held : goal.returns-clause-held
+returns-clause-held g c =
+    let S = served_as c.args.self.now.store.now.cut c.args.self.now.export in
+    let asked = request_of c.args.requested.now in
+    let results = results_of S.disk c.serve-done.result.results in
+    let comes = subst (λ (now : Time). ComesTo S (awaiting c.serve-done.result.wait) asked c.args.caller now (call_on S.disk asked) c.args.session.now c.serve-done.new.session results) c.time_at.ensures.time c.serve-done.ensures in
+    record {
+      wait = c.serve-done.result.wait;
+      replies = record { outcome = told results; comes = (results, refl, comes); is_sent = c.in_ok-reply.ensures };
+      held = c.held_wait.ensures;
+      goes_on = refl;
+    }

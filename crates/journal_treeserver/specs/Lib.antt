@@ -1,0 +1,5 @@
+pub mod Asking
+pub mod Forms
+pub mod Answers
+pub mod CodeViews
+pub mod Lawful

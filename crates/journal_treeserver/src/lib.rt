@@ -1,0 +1,30 @@
+//! NFS version 3 and MOUNT version 3 (RFC 1813) over a tree of directories and files, as a
+//! protocol: which reply belongs to a call of a connection, and how far it is.
+//!
+//! A call's credential says who calls, and its arguments which call of `journal_tree` it is
+//! (`journal_treewire`). The call is one transaction of a `TreeStore`: it leads from the tree at
+//! its commit's place of the history to the tree after it, with the reply. A call that changes the
+//! tree waits until it is stable, with all that the session had seen, before its reply is sent.
+//! COMMIT does so too, and a WRITE as it is asked to. Where the journal refuses, the reply is
+//! JUKEBOX, IO or SERVERFAULT, and nothing is committed, unless the call was done and its wait is
+//! refused. Where the tree is only read, a call that would change it is answered by ROFS, and not
+//! done, and ACCESS grants no right to change anything.
+//!
+//! `specs/Asking.antt` says what a call asks, and `specs/Answers.antt` which text is its reply.
+#![tactic(auto)]
+
+mod asking;
+mod awaited;
+mod changing;
+mod hints;
+mod looking;
+mod moment;
+mod operation;
+mod performing;
+mod protocol;
+mod replying;
+mod server;
+
+pub use awaited::{AwaitedCall, AwaitedForm};
+pub use hints::{Drawn, FreeHints, Taken};
+pub use server::{Export, TreeServer};
