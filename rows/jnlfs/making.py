@@ -44,3 +44,19 @@ def no_file_is_left_where_it_cannot_be_so_long(room):
     ended = room.run(line, preexec_fn=limit_files, restore_signals=False)
     wants_run(ended, Ended(b"", b"jnlfs: cannot use disk: File too large (os error 27)\n", 1))
     room.do_absent("disk")
+
+
+# The description of a disk with a tree, and where its number of its own lies in it.
+DESCRIPTION = 513 * BLOCK
+NUMBER = slice(32, 40)
+
+
+def number_of(room, disk):
+    """The number of a new disk with a tree."""
+    wants_run(room.run(["jnlfs", "make", disk, "--blocks", "645"]), Ended(b"", b"", 0))
+    return room.path(disk).read_bytes()[DESCRIPTION:][NUMBER]
+
+
+# Of `jnlfs::making::make`: a disk with a tree has a number of its own, which its handles have.
+def two_disks_have_different_numbers(room):
+    wants("that the numbers differ", number_of(room, "one") != number_of(room, "other"), True)

@@ -1,5 +1,5 @@
 // The search for what is free.
-ghost use Rattle.std.specs.Prelude.{◌<◌, ◌≤◌};
+ghost use Rattle.std.specs.Prelude.{◌≤◌, length};
 ghost use Rattle.journal_treestore.specs.Places.{IsCut};
 
 use crate::looking::Looker;
@@ -96,14 +96,10 @@ impl<'s, 'b, D: BlockDisk, R: TreeRule, J: Naming> Search<'s, 'b, D, R, J> {
     }
 
     /// Takes back what a call was given and has not taken. It has taken the first ones, and about
-    /// as many as are named: the first one after these is looked for that is free, and where fewer
-    /// were taken the next search finds the others.
+    /// as many as are named. All from the first one on that is free come back.
     pub fn put_back<W: Wait>(&mut self, rt: &W, given: &[u32], taken: usize) {
         for number in given {
             self.pool.note_back(*number);
-        }
-        if taken > 0 {
-            self.pool.forget_search();
         }
         let count = given.len();
         let first = self.first_untaken(rt, given, taken);
@@ -113,12 +109,12 @@ impl<'s, 'b, D: BlockDisk, R: TreeRule, J: Naming> Search<'s, 'b, D, R, J> {
         }
     }
 
-    // The place of the first number that is free, after those that were taken. The count of the
-    // numbers, if none is.
+    // The place of the first number that is free, after about `taken` that a call took. The count
+    // of the numbers, if none is.
     fn first_untaken<W: Wait>(&mut self, rt: &W, given: &[u32], taken: usize) -> usize
         ensures { result ≤ length given.now }
     {
-        for place in taken.min(given.len())..given.len() {
+        for place in self.first_to_look_at(rt, given, taken)..given.len() {
             match self.is_free(rt, given[place]) {
                 Ok(true) => return place,
                 Ok(false) => {}
@@ -129,6 +125,19 @@ impl<'s, 'b, D: BlockDisk, R: TreeRule, J: Naming> Search<'s, 'b, D, R, J> {
             }
         }
         given.len()
+    }
+
+    // The place from which the first number that is free is looked for. A call takes numbers in
+    // their order: where the last one of those named is free, fewer were taken.
+    fn first_to_look_at<W: Wait>(&mut self, rt: &W, given: &[u32], taken: usize) -> usize
+        ensures { result ≤ length given.now }
+    {
+        let named = taken.min(given.len());
+        if named > 0 && matches!(self.is_free(rt, given[named - 1]), Ok(true)) {
+            0
+        } else {
+            named
+        }
     }
 
     // Looks at numbers until as many candidates wait as are wanted, and at most once round.

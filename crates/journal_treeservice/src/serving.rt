@@ -20,7 +20,7 @@ use journal_nfs3_wire::Verifier;
 use journal_program::{Settled, SharedDisk, SizedDisk};
 use journal_treefs::TreeStore;
 use journal_treerule::SoundTree;
-use journal_treeserver::{Export, TreeServer};
+use journal_treeserver::{Export, FreeHints, TreeServer};
 use journal_treestore::Cut;
 use journal_world::Refusal;
 use std::alloc::Global;
@@ -224,6 +224,25 @@ fn serve_tree<
         control: asked.control,
         access,
     };
-    let visits = Visits::new(alloc, journal, &server);
+    serve_clients(rt, alloc, plan, &server, output)
+}
+
+// Serves clients by a server until the service ends.
+fn serve_clients<
+    'b,
+    D: BlockDisk + Send,
+    J: Naming + Send + Sync,
+    H: FreeHints + Sync,
+    R: Net<Listener = TcpListener, Stream = TcpStream> + Clock + Threads + Wait + Sync,
+    O: Write,
+>(
+    rt: &R,
+    alloc: Global,
+    plan: Plan<'_>,
+    server: &TreeServer<'_, 'b, D, SoundTree, J, H>,
+    output: &mut O,
+) -> Result<(), ServiceFault> {
+    let journal = server.store.journal();
+    let visits = Visits::new(alloc, journal, server);
     serve_by_pool(rt, alloc, plan, journal, &visits, output)
 }
