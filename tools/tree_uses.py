@@ -1,12 +1,13 @@
 """What a Linux kernel does with a tree of files that it mounts. `mount-tree` runs it as root within
 the kernel's machine.
 
-    python3 tree_uses.py HOST PORT SMALL_PORT DATA_BLOCKS INODES [WORD]
+    python3 tree_uses.py HOST PORT SMALL_PORT DATA_BLOCKS INODES WORD OPTIONS
 
 The tree is served at HOST:PORT, and a small one of few blocks, which gets full, at SMALL_PORT;
-DATA_BLOCKS and INODES are the first one's. Each check prints a line, `ok NAME` or `WRONG NAME:
-WHY`. With WORD those checks alone are made whose name has it. A line `DO restart` asks that the
-service is killed and started again. What is needed lies below /mnt, which must be writable.
+DATA_BLOCKS and INODES are the first one's. All is mounted with OPTIONS more, which may be empty.
+Each check prints a line, `ok NAME` or `WRONG NAME: WHY`, and those alone are made whose name has
+WORD in it. A line `DO restart` asks that the service is killed and started again. What is needed
+lies below /mnt, which must be writable.
 """
 
 import collections
@@ -93,7 +94,7 @@ LIBRARY = ctypes.CDLL(None, use_errno=True)
 
 def mount(served, folder, port, more=""):
     folder.mkdir(exist_ok=True)
-    options = OPTIONS.format(host=HOST, port=port, more=more).encode()
+    options = OPTIONS.format(host=HOST, port=port, more=more + MORE_OPTIONS).encode()
     if LIBRARY.mount(f"{HOST}:{served}".encode(), bytes(folder), b"nfs", 0, options):
         raise OSError(ctypes.get_errno(), f"mount {folder}")
 
@@ -760,5 +761,5 @@ def main():
 if __name__ == "__main__":
     HOST = sys.argv[1]
     PORT, SMALL_PORT, DATA_BLOCKS, INODES = map(int, sys.argv[2:6])
-    ONLY = sys.argv[6] if len(sys.argv) > 6 else ""
+    ONLY, MORE_OPTIONS = sys.argv[6:8]
     main()
