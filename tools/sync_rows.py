@@ -21,8 +21,10 @@ from traced_disk import BLOCK, SYNC, TOP, WRITE, Device, Ended, Service, Wrong, 
 
 sys.path.insert(0, str(TOP / "examples"))
 import nfs_client
+import tree_calls
 
 BLOCKS = 600
+TREE_BLOCKS = 645
 LOG_BLOCKS = 513
 LOG_POSITIONS = 511
 SEALED = 1 << 63
@@ -95,15 +97,17 @@ def jnl_rows(sealed, plain):
     ]
 
 
-def jnlfs_rows(new, old):
-    """The runs of jnlfs, over a new disk of version 2 and over one of version 1."""
+def jnlfs_rows(new, old, tree):
+    """The runs of jnlfs, over a new disk of version 2, over one of version 1, and over a new tree."""
     # The room of the log, the folder, the files, and the form of the log.
     makes = [(NOTHING, CANNOT_USE), (NOTHING, CANNOT_USE), (NOTHING, FAILED), (NOTHING, FAILED)]
     # The opening, the log block, block 0, and the end.
     migrates = [(NOTHING, CANNOT_USE), (NOTHING, REFUSED), (NOTHING, REFUSED), (NOTHING, CANNOT_USE)]
     return [
-        Row(How.MAKES, "make {disk} --blocks 600", None, NOTHING, makes),
+        Row(How.MAKES, "make {disk} --blocks 600 --format 2", None, NOTHING, makes),
+        Row(How.MAKES, f"make {{disk}} --blocks {TREE_BLOCKS}", None, NOTHING, makes),
         Row(How.READS, "check {disk}", new, r"sound version 2 files 0\n", [(NOTHING, CANNOT_USE)]),
+        Row(How.READS, "check {disk}", tree, r"sound version 3 nodes 1\n", [(NOTHING, CANNOT_USE)]),
         Row(How.OPENS, "migrate {disk}", new, r"version 2\n", [(NOTHING, CANNOT_USE)] * 2),
         Row(How.OPENS, "migrate {disk}", old, r"version 2\n", migrates),
     ]
@@ -144,6 +148,11 @@ class Runs:
         is_right = re.fullmatch(output, printed) and re.fullmatch(fault, fault_printed)
         if not is_right or status != (1 if fault else 0):
             raise Wrong(f"{told(words, refused)}: {printed!r}, {fault_printed!r}, status {status}")
+
+    def made(self, words):
+        """The disk that a run leaves."""
+        subprocess.run([self.program, *words], check=True, stdout=subprocess.DEVNULL, timeout=SECONDS)
+        return self.disk.read_bytes()
 
     def try_row(self, row):
         words = [self.program, *row.words.format(disk=self.disk).split()]
@@ -199,37 +208,50 @@ class JnlfsRuns(Runs):
     """Runs of jnlfs."""
 
     def try_all(self):
-        for row in jnlfs_rows(disk_of_files(2), disk_of_files(1)):
+        self.lay(None)
+        tree = self.made(["make", self.disk, "--blocks", str(TREE_BLOCKS)])
+        for row in jnlfs_rows(disk_of_files(2), disk_of_files(1), tree):
             self.try_row(row)
-        self.mount_files()
+        self.mount_files(disk_of_files(2), put_flat_file)
+        self.mount_files(tree, put_in_tree)
 
-    def mount_files(self):
+    def mount_files(self, disk, put):
         """`serve`: the sync of the opening fails, then that of a call; then none, up to the line that says that it listens."""
         words = [self.program, "serve", self.disk, "--port", "0"]
-        self.lay(disk_of_files(2))
+        self.lay(disk)
         self.want(words, 1, NOTHING, CANNOT_USE)
-        self.lay(disk_of_files(2))
-        self.fail_call(words)
-        self.lay(disk_of_files(2))
+        self.lay(disk)
+        self.fail_call(words, put)
+        self.lay(disk)
         with subprocess.Popen(words, stdout=subprocess.PIPE, text=True, env=self.environment(0)) as run:
             try:
                 run.stdout.readline()
-                self.want_order(How.OPENS, disk_of_files(2), words)
+                self.want_order(How.OPENS, disk, words)
             finally:
                 run.kill()
 
-    def fail_call(self, words):
+    def fail_call(self, words, put):
         """Wants that a call is not answered as done where its sync fails, and that the service ends."""
         pipes = {"stdout": subprocess.PIPE, "stderr": subprocess.PIPE, "text": True}
         with subprocess.Popen(words, **pipes, env=self.environment(2)) as run:
             try:
-                client = nfs_client.Service(int(run.stdout.readline().split()[1]))
-                nfs_client.put(client, "f002", "text")
+                put(int(run.stdout.readline().split()[1]))
                 raise Wrong(f"{told(words, 2)}: the call is answered as done")
-            except (nfs_client.Refused, OSError):
+            except (nfs_client.Refused, tree_calls.Refused, OSError):
                 self.want_end(run, words)
             finally:
                 run.kill()
+
+
+def put_flat_file(port):
+    nfs_client.put(nfs_client.Service(port), "f002", "text")
+
+
+def put_in_tree(port):
+    """Makes a file in a tree."""
+    with tree_calls.Connection(port) as connection:
+        name = tree_calls.entry(connection.root(), b"file")
+        connection.must(tree_calls.CREATE, name + tree_calls.words(tree_calls.GUARDED) + tree_calls.settings())
 
 
 class JnlRuns(Runs):
@@ -243,11 +265,6 @@ class JnlRuns(Runs):
             self.try_row(row)
         for disk in sealed, plain:
             self.serve_objects(disk)
-
-    def made(self, words):
-        """The disk that a run leaves."""
-        subprocess.run([self.program, *words], check=True, stdout=subprocess.DEVNULL, timeout=SECONDS)
-        return self.disk.read_bytes()
 
     def with_updates(self, disk):
         """The disk with a commit in its log."""
