@@ -18,6 +18,7 @@ def programs_and_procedures_are_told_apart(room):
     ask(room, "calls_of_other_programs")
 
 
+# Of `journal_mount_wire::answer`, `journal_mount_wire::read_mount_call`.
 def a_tree_is_mounted(room):
     ask(room, "mounting")
 
@@ -108,10 +109,12 @@ def a_squashed_root_is_nobody(room):
     ask(room, "squashed_root")
 
 
+# Of `journal_treeservice::export_to_read`.
 def a_tree_that_is_read_alone_is_not_written(room):
     ask(room, "read_only")
 
 
+# Of `journal_treeservice::export`.
 def files_are_there_in_another_run(room):
     ask(room, "another_run")
 
