@@ -6,8 +6,6 @@
 //! list of its writes. `Does` is the contract of each call: on each of these disks, the call leads
 //! from the tree before to the tree of the disk after the writes, with the reply, by the definition
 //! of `journal_tree`; and the disk is sound again. So nothing here needs the journal.
-//!
-//! No program uses this crate yet.
 #![tactic(auto)]
 
 mod attributes;

@@ -4,8 +4,6 @@
 //! what its description and its root are to have. `NewTree::block` is the content of each block:
 //! all but two are zeros. `format` writes those two over a disk of zeros. The map that the blocks
 //! are is a disk with a sound tree, the one that was asked for (`specs/NewDisks.antt`).
-//!
-//! No program uses this crate yet.
 #![tactic(auto)]
 
 mod cutting;

@@ -5,8 +5,6 @@
 //! needs, writes what changes, and is committed with its answer. So the history has each call, and
 //! at its commit's place the call is the definition's, from the tree of the map before to the tree
 //! of the map after, whatever other threads commit meanwhile (`specs/Calls.antt`).
-//!
-//! No program uses this crate yet.
 #![tactic(auto)]
 
 mod fault;

@@ -11,8 +11,6 @@
 //! reply of the definitions, and `specs/Answers.antt` puts both together: the results of a call by
 //! its reply. Each is in the grammar (`DiskResults::prove_grammar`) and is short enough for a reply
 //! (`DiskResults::prove_short`). `specs/ListLengths.antt` says how many bytes listings have.
-//!
-//! No program uses this crate yet.
 #![tactic(auto)]
 
 mod arguments;
