@@ -310,6 +310,7 @@ fn serve_book<'w, J: Naming + Send + Sync, R: Clock + Threads + Wait + Sync, O: 
     let journal: OpenJournal<CountedDisk<SizedDisk, R>, J> = match opened {
         Ok(journal) => journal,
         Err(Refused { refusal, disk }) => {
+            let refusal = refusal.with_cause(());
             return Err(Fault::failed_or_refused(service.path, disk.into_inner(), refusal));
         }
     };
@@ -495,10 +496,10 @@ fn flush<'w, 'b, D: BlockDisk, J: Naming, W: Wait>(
 ) -> Result<(), Fault<'w>> {
     let mut session = match journal.session(rt) {
         Ok(session) => session,
-        Err(why) => return Err(Fault::refused(path, why)),
+        Err(why) => return Err(Fault::refused(path, why.with_cause(()))),
     };
     match journal.flush(rt, &mut session) {
         Ok(_) => Ok(()),
-        Err(why) => Err(Fault::refused(path, why)),
+        Err(why) => Err(Fault::refused(path, why.with_cause(()))),
     }
 }
