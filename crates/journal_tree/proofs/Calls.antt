@@ -1,5 +1,5 @@
 -- What each call does, and that its reply is true.
-use Rattle.std.proofs.Common.{◌≡◌, ◌≢◌, ℕ, ◌+◌, ◌%◌, ◌<◌, ◌==◌, Bool, true, false, not, ◌&&◌, List, [], length, Option, Some, None, Result, Ok, Err, refl, sym, ap, subst, arith, inr, ◌∙◌}
+use Rattle.std.proofs.Common.{◌≡◌, ◌≢◌, ℕ, ◌+◌, ◌%◌, ◌<◌, ◌==◌, Bool, true, false, not, ◌&&◌, List, [], length, Option, Some, None, Ok, refl, sym, ap, arith, inr, ◌∙◌}
 use Rattle.std.specs.Prelude.{⊤, is_some, is_none, nat_lt, map, option_map, unwrap_or}
 use Rattle.std.proofs.lemmas.Bool.{eqb-true, and_parts, not-false, ltb-false, true≢false}
 use Rattle.journal_tree.specs.declared.limits.TheConstants.{MOST_BYTES, MOST_PLACES, MODES, FILE_MODE, DIRECTORY_MODE}
@@ -16,7 +16,6 @@ use Rattle.journal_tree.specs.declared.reply.Free.{Free}
 use Rattle.journal_tree.specs.declared.settings.Settings.{Settings}
 use Rattle.journal_tree.specs.declared.settings.CreateMode.{CreateMode}
 use Rattle.journal_tree.specs.declared.settings.CreateMode.TheVariants.{Unchecked, Guarded, Exclusive}
-use Rattle.journal_tree.specs.declared.status.Status.{Status}
 use Rattle.journal_tree.specs.declared.status.Status.TheVariants.{NotOwner, NoEntry, Exists, NotDirectory, IsDirectory, Invalid, TooBig, NoSpace, NameTooLong, NotEmpty, NotSync, NotSupported, TooSmall}
 use Rattle.journal_tree.specs.Trees.{Body, Node, Slot, Tree, is_directory, with_node, find, find_any}
 use Rattle.journal_tree.specs.Trees.Body.{directory, file}
@@ -26,20 +25,20 @@ use Rattle.journal_tree.specs.Callers.{is_root}
 use Rattle.journal_tree.specs.Rights.{SET_GROUP_BIT, has_bit, may_fetch, may_store, may_read, may_rename, may_take}
 use Rattle.journal_tree.specs.Rule.{HasTree}
 use Rattle.journal_tree.specs.declared.name.NameKind.{NameKind}
-use Rattle.journal_tree.specs.Calls.{Outcome, refused, target, told, name_kind, in_searched, with_name, some_node, on_found}
+use Rattle.journal_tree.specs.Calls.{refused, target, told, name_kind, some_node}
 use Rattle.journal_tree.specs.declared.name.NameKind.TheVariants.{Dot, DotDot, NoName, LongName, Name}
 use Rattle.journal_tree.specs.Changes.{touched, opened, touch_place, planted, cut}
 use Rattle.journal_tree.specs.Attributes.{resized, group_mode, is_no_time, is_too_big, is_other_time, asks_nothing, may_set, may_set_bytes, with_settings, changed, unchanged, getattr_case, setattr_case, access_case}
 use Rattle.journal_tree.specs.Contents.{overlaid, written, read_body, read_case, write_body, write_case, commit_body, commit_case}
-use Rattle.journal_tree.specs.Names.{parent_of, found, lookup_name, lookup_case, new_owner, group_within, new_group, new_mode, new_attributes, new_node, born, made_before, size_alone, create_over, create_new, create_case, mkdir_new, mkdir_case, removed, may_remove, remove_case, rmdir_case, readlink_case, make_other_case, link_case, rename_case}
-use Rattle.journal_tree.specs.Listing.{Item, Page, Listed, ListedPlus, Line, line_of, with_page, items_above, readdir_case, readdirplus_case}
+use Rattle.journal_tree.specs.Names.{parent_of, found, lookup_name, lookup_case, group_within, new_group, new_attributes, new_node, born, size_alone, create_over, create_new, create_case, mkdir_new, mkdir_case, removed, may_remove, remove_case, rmdir_case, readlink_case, make_other_case, link_case}
+use Rattle.journal_tree.specs.Listing.{Item, Page, line_of, with_page, items_above, readdir_case, readdirplus_case}
 use Rattle.journal_tree.specs.Facts.{fsstat_case, fsinfo_case, pathconf_case}
 use Rattle.journal_tree.specs.Op.{MayTake}
 use Rattle.journal_tree.specs.Fit.{IsWord, IsFit, IsFitBody, IsAsked, IsAskedMode, IsCaller}
 use Rattle.journal_tree.specs.Laws.{IsTrueOf, IsTrueChange, IsTrueFound, IsTrueMade}
 use Rattle.journal_tree.proofs.Changing.{at_other}
 use Rattle.journal_tree.proofs.Hanging.{leaf, empty, not_itself}
-use Rattle.journal_tree.proofs.Steps.{IsChange, IsPlanted, IsCut, Step, IsRight, own_slot, right_no, right_yes, right_if, right_allowed, right_target, right_directory, right_searched, right_name, right_find, right_named}
+use Rattle.journal_tree.proofs.Steps.{IsChange, IsCut, IsRight, own_slot, right_no, right_yes, right_if, right_allowed, right_target, right_directory, right_searched, right_find, right_named}
 use Rattle.journal_tree.proofs.Steps.Step.{stays, sets, plants, cuts}
 use Rattle.journal_tree.proofs.Bounds.{mtime-fits, group-low, modulo-low, within-low, or-word, choice-word, resized-fits}
 use Rattle.journal_tree.proofs.Setting.{settings-change, size-change, write-change}
@@ -59,7 +58,7 @@ abbrev pub TrueMade : Tree → ℕ → Made → Tree → Type 0
 TrueMade T n r T2 = IsTrueMade T T2 n r
 
 -- a node in a tree is told as it is
-true-of : (T : Tree) (n : ℕ) (x : Node) → (T.at n).node ≡ Some x → IsTrueOf T n (told n x)
+pub true-of : (T : Tree) (n : ℕ) (x : Node) → (T.at n).node ≡ Some x → IsTrueOf T n (told n x)
 true-of T n x is = record { node = x; is = is; tells = refl }
 
 module _ (R : Type 0) (c : Caller) (now : Time) (T : Tree) where
@@ -118,14 +117,6 @@ module _ (R : Type 0) (c : Caller) (now : Time) (T : Tree) where
 
   pub link-right : (h k : Handle) (name : List ℕ) → IsRight R c now T Anything (link_case c name T (target T h) (target T k))
   link-right h k name = right_target R c now T Anything h _ (λ x is. other-right k name)
-
-  pub rename-right : (h : Handle) (name : List ℕ) (k : Handle) (new_name : List ℕ) → IsRight R c now T Anything (rename_case c name new_name T (target T h) (target T k))
-  rename-right h name k new_name =
-      right_target R c now T Anything h _ (λ x1 is1. right_target R c now T Anything k _ (λ y1 at1.
-      right_searched R c now T Anything h _ (λ x is kind. right_searched R c now T Anything k _ (λ y at kind2.
-      right_name R c now T Anything (name_kind name) Invalid Invalid _ (λ _. right_name R c now T Anything (name_kind new_name) Invalid Invalid _ (λ _.
-      right_find R c now T Anything h.number name _ _ (λ _. right_no R c now T Anything NoEntry) (λ n z there home.
-      right_allowed R c now T Anything (may_remove c x z && may_rename c y.attributes) _ (λ _. right_no R c now T Anything NotSupported))))))))
 
   -- ── SETATTR and WRITE ──
 

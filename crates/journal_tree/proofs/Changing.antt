@@ -1,6 +1,6 @@
 -- Each change of a tree keeps the rule.
-use Rattle.std.proofs.Common.{◌≡◌, ◌≢◌, ℕ, ◌+◌, ◌*◌, ◌/◌, ◌<◌, ◌≤◌, Bool, true, false, cond, List, Option, Some, None, refl, sym, ap, subst, arith, ◌⊎◌, inl, inr, ◌∙◌}
-use Rattle.std.specs.Prelude.{option_map, nat_lt, is_some}
+use Rattle.std.proofs.Common.{◌≡◌, ◌≢◌, ℕ, ◌+◌, ◌*◌, ◌/◌, ◌<◌, ◌≤◌, Bool, true, false, cond, Option, Some, None, refl, sym, ap, subst, arith, ◌⊎◌, inl, inr, ◌∙◌}
+use Rattle.std.specs.Prelude.{option_map, nat_lt}
 use Rattle.std.proofs.lemmas.Bool.{cases_eq, eq-eqb, ne_eqb, ltb-true, ltb-false}
 use Rattle.journal_tree.specs.declared.limits.TheConstants.{ROOT, BLOCK_PLACES}
 use Rattle.journal_tree.specs.declared.time.Time.{Time}
@@ -104,6 +104,12 @@ HasTree-place T d x place now tree is kind = by x.body refl kind
 pub record SameHomes (S S0 : Stems) : Type 0 where
   pub old : (i : ℕ) (s : Stem) → S i ≡ Some s → (t : Stem) × (S0 i ≡ Some t) × (t.home ≡ s.home)
 
+pub SameHomes-then : (S T U : Stems) → SameHomes S T → SameHomes T U → SameHomes S U
+SameHomes-then S T U a b = record { old = λ i s is. let o = a.old i s is in let p = b.old i o.0 o.1 in (p.0, p.1, p.2 ∙ o.2) }
+
+pub SameHomes-equal : (S T : Stems) → S ≡ T → SameHomes S T
+SameHomes-equal S T e = record { old = λ i s is. (s, ap (λ (S : Stems). S i) (sym e) ∙ is, refl) }
+
 pub SameHomes-place : (T : Tree) (d place : ℕ) (now : Time) → SameHomes (stems (touch_place T d place now)) (stems T)
 SameHomes-place T d place now = record { old = old }
   where
@@ -130,6 +136,13 @@ SameHomes-place T d place now = record { old = old }
             (o.0, ap (stems T) same ∙ o.1, o.2)
         by (inr other) = (s, sym (with_stem-other (stems T) d i (option_map stem_of new) other) ∙ here, refl)
 
+-- a way up over the same homes
+pub way_back : (S S0 : Stems) (d i : ℕ) → SameHomes S S0 → IsBelow S d i → IsBelow S0 d i
+way_back S S0 d _ same itself = itself
+way_back S S0 d _ same (parent i s is up) =
+    let o = same.old i s is in
+    parent i o.0 o.1 (subst (IsBelow S0 d) (sym (ap (λ (h : Home). h.directory) o.2)) (way_back S S0 d s.home.directory same up))
+
 -- What is asked of the home of a node that is put there or moved, in the tree before
 pub record IsFreeHome (T : Tree) (n : ℕ) (home : Home) : Type 0 where
   pub name : (i : ℕ) (x : Node) → i ≢ n → (T.at i).node ≡ Some x → x.home.directory ≡ home.directory → x.home.name ≡ home.name → ⊥
@@ -139,7 +152,39 @@ pub record IsFreeHome (T : Tree) (n : ℕ) (home : Home) : Type 0 where
 pub at_other : (T : Tree) (n i : ℕ) (s : Slot) → i ≢ n → (with_slot T n s).at i ≡ T.at i
 at_other T n i s other = rw (ne_eqb i n other) refl
 
-free_in : (T : Tree) (S : Stems) (n : ℕ) (home : Home) → SameHomes S (stems T) → IsFreeHome T n home
+-- what a number has after a slot was replaced
+pub slot_cases : (T : Tree) (n : ℕ) (s : Slot) (i : ℕ) → ((i ≡ n) × ((with_slot T n s).at i ≡ s)) ⊎ ((i ≢ n) × ((with_slot T n s).at i ≡ T.at i))
+slot_cases T n s i = by (cases_eq i n)
+  where
+    by : (i ≡ n) ⊎ (i ≡ n → ⊥) → ((i ≡ n) × ((with_slot T n s).at i ≡ s)) ⊎ ((i ≢ n) × ((with_slot T n s).at i ≡ T.at i))
+    by (inl same) = inl (same, rw (eq-eqb i n same) refl)
+    by (inr other) = inr (other, at_other T n i s other)
+
+-- a number after the node of another or the same one became what f says
+pub map_cases : (T : Tree) (d : ℕ) (f : Node → Node) (i : ℕ) → ((i ≡ d) × (((with_node T d (option_map f (T.at d).node)).at i).node ≡ option_map f (T.at i).node)) ⊎ ((i ≢ d) × ((with_node T d (option_map f (T.at d).node)).at i ≡ T.at i))
+map_cases T d f i = by (slot_cases T d (record { generation = (T.at d).generation; node = option_map f (T.at d).node }) i)
+  where
+    by : ((i ≡ d) × ((with_node T d (option_map f (T.at d).node)).at i ≡ record { generation = (T.at d).generation; node = option_map f (T.at d).node })) ⊎ ((i ≢ d) × ((with_node T d (option_map f (T.at d).node)).at i ≡ T.at i))
+        → ((i ≡ d) × (((with_node T d (option_map f (T.at d).node)).at i).node ≡ option_map f (T.at i).node)) ⊎ ((i ≢ d) × ((with_node T d (option_map f (T.at d).node)).at i ≡ T.at i))
+    by (inl same) = inl (same.0, ap (λ (s : Slot). s.node) same.1 ∙ ap (λ (i : ℕ). option_map f (T.at i).node) (sym same.0))
+    by (inr other) = inr other
+
+-- two nodes of one number are one
+pub one : (o : Option Node) (x y : Node) → o ≡ Some x → o ≡ Some y → x ≡ y
+one o x y a b = let e : Some x ≡ Some y = sym a ∙ b in cc
+
+-- a change of a node leaves the generations
+pub same_generation : (T : Tree) (m n : ℕ) (o : Option Node) → ((with_node T m o).at n).generation ≡ (T.at n).generation
+same_generation T m n o = by (cases_eq n m)
+  where
+    by : (n ≡ m) ⊎ (n ≡ m → ⊥) → ((with_node T m o).at n).generation ≡ (T.at n).generation
+    by (inl same) = ap (λ (s : Slot). s.generation) (here same) ∙ ap (λ (i : ℕ). (T.at i).generation) (sym same)
+      where
+        here : n ≡ m → (with_node T m o).at n ≡ record { generation = (T.at m).generation; node = o }
+        here e = rw (eq-eqb n m e) refl
+    by (inr other) = ap (λ (s : Slot). s.generation) (at_other T m n _ other)
+
+pub free_in : (T : Tree) (S : Stems) (n : ℕ) (home : Home) → SameHomes S (stems T) → IsFreeHome T n home
     → ((i : ℕ) (s : Stem) → i ≢ n → S i ≡ Some s → s.home.directory ≡ home.directory → s.home.name ≡ home.name → ⊥)
     × ((i : ℕ) (s : Stem) → i ≢ n → S i ≡ Some s → s.home.directory ≡ home.directory → s.home.place ≡ home.place → ⊥)
 free_in T S n home same free = (

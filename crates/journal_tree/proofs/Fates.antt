@@ -1,21 +1,26 @@
 -- What becomes of one node, and of one directory's names, by a step.
-use Rattle.std.proofs.Common.{◌≡◌, ◌≢◌, ℕ, ◌+◌, ◌<◌, ◌≤◌, ◌==◌, Bool, true, false, List, Option, Some, None, refl, sym, ap, subst, arith, ◌⊎◌, inl, inr, ◌∙◌}
+use Rattle.std.proofs.Common.{◌≡◌, ◌≢◌, ℕ, ◌+◌, ◌<◌, ◌≤◌, true, false, Option, Some, None, refl, sym, ap, subst, arith, ◌⊎◌, inl, inr, ◌∙◌}
 use Rattle.std.specs.Prelude.{option_map}
-use Rattle.std.proofs.lemmas.Bool.{cases_eq, eq-eqb}
+use Rattle.std.proofs.lemmas.Bool.{cases_eq}
 use Rattle.journal_tree.specs.declared.time.Time.{Time}
-use Rattle.journal_tree.specs.Trees.{Home, Node, Slot, Tree, with_slot, with_node, find}
-use Rattle.journal_tree.specs.Times.{IsTime, time_of_names}
+use Rattle.journal_tree.specs.Trees.{Home, Node, Slot, Tree, is_directory, with_slot, with_node, find}
+use Rattle.journal_tree.specs.Times.{time_of_change, time_of_names}
 use Rattle.journal_tree.specs.declared.caller.Caller.{Caller}
-use Rattle.journal_tree.specs.Rights.{may_rename}
-use Rattle.journal_tree.specs.Rule.{HasTree}
+use Rattle.journal_tree.specs.Rights.{may_write, may_rename}
+use Rattle.journal_tree.specs.Rule.{stems, IsBelow, HasTree}
+use Rattle.journal_tree.specs.Rule.IsBelow.{itself}
 use Rattle.journal_tree.specs.Changes.{with_times, touched, opened, touch_place, cut}
+use Rattle.journal_tree.specs.Renames.{Move, with_ctime, names_moved, moved}
 use Rattle.journal_tree.specs.Runs.{IsOneNode, HasSameNames}
+use Rattle.journal_tree.specs.Laws.{IsRightfulMove}
 use Rattle.journal_tree.proofs.Finding.{find-some, find-none}
-use Rattle.journal_tree.proofs.Changing.{at_other}
+use Rattle.journal_tree.proofs.Changing.{slot_cases, map_cases, one, same_generation}
 use Rattle.journal_tree.proofs.Hanging.{low, not_itself, found_by_name}
-use Rattle.journal_tree.proofs.Steps.{IsChange, IsPlanted, IsCut, Step, own_slot}
-use Rattle.journal_tree.proofs.Steps.Step.{stays, sets, plants, cuts}
-use Rattle.journal_tree.proofs.Keeping.{step-keeps, same_generation}
+use Rattle.journal_tree.proofs.Steps.{IsChange, IsReplaced, IsMoved, Step}
+use Rattle.journal_tree.proofs.Steps.Step.{stays, sets, plants, cuts, moves}
+use Rattle.journal_tree.proofs.Moving.{NamesCase, names_cases, moved_node, moved_cases, moved-generation, moved-tree, others-there, others-back}
+use Rattle.journal_tree.proofs.Moving.NamesCase.{in_source, in_goal, elsewhere}
+use Rattle.journal_tree.proofs.Keeping.{step-keeps}
 
 -- ── names ──
 
@@ -43,35 +48,14 @@ same-names T T2 d tree tree2 there back name = by (find T d name) refl
         let named : y.0.home.name ≡ name = ap (λ (h : Home). h.name) y.2 ∙ x.3 in
         is ∙ sym (ap (λ (d : ℕ). find T2 d name) (sym directory) ∙ ap (find T2 y.0.home.directory) (sym named) ∙ at)
 
--- ── slots ──
-
--- what a number has after a slot was replaced
-pub slot_cases : (T : Tree) (n : ℕ) (s : Slot) (i : ℕ) → ((i ≡ n) × ((with_slot T n s).at i ≡ s)) ⊎ ((i ≢ n) × ((with_slot T n s).at i ≡ T.at i))
-slot_cases T n s i = by (cases_eq i n)
-  where
-    by : (i ≡ n) ⊎ (i ≡ n → ⊥) → ((i ≡ n) × ((with_slot T n s).at i ≡ s)) ⊎ ((i ≢ n) × ((with_slot T n s).at i ≡ T.at i))
-    by (inl same) = inl (same, rw (eq-eqb i n same) refl)
-    by (inr other) = inr (other, at_other T n i s other)
-
--- a number after the node of another or the same one became what f says
-pub map_cases : (T : Tree) (d : ℕ) (f : Node → Node) (i : ℕ) → ((i ≡ d) × (((with_node T d (option_map f (T.at d).node)).at i).node ≡ option_map f (T.at i).node)) ⊎ ((i ≢ d) × ((with_node T d (option_map f (T.at d).node)).at i ≡ T.at i))
-map_cases T d f i = by (slot_cases T d (record { generation = (T.at d).generation; node = option_map f (T.at d).node }) i)
-  where
-    by : ((i ≡ d) × ((with_node T d (option_map f (T.at d).node)).at i ≡ record { generation = (T.at d).generation; node = option_map f (T.at d).node })) ⊎ ((i ≢ d) × ((with_node T d (option_map f (T.at d).node)).at i ≡ T.at i))
-        → ((i ≡ d) × (((with_node T d (option_map f (T.at d).node)).at i).node ≡ option_map f (T.at i).node)) ⊎ ((i ≢ d) × ((with_node T d (option_map f (T.at d).node)).at i ≡ T.at i))
-    by (inl same) = inl (same.0, ap (λ (s : Slot). s.node) same.1 ∙ ap (λ (i : ℕ). option_map f (T.at i).node) (sym same.0))
-    by (inr other) = inr other
-
 -- ── one step ──
 
 -- What becomes of a node that is there before and after a step
 pub data Fate (R : Type 0) (c : Caller) (now : Time) (T T2 : Tree) (n : ℕ) (x y : Node) : Type 0 where
   same : x ≡ y → HasSameNames T T2 n → Fate R c now T T2 n x y
   set : IsChange R c now x y → HasSameNames T T2 n → Fate R c now T T2 n x y
-  names : y.attributes ≡ with_times x.attributes (time_of_names x.attributes now) → may_rename c x.attributes ≡ true → Fate R c now T T2 n x y
-
-pub one : (o : Option Node) (x y : Node) → o ≡ Some x → o ≡ Some y → x ≡ y
-one o x y a b = let e : Some x ≡ Some y = sym a ∙ b in cc
+  names : y.attributes ≡ with_times x.attributes (time_of_names x.attributes now) → y.home ≡ x.home → may_rename c x.attributes ≡ true → Fate R c now T T2 n x y
+  hung : y.attributes ≡ with_ctime x.attributes (time_of_change x.attributes.ctime now) → y.body ≡ x.body → IsRightfulMove c T x y → HasSameNames T T2 n → Fate R c now T T2 n x y
 
 module _ (R : Type 0) (c : Caller) (now : Time) (T : Tree) (tree : HasTree T) where
   -- nodes stay where they hang where one is set
@@ -159,6 +143,29 @@ module _ (R : Type 0) (c : Caller) (now : Time) (T : Tree) (tree : HasTree T) wh
           by (inr p) (inl q) = old (T.at i).node refl (sym (q.1 ∙ ap (λ (s : Slot). option_map (touched now) s.node) p.1) ∙ at)
           by (inr p) (inr q) = (y, sym (ap (λ (s : Slot). s.node) q.1 ∙ ap (λ (s : Slot). s.node) p.1) ∙ at, refl)
 
+  -- nor, in a third directory, where one is moved
+  moves-hang : (m : Move) (n : ℕ) (z : Node) (place : ℕ) (W : Tree) → IsMoved c T m n z place W → (f : ℕ) → f ≢ m.d → f ≢ m.e
+      → HangsToo T (moved W m n z place now) f × HangsToo (moved W m n z place now) T f
+  moves-hang m n z place W it f far_d far_e = (record { too = there }, record { too = back })
+    where
+      there : (i : ℕ) (x : Node) → (T.at i).node ≡ Some x → x.home.directory ≡ f → (y : Node) × (((moved W m n z place now).at i).node ≡ Some y) × (y.home ≡ x.home)
+      there i x at hangs = by (it.without.left i x at) (cases_eq i n)
+        where
+          by : ((W.at i).node ≡ Some x) ⊎ IsReplaced c T m i x → (i ≡ n) ⊎ (i ≡ n → ⊥) → (y : Node) × (((moved W m n z place now).at i).node ≡ Some y) × (y.home ≡ x.home)
+          by (inr replaced) _ = absurd (far_e (sym hangs ∙ replaced.home))
+          by (inl is) (inl itself_is) =
+              let q = one (W.at n).node z x it.at (ap (λ (i : ℕ). (W.at i).node) (sym itself_is) ∙ is) in
+              absurd (far_d (sym hangs ∙ ap (λ (x : Node). x.home.directory) (sym q) ∙ it.home))
+          by (inl is) (inr far) = others-there c T m n z place W now it i x far is
+
+      back : (i : ℕ) (y : Node) → ((moved W m n z place now).at i).node ≡ Some y → y.home.directory ≡ f → (x : Node) × ((T.at i).node ≡ Some x) × (x.home ≡ y.home)
+      back i y at hangs = by (moved_cases c T m n z place W now it i)
+        where
+          by : ((i ≡ n) × (((moved W m n z place now).at i).node ≡ Some (moved_node m place now z))) ⊎ ((i ≢ n) × ((moved W m n z place now).at i ≡ (names_moved W m.d m.e place now).at i))
+              → (x : Node) × ((T.at i).node ≡ Some x) × (x.home ≡ y.home)
+          by (inl r) = absurd (far_e (sym hangs ∙ ap (λ (x : Node). x.home.directory) (one ((moved W m n z place now).at i).node y (moved_node m place now z) at r.1)))
+          by (inr r) = others-back c T m n z place W now it i y r.0 at
+
   pub fate : (T2 : Tree) → Step R c now T T2 → (n : ℕ) (x y : Node) → IsOneNode T T2 n x y → Fate R c now T T2 n x y
   fate _ stays n x y it = same (one (T.at n).node x y it.before it.after) (λ name. refl)
   fate _ (sets m a b is change) n x y it = by (slot_cases T m (record { generation = (T.at m).generation; node = Some b }) n)
@@ -198,7 +205,7 @@ module _ (R : Type 0) (c : Caller) (now : Time) (T : Tree) (tree : HasTree T) wh
       by (inl e) (inr q) (inl r) =
           let was = one (T.at n).node a x (ap (λ (i : ℕ). (T.at i).node) e ∙ p.is) it.before in
           let after = one _ (opened b.home.place now x) y (ap (λ (s : Slot). s.node) q.1 ∙ r.1 ∙ ap (option_map (opened b.home.place now)) it.before) it.after in
-          names (sym (ap (λ (x : Node). x.attributes) after)) (subst (λ (x : Node). may_rename c x.attributes ≡ true) was p.rights)
+          names (sym (ap (λ (x : Node). x.attributes) after)) (sym (ap (λ (x : Node). x.home) after)) (subst (λ (x : Node). may_rename c x.attributes ≡ true) was p.rights)
       by (inr other) (inr q) (inr r) = same (one (T.at n).node x y it.before (sym (ap (λ (s : Slot). s.node) q.1 ∙ ap (λ (s : Slot). s.node) r.1) ∙ it.after)) (same_names other)
   fate _ (cuts d m a b p) n x y it = by (cases_eq n d) (slot_cases T m (record { generation = (T.at m).generation; node = None }) n) (map_cases (with_node T m None) d (touched now) n)
     where
@@ -217,9 +224,52 @@ module _ (R : Type 0) (c : Caller) (now : Time) (T : Tree) (tree : HasTree T) wh
       by (inl e) (inr q) (inl r) =
           let was = one (T.at n).node a x (ap (λ (i : ℕ). (T.at i).node) e ∙ p.is) it.before in
           let after = one _ (touched now x) y (r.1 ∙ ap (λ (s : Slot). option_map (touched now) s.node) q.1 ∙ ap (option_map (touched now)) it.before) it.after in
-          names (sym (ap (λ (x : Node). x.attributes) after)) (subst (λ (x : Node). may_rename c x.attributes ≡ true) was p.rights)
+          names (sym (ap (λ (x : Node). x.attributes) after)) (sym (ap (λ (x : Node). x.home) after)) (subst (λ (x : Node). may_rename c x.attributes ≡ true) was p.rights)
       by (inr other) (inl q) (inr r) = absurd (cc (sym (ap (λ (s : Slot). s.node) r.1 ∙ ap (λ (s : Slot). s.node) q.1) ∙ it.after))
       by (inr other) (inr q) (inr r) = same (one (T.at n).node x y it.before (sym (ap (λ (s : Slot). s.node) r.1 ∙ ap (λ (s : Slot). s.node) q.1) ∙ it.after)) (same_names other)
+  fate _ (moves m n z place W it) k x y one_node = by (moved_cases c T m n z place W now it k)
+    where
+      same_names : k ≢ m.d → k ≢ m.e → HasSameNames T (moved W m n z place now) k
+      same_names far_d far_e =
+          let hang = moves-hang m n z place W it k far_d far_e in
+          same-names T (moved W m n z place now) k tree (moved-tree c T m n z place W now it) hang.0 hang.1
+
+      parent : (m.d ≡ m.e) ⊎ (is_directory z.body ≡ false) ⊎ (may_write c z.attributes ≡ true) → (m.e ≡ z.home.directory) ⊎ (is_directory z.body ≡ false) ⊎ (may_write c z.attributes ≡ true)
+      parent (inl same_directory) = inl (sym same_directory ∙ sym it.home)
+      parent (inr may) = inr may
+
+      move : IsRightfulMove c T z (moved_node m place now z)
+      move = record {
+        taken = record {
+          directory = m.x;
+          is = ap (λ (d : ℕ). (T.at d).node) it.home ∙ it.without.kept m.d m.x it.source;
+          names = it.source_rights;
+          sticky = it.source_sticky;
+        };
+        parent = parent it.parent_rights;
+      }
+
+      -- one of the directories, and all others
+      named : k ≢ n → (moved W m n z place now).at k ≡ (names_moved W m.d m.e place now).at k → NamesCase W (names_moved W m.d m.e place now) m.d m.e place now k → Fate R c now T (moved W m n z place now) k x y
+      named far slot (in_source here at) =
+          let was = one (T.at k).node m.x x (ap (λ (i : ℕ). (T.at i).node) here ∙ it.without.kept m.d m.x it.source) one_node.before in
+          let after = one _ (touched now m.x) y (ap (λ (s : Slot). s.node) slot ∙ at ∙ ap (λ (i : ℕ). option_map (touched now) (W.at i).node) here ∙ ap (option_map (touched now)) it.source) one_node.after in
+          names (sym (ap (λ (x : Node). x.attributes) after) ∙ ap (λ (x : Node). (touched now x).attributes) was) (sym (ap (λ (x : Node). x.home) after) ∙ ap (λ (x : Node). x.home) was) (subst (λ (x : Node). may_rename c x.attributes ≡ true) was it.source_rights)
+      named far slot (in_goal _ here at) =
+          let was = one (T.at k).node m.y x (ap (λ (i : ℕ). (T.at i).node) here ∙ it.without.kept m.e m.y it.goal) one_node.before in
+          let after = one _ (opened place now m.y) y (ap (λ (s : Slot). s.node) slot ∙ at ∙ ap (λ (i : ℕ). option_map (opened place now) (W.at i).node) here ∙ ap (option_map (opened place now)) it.goal) one_node.after in
+          names (sym (ap (λ (x : Node). x.attributes) after) ∙ ap (λ (x : Node). (opened place now x).attributes) was) (sym (ap (λ (x : Node). x.home) after) ∙ ap (λ (x : Node). x.home) was) (subst (λ (x : Node). may_rename c x.attributes ≡ true) was it.goal_rights)
+      named far slot (elsewhere far_d far_e at) =
+          same (one (T.at k).node x y one_node.before (it.without.kept k y (sym (ap (λ (s : Slot). s.node) slot ∙ ap (λ (s : Slot). s.node) at) ∙ one_node.after))) (same_names far_d far_e)
+
+      by : ((k ≡ n) × (((moved W m n z place now).at k).node ≡ Some (moved_node m place now z))) ⊎ ((k ≢ n) × ((moved W m n z place now).at k ≡ (names_moved W m.d m.e place now).at k))
+          → Fate R c now T (moved W m n z place now) k x y
+      by (inl r) =
+          let was = one (T.at k).node z x (ap (λ (i : ℕ). (T.at i).node) r.0 ∙ it.without.kept n z it.at) one_node.before in
+          let after = one _ (moved_node m place now z) y r.1 one_node.after in
+          hung (sym (ap (λ (x : Node). x.attributes) after) ∙ ap (λ (z : Node). (moved_node m place now z).attributes) was) (sym (ap (λ (x : Node). x.body) after) ∙ ap (λ (z : Node). z.body) was)
+          (subst (λ (x : Node). IsRightfulMove c T x y) was (subst (IsRightfulMove c T z) after move)) (same_names (λ q. it.below_source (sym r.0 ∙ q)) (λ q. it.apart (subst (IsBelow (stems W) n) (sym r.0 ∙ q) itself)))
+      by (inr r) = named r.0 r.1 (names_cases W m.d m.e place now k)
 
   -- generations never go back, and a number that has no node gets one under a new one
   pub generations : (T2 : Tree) → Step R c now T T2 → (n : ℕ) → ((T.at n).generation ≤ (T2.at n).generation) × ((y : Node) → (T.at n).node ≡ None → (T2.at n).node ≡ Some y → (T.at n).generation < (T2.at n).generation)
@@ -276,3 +326,13 @@ module _ (R : Type 0) (c : Caller) (now : Time) (T : Tree) (tree : HasTree T) wh
           → (T.at n).generation < ((cut T d m now).at n).generation
       by y none at e (inl r) = absurd (cc (sym (r.1 ∙ gone ((with_node T m None).at n).node (empty none e)) ∙ at))
       by y none at e (inr r) = absurd (cc (sym (ap (λ (s : Slot). s.node) r.1 ∙ empty none e) ∙ at))
+  generations _ (moves m n z place W it) k = (
+    let g = moved-generation c T m n z place W now it k in omega (arith, g),
+    λ y none at. by y none at (moved_cases c T m n z place W now it k),
+  )
+    where
+      by : (y : Node) → (T.at k).node ≡ None → ((moved W m n z place now).at k).node ≡ Some y
+          → ((k ≡ n) × (((moved W m n z place now).at k).node ≡ Some (moved_node m place now z))) ⊎ ((k ≢ n) × ((moved W m n z place now).at k ≡ (names_moved W m.d m.e place now).at k))
+          → (T.at k).generation < ((moved W m n z place now).at k).generation
+      by y none at (inl r) = absurd (cc (sym none ∙ ap (λ (i : ℕ). (T.at i).node) r.0 ∙ it.without.kept n z it.at))
+      by y none at (inr r) = let x = others-back c T m n z place W now it k y r.0 at in absurd (cc (sym none ∙ x.1))

@@ -1,5 +1,5 @@
 -- ctime grows with each change, over any calls.
-use Rattle.std.proofs.Common.{◌≡◌, ◌≢◌, ℕ, ◌+◌, ◌<◌, ◌≤◌, Option, Some, None, refl, sym, ap, subst, arith, ◌⊎◌, inl, inr, ◌∙◌}
+use Rattle.std.proofs.Common.{◌≡◌, ◌≢◌, ℕ, ◌<◌, ◌≤◌, Option, Some, None, refl, sym, ap, subst, arith, ◌⊎◌, inl, inr, ◌∙◌}
 use Rattle.journal_tree.specs.declared.time.Time.{Time}
 use Rattle.journal_tree.specs.declared.reply.Attributes.{Attributes}
 use Rattle.journal_tree.specs.Trees.{Node, Tree}
@@ -11,11 +11,12 @@ use Rattle.journal_tree.specs.Fit.{HasFit, IsCallable, IsCaller}
 use Rattle.journal_tree.specs.Runs.{Answers, Run, IsOneNode, HasSameNames}
 use Rattle.journal_tree.specs.Runs.Run.{done, next}
 use Rattle.journal_tree.specs.Laws.{CtimeGrows, MtimeMoves, ChangesMoveCtime, NamesMoveCtime, NamesMoveMtime}
+use Rattle.journal_tree.proofs.Changing.{one}
 use Rattle.journal_tree.proofs.Moments.{before-then, change-after, names-after, names-mtime}
 use Rattle.journal_tree.proofs.Steps.{Step}
 use Rattle.journal_tree.proofs.Keeping.{op-done, step-keeps, step-fits}
-use Rattle.journal_tree.proofs.Fates.{Fate, fate, generations, one}
-use Rattle.journal_tree.proofs.Fates.Fate.{same, set, names}
+use Rattle.journal_tree.proofs.Fates.{Fate, fate, generations}
+use Rattle.journal_tree.proofs.Fates.Fate.{same, set, names, hung}
 
 -- ── what grows ──
 
@@ -90,17 +91,20 @@ module _ (R : Type 0) (c : Caller) (now : Time) (T T2 : Tree) (n : ℕ) (moment 
   fate-keeps : (x y : Node) → IsOneNode T T2 n x y → Fate R c now T T2 n x y → (x ≡ y) ⊎ CtimeGrows x y
   fate-keeps x y it (same e s) = inl e
   fate-keeps x y it (set change s) = inr (grown-by x y (time_of_change x.attributes.ctime now) change.ctime (change-after x.attributes.ctime now (fit.nodes n x it.before).ctime moment))
-  fate-keeps x y it (names e may) = inr (grown-by x y _ (ap (λ (a : Attributes). a.ctime) e) (names-after x.attributes now (fit.nodes n x it.before).ctime moment))
+  fate-keeps x y it (names e home may) = inr (grown-by x y _ (ap (λ (a : Attributes). a.ctime) e) (names-after x.attributes now (fit.nodes n x it.before).ctime moment))
+  fate-keeps x y it (hung e b move s) = inr (grown-by x y (time_of_change x.attributes.ctime now) (ap (λ (a : Attributes). a.ctime) e) (change-after x.attributes.ctime now (fit.nodes n x it.before).ctime moment))
 
   fate-names : (x y : Node) → IsOneNode T T2 n x y → Fate R c now T T2 n x y → HasSameNames T T2 n ⊎ CtimeGrows x y
   fate-names x y it (same e s) = inl s
   fate-names x y it (set change s) = inl s
-  fate-names x y it (names e may) = inr (grown-by x y _ (ap (λ (a : Attributes). a.ctime) e) (names-after x.attributes now (fit.nodes n x it.before).ctime moment))
+  fate-names x y it (names e home may) = inr (grown-by x y _ (ap (λ (a : Attributes). a.ctime) e) (names-after x.attributes now (fit.nodes n x it.before).ctime moment))
+  fate-names x y it (hung e b move s) = inl s
 
   fate-mtime : (x y : Node) → IsOneNode T T2 n x y → Fate R c now T T2 n x y → HasSameNames T T2 n ⊎ MtimeMoves x y
   fate-mtime x y it (same e s) = inl s
   fate-mtime x y it (set change s) = inl s
-  fate-mtime x y it (names e may) = inr (by (names-mtime x.attributes now (fit.nodes n x it.before).ctime moment))
+  fate-mtime x y it (hung e b move s) = inl s
+  fate-mtime x y it (names e home may) = inr (by (names-mtime x.attributes now (fit.nodes n x it.before).ctime moment))
     where
       by : (x.attributes.mtime ≢ (with_times x.attributes (time_of_names x.attributes now)).mtime) ⊎ (time_of_names x.attributes now ≡ LAST_TIME) → MtimeMoves x y
       by (inl other) = inl (λ same. other (same ∙ ap (λ (a : Attributes). a.mtime) e))

@@ -1,27 +1,31 @@
 -- Each call is a step, and each step leaves a tree, within its bounds.
-use Rattle.std.proofs.Common.{◌≡◌, ◌≢◌, ℕ, ◌+◌, ◌<◌, ◌≤◌, ◌==◌, Bool, true, false, Option, Some, None, Result, Ok, Err, refl, sym, ap, subst, arith, ◌⊎◌, inl, inr, ◌∙◌}
-use Rattle.std.specs.Prelude.{option_map, is_err}
+use Rattle.std.proofs.Common.{◌≡◌, ℕ, ◌<◌, ◌≤◌, ◌==◌, Bool, true, false, Option, Some, None, Result, Ok, Err, refl, sym, ap, subst, arith, ◌⊎◌, inl, inr, ◌∙◌}
+use Rattle.std.specs.Prelude.{option_map, if◌then◌else◌}
 use Rattle.std.proofs.lemmas.Bool.{cases_eq, eq-eqb}
 use Rattle.journal_tree.specs.declared.limits.TheConstants.{MOST_PLACES, LAST_GENERATION}
 use Rattle.journal_tree.specs.declared.time.Time.{Time}
 use Rattle.journal_tree.specs.declared.status.Status.{Status}
-use Rattle.journal_tree.specs.Trees.{Node, Slot, Tree, with_slot, with_node}
+use Rattle.journal_tree.specs.Trees.{Home, Node, Slot, Tree, with_slot, with_node}
 use Rattle.journal_tree.specs.Times.{IsTime}
 use Rattle.journal_tree.specs.declared.caller.Caller.{Caller}
 use Rattle.journal_tree.specs.Rule.{stem_of, HasTree}
-use Rattle.journal_tree.specs.Calls.{Outcome, target}
-use Rattle.journal_tree.specs.Changes.{touched, touch, opened, touch_place, planted}
+use Rattle.journal_tree.specs.Calls.{Outcome}
+use Rattle.journal_tree.specs.Changes.{touched, touch, opened, touch_place}
+use Rattle.journal_tree.specs.Renames.{Move, rehung, names_moved}
 use Rattle.journal_tree.specs.Op.{Call, Reply, Op, is_refusal}
 use Rattle.journal_tree.specs.Op.Op.{answers_getattr, answers_setattr, answers_lookup, answers_access, answers_readlink, answers_read, answers_write, answers_create, answers_mkdir, answers_symlink, answers_mknod, answers_remove, answers_rmdir, answers_rename, answers_link, answers_readdir, answers_readdirplus, answers_fsstat, answers_fsinfo, answers_pathconf, answers_commit}
-use Rattle.journal_tree.specs.Fit.{IsFit, HasFit, IsCallable, IsCaller}
-use Rattle.journal_tree.specs.Laws.{TellsTruly, KeepsTrees, KeepsFit, RefusalsChangeNothing, RepliesAreTrue}
+use Rattle.journal_tree.specs.Fit.{IsFitHome, IsFit, HasFit, IsCallable, IsCaller}
+use Rattle.journal_tree.specs.Laws.{TellsTruly, KeepsTrees, KeepsFit, RenamesWhole, RefusalsChangeNothing, RepliesAreTrue}
 use Rattle.journal_tree.proofs.Finding.{find-none, find_place-none}
+pub use Rattle.journal_tree.proofs.Changing.{same_generation}
 use Rattle.journal_tree.proofs.Changing.{at_other, HasTree-same, HasTree-touch, HasTree-cut, HasTree-plant}
 use Rattle.journal_tree.proofs.Hanging.{low, not_root}
-use Rattle.journal_tree.proofs.Bounds.{names-fits, grown-body-fits}
-use Rattle.journal_tree.proofs.Steps.{IsChange, Step, IsRight, own_slot}
-use Rattle.journal_tree.proofs.Steps.Step.{stays, sets, plants, cuts}
-use Rattle.journal_tree.proofs.Calls.{Anything, TrueChange, TrueFound, TrueMade, getattr-right, setattr-right, lookup-right, access-right, readlink-right, read-right, write-right, create-right, mkdir-right, other-right, remove-right, rmdir-right, rename-right, link-right, readdir-right, readdirplus-right, fsstat-right, fsinfo-right, pathconf-right, commit-right}
+use Rattle.journal_tree.proofs.Bounds.{change-fits, names-fits, grown-body-fits}
+use Rattle.journal_tree.proofs.Steps.{IsWithout, Step, IsRight, own_slot}
+use Rattle.journal_tree.proofs.Steps.Step.{stays, sets, plants, cuts, moves}
+use Rattle.journal_tree.proofs.Moving.{moved_node, moved-generation, moved-tree}
+use Rattle.journal_tree.proofs.Renaming.{IsTrueRenamed, rename-right}
+use Rattle.journal_tree.proofs.Calls.{Anything, TrueChange, TrueFound, TrueMade, getattr-right, setattr-right, lookup-right, access-right, readlink-right, read-right, write-right, create-right, mkdir-right, other-right, remove-right, rmdir-right, link-right, readdir-right, readdirplus-right, fsstat-right, fsinfo-right, pathconf-right, commit-right}
 
 -- What is known of each call
 pub record IsDone (call : Call) (c : Caller) (now : Time) (T : Tree) (reply : Reply) (T2 : Tree) : Type 0 where
@@ -74,8 +78,12 @@ op-done _ c now T T2 _ tree (answers_rmdir h name _ _ _ _ (Ok a) is) =
     let right = of (IsCallable (Call.rmdir h name) × IsCaller c) c now T (TrueChange T h.number) _ (Ok a) T2 is (rmdir-right _ c now T h name tree) in record { step = right.step; truth = right.given a refl; refusal = right.refusal }
 op-done _ c now T T2 _ tree (answers_rmdir h name _ _ _ _ (Err e) is) =
     let right = of (IsCallable (Call.rmdir h name) × IsCaller c) c now T (TrueChange T h.number) _ (Err e) T2 is (rmdir-right _ c now T h name tree) in record { step = right.step; truth = tt; refusal = right.refusal }
-op-done _ c now T T2 _ tree (answers_rename h name k new_name _ _ _ _ r is) =
-    let right = of (IsCallable (Call.rename h name k new_name) × IsCaller c) c now T Anything _ r T2 is (rename-right _ c now T h name k new_name) in record { step = right.step; truth = tt; refusal = right.refusal }
+op-done _ c now T T2 _ tree (answers_rename h name k new_name below place _ _ _ _ (Ok a) take tells is) =
+    let right = of (IsCallable (Call.rename h name k new_name) × IsCaller c) c now T (IsTrueRenamed T h.number name k.number new_name) _ (Ok a) T2 is (rename-right _ c now T h name k new_name below place tree take tells) in
+    record { step = right.step; truth = ((right.given a refl).source, (right.given a refl).goal); refusal = right.refusal }
+op-done _ c now T T2 _ tree (answers_rename h name k new_name below place _ _ _ _ (Err e) take tells is) =
+    let right = of (IsCallable (Call.rename h name k new_name) × IsCaller c) c now T (IsTrueRenamed T h.number name k.number new_name) _ (Err e) T2 is (rename-right _ c now T h name k new_name below place tree take tells) in
+    record { step = right.step; truth = tt; refusal = right.refusal }
 op-done _ c now T T2 _ tree (answers_link h k name _ _ _ _ r is) =
     let right = of (IsCallable (Call.link h k name) × IsCaller c) c now T Anything _ r T2 is (link-right _ c now T h k name) in record { step = right.step; truth = tt; refusal = right.refusal }
 op-done _ c now T T2 _ tree (answers_readdir h cookie most _ _ _ _ r is) =
@@ -94,6 +102,11 @@ op-done _ c now T T2 _ tree (answers_commit h _ _ _ _ r is) =
 pub replies-are-true : RepliesAreTrue
 replies-are-true call c now T T2 reply tree op = (op-done call c now T T2 reply tree op).truth
 
+pub renames-whole : RenamesWhole
+renames-whole h k name new_name c now T T2 a tree (answers_rename _ _ _ _ below place _ _ _ _ _ take tells is) =
+    let right = of (IsCallable (Call.rename h name k new_name) × IsCaller c) c now T (IsTrueRenamed T h.number name k.number new_name) _ (Ok a) T2 is (rename-right _ c now T h name k new_name below place tree take tells) in
+    (right.given a refl).whole
+
 pub refusals-change-nothing : RefusalsChangeNothing
 refusals-change-nothing call c now T T2 reply tree op refused = (op-done call c now T T2 reply tree op).refusal refused
 
@@ -108,6 +121,7 @@ module _ (R : Type 0) (c : Caller) (now : Time) where
     place = λ i z other at directory placed. find_place-none T d room.place i z p.room.empty (low T i z tree at) at (directory ∙ p.directory) (placed ∙ p.place);
   })
   step-keeps T _ tree (cuts d n x y it) = HasTree-touch (with_node T n None) d now (HasTree-cut T n tree (not_root T n d x y tree it.at it.home it.is) it.empty)
+  step-keeps T _ tree (moves m n z place W it) = moved-tree c T m n z place W now it
 
 pub keeps-trees : KeepsTrees
 keeps-trees call c now T T2 reply tree op = step-keeps (IsCallable call × IsCaller c) c now T T2 tree (op-done call c now T T2 reply tree op).step
@@ -162,16 +176,29 @@ opened-fits place now x low moment f =
     let time = names-fits x.attributes now f.ctime moment in
     record { home = f.home; place = f.place; body = grown-body-fits place x.body low f.body; mode = f.mode; owner = f.owner; group = f.group; mtime = time; ctime = time }
 
--- a change of a node leaves the generations
-pub same_generation : (T : Tree) (m n : ℕ) (o : Option Node) → ((with_node T m o).at n).generation ≡ (T.at n).generation
-same_generation T m n o = by (cases_eq n m)
+rehung-fits : (home : Home) (now : Time) (z : Node) → IsFitHome home → home.place < MOST_PLACES → IsTime now → IsFit z → IsFit (rehung home now z)
+rehung-fits home now z named low moment f =
+    let time = change-fits z.attributes.ctime now f.ctime moment in
+    record { home = named; place = low; body = f.body; mode = f.mode; owner = f.owner; group = f.group; mtime = f.mtime; ctime = time }
+
+-- a name that goes from one directory to another
+fit_names : (W : Tree) (d e place : ℕ) (now : Time) → HasFit W → IsTime now → place < MOST_PLACES → HasFit (names_moved W d e place now)
+fit_names W d e place now fit moment low = by (d == e)
   where
-    by : (n ≡ m) ⊎ (n ≡ m → ⊥) → ((with_node T m o).at n).generation ≡ (T.at n).generation
-    by (inl same) = ap (λ (s : Slot). s.generation) (here same) ∙ ap (λ (i : ℕ). (T.at i).generation) (sym same)
-      where
-        here : n ≡ m → (with_node T m o).at n ≡ record { generation = (T.at m).generation; node = o }
-        here e = rw (eq-eqb n m e) refl
-    by (inr other) = ap (λ (s : Slot). s.generation) (at_other T m n _ other)
+    source : HasFit (touch W d now)
+    source = fit_map W d (touched now) fit (λ x f. touched-fits now x moment f)
+
+    by : (b : Bool) → HasFit (if b then touch W d now else touch_place (touch W d now) e place now)
+    by true = source
+    by false = fit_map (touch W d now) e (opened place now) source (λ x f. opened-fits place now x low moment f)
+
+-- what is taken away leaves the others as they were
+fit_without : (c : Caller) (T : Tree) (m : Move) (W : Tree) → IsWithout c T m W → HasFit T → HasFit W
+fit_without c T m W without fit = record {
+  nodes = λ n x is. fit.nodes n x (without.kept n x is);
+  born = λ n x is. (let b = fit.born n x (without.kept n x is) in let g = without.generation n in omega (arith, b, g));
+  young = λ n. (let y = fit.young n in let g = without.generation n in omega (arith, y, g));
+}
 
 module _ (R : Type 0) (c : Caller) (now : Time) where
   pub step-fits : (T T2 : Tree) → R → IsTime now → HasFit T → Step R c now T T2 → HasFit T2
@@ -187,6 +214,27 @@ module _ (R : Type 0) (c : Caller) (now : Time) where
       same : ((touch_place T d y.home.place now).at room.number).generation ≡ (T.at room.number).generation
       same = same_generation T d room.number _
   step-fits T _ r moment fit (cuts d n x y it) = fit_map (with_node T n None) d (touched now) (fit_none T n fit) (λ x f. touched-fits now x moment f)
+  step-fits T _ r moment fit (moves m n z place W it) = fit_slot (names_moved W m.d m.e place now) n _ names_fit (λ x e. new x e) (names_fit.young n)
+    where
+      low : place < MOST_PLACES
+      low = it.within fit
+
+      names_fit : HasFit (names_moved W m.d m.e place now)
+      names_fit = fit_names W m.d m.e place now (fit_without c T m W it.without fit) moment low
+
+      born : 1 ≤ ((names_moved W m.d m.e place now).at n).generation
+      born =
+          let g = moved-generation c T m n z place W now it n in
+          let s = own_slot (names_moved W m.d m.e place now) n (record { generation = ((names_moved W m.d m.e place now).at n).generation; node = Some (moved_node m place now z) }) in
+          let q = ap (λ (s : Slot). s.generation) s in
+          let b = fit.born n z (it.without.kept n z it.at) in
+          omega (arith, g, q, b)
+
+      new : (x : Node) → Some (moved_node m place now z) ≡ Some x → IsFit x × (1 ≤ ((names_moved W m.d m.e place now).at n).generation)
+      new x e = (
+        let q : moved_node m place now z ≡ x = cc in subst IsFit q (rehung-fits (record { directory = m.e; place = place; name = m.name }) now z (inr it.name) low moment (fit.nodes n z (it.without.kept n z it.at))),
+        born,
+      )
 
 pub keeps-fit : KeepsFit
 keeps-fit call c now T T2 reply callable caller moment tree fit op = step-fits (IsCallable call × IsCaller c) c now T T2 (callable, caller) moment fit (op-done call c now T T2 reply tree op).step

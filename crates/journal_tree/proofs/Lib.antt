@@ -2,10 +2,13 @@ pub mod Finding
 pub mod Stems
 pub mod Changing
 pub mod Hanging
+pub mod Walk
 pub mod Steps
+pub mod Moving
 pub mod Bounds
 pub mod Setting
 pub mod Calls
+pub mod Renaming
 pub mod Keeping
 pub mod Moments
 pub mod Fates

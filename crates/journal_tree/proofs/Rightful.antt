@@ -1,5 +1,5 @@
 -- Calls do to nodes what their callers may.
-use Rattle.std.proofs.Common.{◌≡◌, ◌≢◌, ℕ, ◌+◌, ◌==◌, Bool, true, false, not, ◌||◌, List, length, Option, Some, None, Result, Ok, Err, refl, sym, ap, subst, ◌⊎◌, inl, inr, ◌∙◌}
+use Rattle.std.proofs.Common.{◌≡◌, ◌≢◌, ℕ, ◌+◌, ◌==◌, Bool, true, false, not, ◌||◌, List, length, Option, Some, None, Ok, Err, sym, ap, subst, ◌⊎◌, inl, inr, ◌∙◌}
 use Rattle.std.specs.Prelude.{nat_lt, if◌then◌else◌, option_map}
 use Rattle.std.proofs.lemmas.Bool.{or_left, or_right, false≢true}
 use Rattle.journal_tree.specs.declared.limits.TheConstants.{MOST_BYTES}
@@ -16,28 +16,38 @@ use Rattle.journal_tree.specs.Rights.{is_owner, may_read, may_write, may_run, ma
 use Rattle.journal_tree.specs.Rule.{HasTree}
 use Rattle.journal_tree.specs.Calls.{Outcome, refused, target, on_node, allowed, node_or_gone}
 use Rattle.journal_tree.specs.Changes.{touched, opened, touch_place, planted, cut}
-use Rattle.journal_tree.specs.Contents.{read_body, read_case, write_body, write_case}
+use Rattle.journal_tree.specs.Contents.{read_body, write_body}
 use Rattle.journal_tree.specs.Fit.{IsCallable, IsCaller}
 use Rattle.journal_tree.specs.Runs.{IsOneNode, HasSameNames}
-use Rattle.journal_tree.specs.Laws.{IsRightful, IsRightfulEnd, KeepsRights, CallsKeepRights, OwnersReadAndWrite}
+use Rattle.journal_tree.specs.Laws.{IsRightful, IsRightfulMove, IsRightfulEnd, CallsKeepRights, OwnersReadAndWrite}
+use Rattle.journal_tree.proofs.Changing.{slot_cases, map_cases, one}
 use Rattle.journal_tree.proofs.Steps.{Step}
-use Rattle.journal_tree.proofs.Steps.Step.{stays, sets, plants, cuts}
+use Rattle.journal_tree.proofs.Steps.Step.{stays, sets, plants, cuts, moves}
+use Rattle.journal_tree.proofs.Moving.{moved-gone}
 use Rattle.journal_tree.proofs.Keeping.{op-done}
-use Rattle.journal_tree.proofs.Fates.{Fate, fate, slot_cases, map_cases, one}
-use Rattle.journal_tree.proofs.Fates.Fate.{same, set, names}
+use Rattle.journal_tree.proofs.Fates.{Fate, fate}
+use Rattle.journal_tree.proofs.Fates.Fate.{same, set, names, hung}
 
 module _ (R : Type 0) (c : Caller) (now : Time) (T : Tree) (tree : HasTree T) (other : is_root c ≡ false) where
   rightful : (T2 : Tree) (n : ℕ) (x y : Node) → IsOneNode T T2 n x y → Step R c now T T2 → Fate R c now T T2 n x y → IsRightful c x y
   rightful T2 n x y it step (same e s) = record { owner = ap (λ (x : Node). x.attributes.owner) (sym e); group = inl (ap (λ (x : Node). x.attributes.group) (sym e)); bytes = inl (ap (λ (x : Node). x.body) (sym e)) }
   rightful T2 n x y it step (set change s) = change.rights other
-  rightful T2 n x y it step (names e may) = record { owner = ap (λ (a : Attributes). a.owner) e; group = inl (ap (λ (a : Attributes). a.group) e); bytes = inr (inr may) }
+  rightful T2 n x y it step (names e home may) = record { owner = ap (λ (a : Attributes). a.owner) e; group = inl (ap (λ (a : Attributes). a.group) e); bytes = inr (inr may) }
+  rightful T2 n x y it step (hung e b move s) = record { owner = ap (λ (a : Attributes). a.owner) e; group = inl (ap (λ (a : Attributes). a.group) e); bytes = inl b }
 
   rightful-names : (T2 : Tree) (n : ℕ) (x y : Node) → Fate R c now T T2 n x y → HasSameNames T T2 n ⊎ (may_rename c x.attributes ≡ true)
   rightful-names T2 n x y (same e s) = inl s
   rightful-names T2 n x y (set change s) = inl s
-  rightful-names T2 n x y (names e may) = inr may
+  rightful-names T2 n x y (names e home may) = inr may
+  rightful-names T2 n x y (hung e b move s) = inl s
 
-  -- a node goes by a cut alone
+  rightful-move : (T2 : Tree) (n : ℕ) (x y : Node) → Fate R c now T T2 n x y → (y.home ≡ x.home) ⊎ IsRightfulMove c T x y
+  rightful-move T2 n x y (same e s) = inl (ap (λ (x : Node). x.home) (sym e))
+  rightful-move T2 n x y (set change s) = inl change.home
+  rightful-move T2 n x y (names e home may) = inl home
+  rightful-move T2 n x y (hung e b move s) = inr move
+
+  -- a node goes by a cut, or where a node is moved to its name
   ends : (T2 : Tree) → Step R c now T T2 → (n : ℕ) (x : Node) → (T.at n).node ≡ Some x → (T2.at n).node ≡ None → IsRightfulEnd c T x
   ends _ stays n x is gone = absurd (cc (sym is ∙ gone))
   ends _ (sets m a b at change) n x is gone = by (slot_cases T m (record { generation = (T.at m).generation; node = Some b }) n)
@@ -69,10 +79,19 @@ module _ (R : Type 0) (c : Caller) (now : Time) (T : Tree) (tree : HasTree T) (o
           }
       by (inr e) (inl r) = absurd (cc (sym (r.1 ∙ ap (λ (s : Slot). option_map (touched now) s.node) e.1 ∙ ap (option_map (touched now)) is) ∙ gone))
       by (inr e) (inr r) = absurd (cc (sym is ∙ sym (ap (λ (s : Slot). s.node) r.1 ∙ ap (λ (s : Slot). s.node) e.1) ∙ gone))
+  ends _ (moves m k z place W it) n x is gone =
+      let replaced = moved-gone c T m k z place W now it n x is gone in
+      record {
+        directory = m.y;
+        is = ap (λ (d : ℕ). (T.at d).node) replaced.home ∙ it.without.kept m.e m.y it.goal;
+        names = it.goal_rights;
+        sticky = replaced.sticky;
+      }
 
 pub calls-keep-rights : CallsKeepRights
 calls-keep-rights call c now T T2 reply tree other op = record {
   changes = λ n x y it. rightful R c now T tree other T2 n x y it step (fate R c now T tree T2 step n x y it);
+  moves = λ n x y it. rightful-move R c now T tree other T2 n x y (fate R c now T tree T2 step n x y it);
   ends = λ n x is gone. ends R c now T tree other T2 step n x is gone;
   names = λ n x y it. rightful-names R c now T tree other T2 n x y (fate R c now T tree T2 step n x y it);
 }

@@ -1,7 +1,8 @@
 -- What one call does to a tree, and the ways through the cases of a call.
-use Rattle.std.proofs.Common.{◌≡◌, ℕ, ◌==◌, Bool, true, false, List, Option, Some, None, Result, Ok, Err, refl, sym, ap, subst, ◌∙◌}
+use Rattle.std.proofs.Common.{◌≡◌, ◌≢◌, ℕ, ◌<◌, ◌==◌, Bool, true, false, List, Option, Some, None, Ok, refl, sym, subst, ◌⊎◌}
 use Rattle.std.specs.Prelude.{is_err, if◌then◌else◌}
 use Rattle.std.proofs.lemmas.Bool.{eq-eqb, false≢true}
+use Rattle.journal_tree.specs.declared.limits.TheConstants.{ROOT, MOST_PLACES}
 use Rattle.journal_tree.specs.declared.time.Time.{Time}
 use Rattle.journal_tree.specs.declared.reply.Handle.{Handle}
 use Rattle.journal_tree.specs.declared.reply.Room.{Room}
@@ -11,15 +12,18 @@ use Rattle.journal_tree.specs.Trees.{Node, Slot, Tree, places_of, is_directory, 
 use Rattle.journal_tree.specs.Times.{IsTime, time_of_change}
 use Rattle.journal_tree.specs.declared.caller.Caller.{Caller}
 use Rattle.journal_tree.specs.Callers.{is_root}
-use Rattle.journal_tree.specs.Rights.{may_search, may_rename, may_take}
+use Rattle.journal_tree.specs.Rights.{may_search, may_write, may_rename, may_take}
 use Rattle.journal_tree.specs.declared.name.NameKind.{NameKind}
 use Rattle.journal_tree.specs.Calls.{Outcome, refused, node_or_gone, target, name_kind, on_node, in_directory, allowed, in_searched, with_name, some_node, on_found, named}
 use Rattle.journal_tree.specs.declared.name.NameKind.TheVariants.{Dot, DotDot, NoName, LongName, Name}
 use Rattle.journal_tree.specs.Changes.{touch_place, planted, cut}
+use Rattle.journal_tree.specs.Rule.{stems, IsBelow, HasTree}
+use Rattle.journal_tree.specs.Renames.{Move, moved}
 use Rattle.journal_tree.specs.Op.{IsRoom}
-use Rattle.journal_tree.specs.Fit.{IsFit}
+use Rattle.journal_tree.specs.Fit.{IsFit, HasFit}
 use Rattle.journal_tree.specs.Laws.{IsRightful}
 use Rattle.journal_tree.proofs.Finding.{find-some}
+use Rattle.journal_tree.proofs.Changing.{IsFreeHome}
 
 -- What becomes of a node that changes where it hangs. R is what the bytes of the call can say
 pub record IsChange (R : Type 0) (c : Caller) (now : Time) (x y : Node) : Type 0 where
@@ -50,12 +54,46 @@ pub record IsCut (c : Caller) (T : Tree) (d n : ℕ) (x y : Node) : Type 0 where
   pub rights : may_rename c x.attributes ≡ true
   pub sticky : may_take c x.attributes y.attributes ≡ true
 
+-- A node that a RENAME replaces
+pub record IsReplaced (c : Caller) (T : Tree) (m : Move) (i : ℕ) (x : Node) : Type 0 where
+  pub found : find T m.e m.name ≡ Some i
+  pub home : x.home.directory ≡ m.e
+  pub sticky : may_take c m.y.attributes x.attributes ≡ true
+
+-- The tree from which a node is moved: what stood under the new name is taken away
+pub record IsWithout (c : Caller) (T : Tree) (m : Move) (W : Tree) : Type 0 where
+  pub tree : HasTree W
+  pub generation : (i : ℕ) → (W.at i).generation ≡ (T.at i).generation
+  pub kept : (i : ℕ) (x : Node) → (W.at i).node ≡ Some x → (T.at i).node ≡ Some x
+  pub left : (i : ℕ) (x : Node) → (T.at i).node ≡ Some x → ((W.at i).node ≡ Some x) ⊎ IsReplaced c T m i x
+
+-- A node that goes to a place of another directory, or gets another name in its own
+pub record IsMoved (c : Caller) (T : Tree) (m : Move) (n : ℕ) (z : Node) (place : ℕ) (W : Tree) : Type 0 where
+  pub without : IsWithout c T m W
+  pub source : (W.at m.d).node ≡ Some m.x
+  pub goal : (W.at m.e).node ≡ Some m.y
+  pub kind : is_directory m.y.body ≡ true
+  pub at : (W.at n).node ≡ Some z
+  pub home : z.home.directory ≡ m.d
+  pub below_root : n ≢ ROOT
+  pub below_source : n ≢ m.d
+  pub apart : IsBelow (stems W) n m.e → ⊥
+  pub free : IsFreeHome W n (record { directory = m.e; place = place; name = m.name })
+  pub keeps_place : m.d ≡ m.e → place ≡ z.home.place
+  pub name : name_kind m.name ≡ Name
+  pub within : HasFit T → place < MOST_PLACES
+  pub source_rights : may_rename c m.x.attributes ≡ true
+  pub source_sticky : may_take c m.x.attributes z.attributes ≡ true
+  pub parent_rights : (m.d ≡ m.e) ⊎ (is_directory z.body ≡ false) ⊎ (may_write c z.attributes ≡ true)
+  pub goal_rights : may_rename c m.y.attributes ≡ true
+
 -- The tree after one call
 pub data Step (R : Type 0) (c : Caller) (now : Time) (T : Tree) : Tree → Type 0 where
   stays : Step R c now T T
   sets : (n : ℕ) (x y : Node) → (T.at n).node ≡ Some x → IsChange R c now x y → Step R c now T (with_node T n (Some y))
   plants : (d : ℕ) (x : Node) (room : Room) (y : Node) → IsPlanted R c now T d x room y → Step R c now T (planted (touch_place T d y.home.place now) room.number y)
   cuts : (d n : ℕ) (x y : Node) → IsCut c T d n x y → Step R c now T (cut T d n now)
+  moves : (m : Move) (n : ℕ) (z : Node) (place : ℕ) (W : Tree) → IsMoved c T m n z place W → Step R c now T (moved W m n z place now)
 
 -- a number's own slot after it was replaced
 pub own_slot : (T : Tree) (n : ℕ) (s : Slot) → (with_slot T n s).at n ≡ s
@@ -107,13 +145,17 @@ module _ (R : Type 0) (c : Caller) (now : Time) (T : Tree) {A : Type 0} (G : A �
   right_name LongName a b o right = right_no NameTooLong
   right_name Name a b o right = right refl
 
-  pub right_find : (d : ℕ) (name : List ℕ) (none : Outcome A) (some : ℕ → Node → Outcome A) → (find T d name ≡ None → IsRight none)
-      → ((n : ℕ) (x : Node) → (T.at n).node ≡ Some x → x.home.directory ≡ d → IsRight (some n x)) → IsRight (on_found T (find T d name) none some)
-  right_find d name none some a b = by (find T d name) refl
+  pub right_search : (d : ℕ) (name : List ℕ) (none : Outcome A) (some : ℕ → Node → Outcome A) → (find T d name ≡ None → IsRight none)
+      → ((n : ℕ) (x : Node) → find T d name ≡ Some n → (T.at n).node ≡ Some x → x.home.directory ≡ d → x.home.name ≡ name → IsRight (some n x)) → IsRight (on_found T (find T d name) none some)
+  right_search d name none some a b = by (find T d name) refl
     where
       by : (o : Option ℕ) → find T d name ≡ o → IsRight (on_found T o none some)
       by None is = a is
-      by (Some n) is = let h = find-some T d name n is in subst (λ (o : Option Node). IsRight (some_node o none (some n))) (sym h.1) (b n h.0 h.1 h.2)
+      by (Some n) is = let h = find-some T d name n is in subst (λ (o : Option Node). IsRight (some_node o none (some n))) (sym h.1) (b n h.0 is h.1 h.2 h.3)
+
+  pub right_find : (d : ℕ) (name : List ℕ) (none : Outcome A) (some : ℕ → Node → Outcome A) → (find T d name ≡ None → IsRight none)
+      → ((n : ℕ) (x : Node) → (T.at n).node ≡ Some x → x.home.directory ≡ d → IsRight (some n x)) → IsRight (on_found T (find T d name) none some)
+  right_find d name none some a b = right_search d name none some a (λ n x found is home named. b n x is home)
 
   pub right_named : (h : Handle) (name : List ℕ) (a b : Status) (none : ℕ → Node → Outcome A) (some : ℕ → Node → ℕ → Node → Outcome A)
       → ((x : Node) → (T.at h.number).node ≡ Some x → is_directory x.body ≡ true → name_kind name ≡ Name → find T h.number name ≡ None → IsRight (none h.number x))

@@ -1,28 +1,28 @@
 -- What holds of all calls.
-use Rattle.std.specs.Prelude.{⊤, Bool, true, false, not, ◌⊎◌, Option, None, ℕ, ◌≡◌, ◌≢◌, ◌<◌, List, Some, Ok, Err, Result}
+use Rattle.std.specs.Prelude.{⊤, Bool, true, false, ◌⊎◌, None, ℕ, ◌≡◌, ◌≢◌, ◌<◌, List, Some, Ok, Err}
 use Rattle.journal_tree.specs.declared.limits.TheConstants.{ROOT}
 use Rattle.journal_tree.specs.declared.time.Time.{Time}
-use Rattle.journal_tree.specs.declared.status.Status.{Status}
 use Rattle.journal_tree.specs.declared.status.Status.TheVariants.{NoAccess}
-use Rattle.journal_tree.specs.declared.reply.Attributes.{Attributes}
 use Rattle.journal_tree.specs.declared.reply.Handle.{Handle}
 use Rattle.journal_tree.specs.declared.reply.Told.{Told}
 use Rattle.journal_tree.specs.declared.reply.Changed.{Changed}
 use Rattle.journal_tree.specs.declared.reply.Found.{Found}
 use Rattle.journal_tree.specs.declared.reply.Made.{Made}
-use Rattle.journal_tree.specs.Trees.{Node, Tree, find}
+use Rattle.journal_tree.specs.declared.reply.Renamed.{Renamed}
+use Rattle.journal_tree.specs.Trees.{Node, Tree, is_directory, find}
 use Rattle.journal_tree.specs.Times.{IsTime, IsBefore, LAST_TIME}
 use Rattle.journal_tree.specs.declared.caller.Caller.{Caller}
 use Rattle.journal_tree.specs.Callers.{is_root, is_member}
-use Rattle.journal_tree.specs.Rights.{is_owner, may_run, may_store, may_rename, may_take}
+use Rattle.journal_tree.specs.Rights.{is_owner, may_write, may_run, may_store, may_rename, may_take}
 use Rattle.journal_tree.specs.Rule.{IsTree, HasTree, first_tree}
 use Rattle.journal_tree.specs.Links.{Links, IsLinked}
 use Rattle.journal_tree.specs.Fit.{HasFit, IsCaller, IsCallable}
 use Rattle.journal_tree.specs.Calls.{target, told}
 use Rattle.journal_tree.specs.Contents.{read_case, write_case}
 use Rattle.journal_tree.specs.Listing.{IsPage, last_cookie, readdir_case, readdirplus_case, Item, Page, Listed, ListedPlus, Stands, IsIn, Ascends, Step, IsChain, all_told, EachStep, SomeStep}
-use Rattle.journal_tree.specs.Op.Call.{setattr, lookup, write, create, mkdir, remove, rmdir}
-use Rattle.journal_tree.specs.Op.Reply.{set, found, wrote, made, removed}
+use Rattle.journal_tree.specs.Renames.{with_ctime}
+use Rattle.journal_tree.specs.Op.Call.{setattr, lookup, write, create, mkdir, remove, rmdir, rename}
+use Rattle.journal_tree.specs.Op.Reply.{set, found, wrote, made, removed, renamed}
 use Rattle.journal_tree.specs.Op.{Call, Reply, Op, is_refusal}
 use Rattle.journal_tree.specs.Runs.{Run, IsOneNode, HasSameNames}
 
@@ -94,6 +94,23 @@ TellsPages = (T T2 : Tree) (h : Handle) (c : Caller) (cookie most : ℕ) (r : Li
 abbrev pub TellsPagesPlus : Type 0
 TellsPagesPlus = (T T2 : Tree) (h : Handle) (c : Caller) (cookie names most : ℕ) (r : ListedPlus) → (Ok r, T2) ≡ readdirplus_case c cookie names most T (target T h) → IsToldPage T T2 h.number cookie r.page
 
+-- ── RENAME ──
+
+-- A RENAME is whole: the node stands under the new name and not under the old one, and is the same
+-- but for its ctime; all others hang where they did, and none is lost but what stood under the new
+-- name
+pub record IsRenamed (T T2 : Tree) (d : ℕ) (name : List ℕ) (e : ℕ) (new_name : List ℕ) (n : ℕ) : Type 0 where
+  pub stands : find T2 e new_name ≡ Some n
+  pub gone : (find T2 d name ≡ None) ⊎ ((d ≡ e) × (name ≡ new_name))
+  pub same : (x y : Node) → IsOneNode T T2 n x y → (y.body ≡ x.body) × (with_ctime x.attributes y.attributes.ctime ≡ y.attributes)
+  pub others : (i : ℕ) (y : Node) → i ≢ n → (T2.at i).node ≡ Some y → (x : Node) × ((T.at i).node ≡ Some x) × (x.home ≡ y.home)
+  pub stay : (i : ℕ) (x : Node) → i ≢ n → (T.at i).node ≡ Some x → (find T e new_name ≡ Some i) ⊎ ((y : Node) × ((T2.at i).node ≡ Some y))
+
+-- One that is answered OK moved the node that had the old name
+abbrev pub RenamesWhole : Type 0
+RenamesWhole = (h k : Handle) (name new_name : List ℕ) (c : Caller) (now : Time) (T T2 : Tree) (r : Renamed) → HasTree T
+    → Op (rename h name k new_name) c now T (renamed (Ok r)) T2 → (n : ℕ) × (find T h.number name ≡ Some n) × IsRenamed T T2 h.number name k.number new_name n
+
 -- ── replies ──
 
 -- A call that is refused leaves the tree as it was
@@ -133,6 +150,7 @@ TellsTruly (create h name how) (made (Ok r)) T T2 = IsTrueMade T T2 h.number r
 TellsTruly (mkdir h name s) (made (Ok r)) T T2 = IsTrueMade T T2 h.number r
 TellsTruly (remove h name) (removed (Ok r)) T T2 = IsTrueChange T T2 h.number r
 TellsTruly (rmdir h name) (removed (Ok r)) T T2 = IsTrueChange T T2 h.number r
+TellsTruly (rename h name k new_name) (renamed (Ok r)) T T2 = IsTrueChange T T2 h.number r.source × IsTrueChange T T2 k.number r.goal
 TellsTruly _ _ T T2 = ⊤
 
 abbrev pub RepliesAreTrue : Type 0
@@ -178,9 +196,16 @@ pub record IsRightfulEnd (c : Caller) (T : Tree) (y : Node) : Type 0 where
   pub names : may_rename c directory.attributes ≡ true
   pub sticky : may_take c directory.attributes y.attributes ≡ true
 
+-- and give it another home if he may take it away from where it hangs. A directory that gets
+-- another parent he must be allowed to write, because its `..` changes
+pub record IsRightfulMove (c : Caller) (T : Tree) (x y : Node) : Type 0 where
+  pub taken : IsRightfulEnd c T x
+  pub parent : (y.home.directory ≡ x.home.directory) ⊎ (is_directory x.body ≡ false) ⊎ (may_write c x.attributes ≡ true)
+
 -- A call by somebody who is not root does to each node what he may
 pub record KeepsRights (c : Caller) (T T2 : Tree) : Type 0 where
   pub changes : (n : ℕ) (x y : Node) → IsOneNode T T2 n x y → IsRightful c x y
+  pub moves : (n : ℕ) (x y : Node) → IsOneNode T T2 n x y → (y.home ≡ x.home) ⊎ IsRightfulMove c T x y
   pub ends : (n : ℕ) (x : Node) → (T.at n).node ≡ Some x → (T2.at n).node ≡ None → IsRightfulEnd c T x
   pub names : (n : ℕ) (x y : Node) → IsOneNode T T2 n x y → HasSameNames T T2 n ⊎ (may_rename c x.attributes ≡ true)
 

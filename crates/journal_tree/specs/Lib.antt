@@ -9,6 +9,8 @@ pub mod Changes
 pub mod Attributes
 pub mod Contents
 pub mod Names
+pub mod Renames
+pub mod Walks
 pub mod Listing
 pub mod Facts
 pub mod Op

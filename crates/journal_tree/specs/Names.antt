@@ -1,5 +1,5 @@
--- LOOKUP, CREATE, MKDIR, REMOVE and RMDIR, and the calls that this tree does not have: of each the
--- cases in their order, the first that holds is answered.
+-- LOOKUP, CREATE, MKDIR, REMOVE and RMDIR, and READLINK, SYMLINK, MKNOD and LINK, which this tree
+-- does not have: of each the cases in their order, the first that holds is answered.
 use Rattle.std.specs.Prelude.{ℕ, ◌+◌, ◌%◌, Bool, false, not, ◌&&◌, ◌==◌, if◌then◌else◌, List, [], Option, Some, None, is_some, is_none, unwrap_or, Ok}
 use Rattle.journal_tree.specs.declared.limits.TheConstants.{ROOT, MODES, FILE_MODE, DIRECTORY_MODE}
 use Rattle.journal_tree.specs.declared.time.Time.{Time}
@@ -14,15 +14,14 @@ use Rattle.journal_tree.specs.declared.settings.NewTime.TheVariants.{Leave}
 use Rattle.journal_tree.specs.declared.settings.Settings.{Settings}
 use Rattle.journal_tree.specs.declared.settings.CreateMode.{CreateMode}
 use Rattle.journal_tree.specs.declared.settings.CreateMode.TheVariants.{Unchecked, Guarded, Exclusive}
-use Rattle.journal_tree.specs.declared.status.Status.{Status}
 use Rattle.journal_tree.specs.declared.status.Status.TheVariants.{NoEntry, Exists, NotDirectory, IsDirectory, Invalid, TooBig, NoSpace, NameTooLong, NotEmpty, NotSupported}
-use Rattle.journal_tree.specs.Trees.{Home, Body, Node, Tree, is_directory, with_node, find, find_any}
+use Rattle.journal_tree.specs.Trees.{Body, Node, Tree, is_directory, with_node, find, find_any}
 use Rattle.journal_tree.specs.Trees.Body.{directory, file}
 use Rattle.journal_tree.specs.declared.caller.Caller.{Caller}
 use Rattle.journal_tree.specs.Callers.{is_root}
 use Rattle.journal_tree.specs.Rights.{SET_GROUP_BIT, has_bit, with_bit, may_store, may_rename, may_take}
 use Rattle.journal_tree.specs.declared.name.NameKind.{NameKind}
-use Rattle.journal_tree.specs.Calls.{Outcome, refused, Target, told, name_kind, on_node, allowed, in_searched, with_name, on_found, named}
+use Rattle.journal_tree.specs.Calls.{Outcome, refused, Target, told, name_kind, on_node, allowed, in_searched, on_found, named}
 use Rattle.journal_tree.specs.declared.name.NameKind.TheVariants.{Dot, DotDot, NoName, LongName, Name}
 use Rattle.journal_tree.specs.Changes.{touched, opened, touch_place, planted, cut}
 use Rattle.journal_tree.specs.Attributes.{resized, new_mtime, group_mode, with_settings, is_no_time, is_too_big}
@@ -165,12 +164,3 @@ make_other_case c name T t =
 -- LINK of a node to a name
 abbrev pub link_case : Caller → List ℕ → Tree → Target → Target → Outcome ⊥
 link_case c name T t u = on_node T t (λ n x. make_other_case c name T u)
-
--- RENAME, from one directory to another
-abbrev pub rename_case : Caller → List ℕ → List ℕ → Tree → Target → Target → Outcome ⊥
-rename_case c name new_name T t u =
-    on_node T t (λ d x. on_node T u (λ e y.
-    in_searched c T t (λ d x. in_searched c T u (λ e y.
-    with_name T (name_kind name) Invalid Invalid (with_name T (name_kind new_name) Invalid Invalid (
-    on_found T (find T d name) (refused NoEntry T) (λ n z.
-    allowed T (may_remove c x z && may_rename c y.attributes) (refused NotSupported T))))))))

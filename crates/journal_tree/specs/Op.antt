@@ -1,5 +1,5 @@
 -- The calls, and how each leads from a tree to a tree with its answer.
-use Rattle.std.specs.Prelude.{ℕ, ◌≡◌, ◌≢◌, ◌<◌, ◌+◌, Bool, List, Option, Some, None, Result, is_err}
+use Rattle.std.specs.Prelude.{ℕ, ◌≡◌, ◌≢◌, ◌<◌, Bool, List, Option, Some, None, Result, Decides, is_err}
 use Rattle.journal_tree.specs.declared.limits.TheConstants.{LAST_GENERATION, MOST_PLACES}
 use Rattle.journal_tree.specs.declared.time.Time.{Time}
 use Rattle.journal_tree.specs.declared.status.Status.{Status}
@@ -8,17 +8,20 @@ use Rattle.journal_tree.specs.declared.reply.Told.{Told}
 use Rattle.journal_tree.specs.declared.reply.Changed.{Changed}
 use Rattle.journal_tree.specs.declared.reply.Found.{Found}
 use Rattle.journal_tree.specs.declared.reply.Made.{Made}
+use Rattle.journal_tree.specs.declared.reply.Renamed.{Renamed}
 use Rattle.journal_tree.specs.declared.reply.Room.{Room}
 use Rattle.journal_tree.specs.declared.reply.Free.{Free}
 use Rattle.journal_tree.specs.declared.reply.Space.{Space}
 use Rattle.journal_tree.specs.declared.settings.Settings.{Settings}
 use Rattle.journal_tree.specs.declared.settings.CreateMode.{CreateMode}
-use Rattle.journal_tree.specs.Trees.{Tree, find_place}
+use Rattle.journal_tree.specs.Trees.{Tree, find, find_place}
+use Rattle.journal_tree.specs.Rule.{stems, IsBelow}
 use Rattle.journal_tree.specs.declared.caller.Caller.{Caller}
 use Rattle.journal_tree.specs.Calls.{target}
 use Rattle.journal_tree.specs.Attributes.{Access, getattr_case, setattr_case, access_case}
 use Rattle.journal_tree.specs.Contents.{Portion, read_case, write_case, commit_case}
-use Rattle.journal_tree.specs.Names.{lookup_case, create_case, mkdir_case, remove_case, rmdir_case, readlink_case, make_other_case, link_case, rename_case}
+use Rattle.journal_tree.specs.Names.{lookup_case, create_case, mkdir_case, remove_case, rmdir_case, readlink_case, make_other_case, link_case}
+use Rattle.journal_tree.specs.Renames.{rename_case}
 use Rattle.journal_tree.specs.Listing.{Listed, ListedPlus, readdir_case, readdirplus_case}
 use Rattle.journal_tree.specs.Facts.{IsFree, Facts, NameFacts, fsstat_case, fsinfo_case, pathconf_case}
 
@@ -35,6 +38,15 @@ pub record IsRoom (T : Tree) (d : ℕ) (room : Room) : Type 0 where
 abbrev pub MayTake : Tree → ℕ → Option Room → Type 0
 MayTake T d None = Unit {0}
 MayTake T d (Some room) = IsRoom T d room
+
+-- and for the entry of a node that goes to another directory: a place, or nothing
+abbrev pub MayTakePlace : Tree → ℕ → Option ℕ → Type 0
+MayTakePlace T e None = Unit {0}
+MayTakePlace T e (Some place) = (find_place T e place ≡ None) × (place < MOST_PLACES)
+
+-- It is told whether directory e is the node of that name, or lies below it
+abbrev pub TellsBelow : Tree → ℕ → List ℕ → ℕ → Bool → Type 0
+TellsBelow T d name e below = (n : ℕ) → find T d name ≡ Some n → Decides below (IsBelow (stems T) n e)
 
 -- A call
 pub data Call : Type 0 where
@@ -70,6 +82,7 @@ pub data Reply : Type 0 where
   wrote : Result Changed Status → Reply
   made : Result Made Status → Reply
   removed : Result Changed Status → Reply
+  renamed : Result Renamed Status → Reply
   listed : Result Listed Status → Reply
   listed_plus : Result ListedPlus Status → Reply
   space : Result Space Status → Reply
@@ -104,8 +117,9 @@ pub data Op : Call → Caller → Time → Tree → Reply → Tree → Type 0 wh
       → (r, T2) ≡ remove_case c name now T (target T h) → Op (remove h name) c now T (removed r) T2
   answers_rmdir : (h : Handle) (name : List ℕ) (c : Caller) (now : Time) (T T2 : Tree) (r : Result Changed Status)
       → (r, T2) ≡ rmdir_case c name now T (target T h) → Op (rmdir h name) c now T (removed r) T2
-  answers_rename : (h : Handle) (name : List ℕ) (k : Handle) (new_name : List ℕ) (c : Caller) (now : Time) (T T2 : Tree) (r : Result ⊥ Status)
-      → (r, T2) ≡ rename_case c name new_name T (target T h) (target T k) → Op (rename h name k new_name) c now T (not_done r) T2
+  answers_rename : (h : Handle) (name : List ℕ) (k : Handle) (new_name : List ℕ) (below : Bool) (place : Option ℕ) (c : Caller) (now : Time) (T T2 : Tree) (r : Result Renamed Status)
+      → MayTakePlace T k.number place → TellsBelow T h.number name k.number below
+      → (r, T2) ≡ rename_case c below place name new_name now T (target T h) (target T k) → Op (rename h name k new_name) c now T (renamed r) T2
   answers_link : (h k : Handle) (name : List ℕ) (c : Caller) (now : Time) (T T2 : Tree) (r : Result ⊥ Status)
       → (r, T2) ≡ link_case c name T (target T h) (target T k) → Op (link h k name) c now T (not_done r) T2
   answers_readdir : (h : Handle) (cookie most : ℕ) (c : Caller) (now : Time) (T T2 : Tree) (r : Result Listed Status)
@@ -128,6 +142,7 @@ is_refusal (bytes_read r) = is_err r
 is_refusal (wrote r) = is_err r
 is_refusal (made r) = is_err r
 is_refusal (removed r) = is_err r
+is_refusal (renamed r) = is_err r
 is_refusal (listed r) = is_err r
 is_refusal (listed_plus r) = is_err r
 is_refusal (space r) = is_err r

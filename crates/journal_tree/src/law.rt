@@ -1,5 +1,6 @@
 // What holds of the definitions, for all trees, callers and moments.
-ghost use Rattle.journal_tree.specs.Laws.{KeepsTrees, KeepsFit, BeginsAsTree, BeginsFit, NamesOnce, LinksAreTrees, ListsAll, ListsPlaces, TellsPages, TellsPagesPlus, RefusalsChangeNothing, RepliesAreTrue, ChangesMoveCtime, NamesMoveCtime, NamesMoveMtime, CallsKeepRights, OwnersReadAndWrite};
+ghost use Rattle.journal_tree.specs.Laws.{KeepsTrees, KeepsFit, BeginsAsTree, BeginsFit, NamesOnce, LinksAreTrees, ListsAll, ListsPlaces, TellsPages, TellsPagesPlus, RenamesWhole, RefusalsChangeNothing, RepliesAreTrue, ChangesMoveCtime, NamesMoveCtime, NamesMoveMtime, CallsKeepRights, OwnersReadAndWrite};
+ghost use Rattle.journal_tree.specs.Walks.{WalkDecides, NoWalkNeeded};
 
 /// Each call leaves a tree: each node but the root hangs in one directory, no two of a directory
 /// under one name or at one place, and the parents lead to the root.
@@ -46,13 +47,32 @@ pub fn listings_are_pages()
     ensures nodes { TellsPagesPlus }
 {}
 
+/// A RENAME that is answered OK is whole: the node stands under the new name and no longer under
+/// the old one, and is the same but for its ctime; all others hang where they did, and none is lost
+/// but what stood under the new name.
+pub fn renames_are_whole()
+    ensures { RenamesWhole }
+{}
+
+/// As many steps from a directory up its parents as there are numbers tell whether it is a node, or
+/// lies below it.
+pub fn a_walk_decides()
+    ensures { WalkDecides }
+{}
+
+/// A node that is no directory has none below it, and neither has a directory the one in which it
+/// hangs. So no walk is needed for a RENAME of those.
+pub fn most_renames_need_no_walk()
+    ensures { NoWalkNeeded }
+{}
+
 /// A call that is refused leaves the tree as it was.
 pub fn refusals_change_nothing()
     ensures { RefusalsChangeNothing }
 {}
 
-/// What the replies of SETATTR, WRITE, LOOKUP, CREATE, MKDIR, REMOVE and RMDIR tell of a node before
-/// and after the call is so in the tree before and after it.
+/// What the replies of SETATTR, WRITE, LOOKUP, CREATE, MKDIR, REMOVE, RMDIR and RENAME tell of a
+/// node before and after the call is so in the tree before and after it.
 pub fn replies_are_true()
     ensures { RepliesAreTrue }
 {}
@@ -70,7 +90,8 @@ pub fn changes_move_times()
 /// A call by somebody who is not root changes no owner; changes a group only of what he owns, and
 /// to one that he is in; changes bytes only of a file that he may write or owns; and changes the
 /// names of a directory only where he may write and search it, and where it is sticky takes out of
-/// it only what is his, or what he likes if the directory is his.
+/// it only what is his, or what he likes if the directory is his. He moves a node only where he may
+/// take it out of its directory, and gives a directory another parent only where he may write it.
 pub fn calls_keep_rights()
     ensures { CallsKeepRights }
 {}

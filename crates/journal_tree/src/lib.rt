@@ -9,12 +9,19 @@
 //! rule `HasTree` says the rest: a home is a place of a directory, no two homes of a directory are
 //! alike by name or by place, and the parents lead to the root.
 //!
-//! A call leads from a tree to a tree with a reply, at a moment, for a `Caller`. `specs/Op.antt` has
-//! the calls; the cases of each stand in their order in `Attributes`, `Contents`, `Names`, `Listing`
-//! and `Facts`, and the first that holds is answered. What is free for the code to choose is an
-//! argument with a premise: the number and the place of a new node, whether blocks were handed out,
-//! and how many are told as free. RENAME, SYMLINK, READLINK, LINK, MKNOD and an exclusive CREATE
-//! are answered `NotSupported` after their checks.
+//! A call leads from a tree to a tree with a reply, at a moment, for a `Caller`. `specs/Op.antt`
+//! has the calls; the cases of each stand in their order in `Attributes`, `Contents`, `Names`,
+//! `Renames`, `Listing` and `Facts`, and the first that holds is answered. What is free for the
+//! code to choose is an argument with a premise: the number and the place of a new node, the place
+//! of a node that goes to another directory, whether blocks were handed out, and how many are told
+//! as free. SYMLINK, READLINK, LINK, MKNOD and an exclusive CREATE are answered `NotSupported`
+//! after their checks.
+//!
+//! RENAME gives a node another home. Within its directory the node keeps its place. In another it
+//! has the place of what it replaces, or else the one that was handed out. A file replaces a file,
+//! and a directory replaces one without entries. No directory goes below itself: whether it would
+//! is an argument with a premise too, and `specs/Walks.antt` says how a walk up the parents decides
+//! it.
 //!
 //! Rights are those of POSIX and of RFC 1813, section 4.4 (`specs/Rights.antt`): a caller has a
 //! user, a group and the groups that he is in; root may all, unless it is squashed; who says nothing
@@ -22,9 +29,10 @@
 //! pass who may run the file. ctime grows with each change of a node, by a nanosecond where the
 //! clock does not show a later time.
 //!
-//! The functions of `law` do nothing: their contracts are what is proved of the definitions, for all
-//! trees, callers and clocks. A proof goes by steps: each call leaves the tree, sets one node, plants
-//! one, or cuts one off (`proofs/Steps.antt`), and each law is shown of these four.
+//! The functions of `law` do nothing: their contracts are what is proved of the definitions, for
+//! all trees, callers and clocks. A proof goes by steps: each call leaves the tree, sets one node,
+//! plants one, cuts one off, or moves one (`proofs/Steps.antt`), and each law is shown of these
+//! five.
 #![tactic(auto)]
 
 mod caller;
@@ -39,9 +47,10 @@ mod time;
 
 pub use caller::{Caller, GROUPS};
 pub use law::{
-    calls_keep_bounds, calls_keep_rights, calls_keep_trees, changes_move_times, first_is_a_tree,
-    links_are_trees, listings_are_pages, listings_miss_nothing, nodes_are_named_once,
-    owners_read_and_write, refusals_change_nothing, replies_are_true,
+    a_walk_decides, calls_keep_bounds, calls_keep_rights, calls_keep_trees, changes_move_times,
+    first_is_a_tree, links_are_trees, listings_are_pages, listings_miss_nothing,
+    most_renames_need_no_walk, nodes_are_named_once, owners_read_and_write,
+    refusals_change_nothing, renames_are_whole, replies_are_true,
 };
 pub use limits::{
     BLOCK_BYTES, BLOCK_PLACES, DIRECTORY_MODE, ENTRY_BYTES, FILE_MODE, HANDLE_BYTES,
@@ -49,7 +58,7 @@ pub use limits::{
     TRANSFER_BYTES,
 };
 pub use name::NameKind;
-pub use reply::{Attributes, Changed, Found, Free, Handle, Kind, Made, Room, Space, Told};
+pub use reply::{Attributes, Changed, Found, Free, Handle, Kind, Made, Renamed, Room, Space, Told};
 pub use settings::{CreateMode, NewTime, Settings};
 pub use status::Status;
 pub use time::{LAST_SECOND, NANOS, Time};

@@ -65,6 +65,14 @@ pub struct Made {
     pub directory: Changed,
 }
 
+/// The two directories of a RENAME: the one from which the node goes, and the one to which it goes.
+/// Within one directory both are the same.
+#[derive(Clone, Copy, Debug, PartialEq, Eq)]
+pub struct Renamed {
+    pub source: Changed,
+    pub goal: Changed,
+}
+
 /// What a new node is given: its number, and the place of its entry in the directory.
 #[derive(Clone, Copy, Debug, PartialEq, Eq)]
 pub struct Room {
