@@ -10,7 +10,13 @@ pub mod Looking
 pub mod Hanging
 pub mod Changing
 pub mod Planting
+pub mod Placed
 pub mod Removing
 pub mod Growing
 pub mod Widening
+pub mod Dropping
+pub mod Renaming
+pub mod Moving
+pub mod Following
+pub mod Merging
 pub mod Keeping

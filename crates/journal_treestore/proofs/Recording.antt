@@ -3,7 +3,7 @@ use Rattle.std.proofs.Common.{ℕ, ◌≡◌, ◌≢◌, ◌<◌, ◌≤◌, ◌
 use Rattle.std.specs.Prelude.{slice_range, ◌%◌, bit_xor}
 use Rattle.std.specs.Int.{w32, to_le_bytes, from_le_bytes}
 use Rattle.std.proofs.lemmas.Bool.{cases_eq, cases_lt}
-use Rattle.std.proofs.lemmas.List.{length-take-le, length-drop, drop-drop, drop-replicate, take-replicate, length-replicate}
+use Rattle.std.proofs.lemmas.List.{length-take-le, length-drop, drop_at, drop-drop, drop-replicate, take-replicate, length-replicate}
 use Rattle.std.proofs.lemmas.Slice.{between_is, take-put_mid_below, drop-put_mid}
 use borrow.Rule.Slice.PartMut.{put_mid}
 use Rattle.std.proofs.lemmas.Nat.{from_le_bytes-to_le_bytes_4}
@@ -13,7 +13,7 @@ use Rattle.journal_treestore.specs.Bytes.{with_piece, word_at}
 use Rattle.journal_treestore.specs.Owners.{owner_bytes, owner_from}
 use Rattle.journal_treestore.specs.Entries.{tag_from, tag_of, no_entry, entry_bytes, entry_from, with_entry, is_tagged, HasNoneUpTo}
 use Rattle.journal_treestore.specs.Views.{zero_block}
-use Rattle.journal_treestore.proofs.Pieces.{slice_behind}
+use Rattle.journal_treestore.proofs.Pieces.{behind, slice_behind}
 
 -- ── owners ──
 
@@ -65,6 +65,13 @@ with-same v at e whole low a b = λ i. record { number = number i; tag = tag i }
         (append_assoc f (to_le_bytes w32 e.number ++ to_le_bytes w32 e.tag) r ∙ ap (λ x. f ++ x) (append_assoc (to_le_bytes w32 e.number) (to_le_bytes w32 e.tag) r) ∙ sym (append_assoc f (to_le_bytes w32 e.number) (to_le_bytes w32 e.tag ++ r)))
         ∙ ap (from_le_bytes w32) (slice_behind (f ++ to_le_bytes w32 e.number) (to_le_bytes w32 e.tag) r (8 * at + 4) (8 * at + 4 + 4) second refl)
         ∙ from_le_bytes-to_le_bytes_4 e.tag b
+
+-- the second of two entries at a place stands
+pub with-twice : (v : List ℕ) (at : ℕ) (a b : Entry) → length v ≡ 4096 → at < 512 → with_entry (with_entry v at a) at b ≡ with_entry v at b
+with-twice v at a b whole low =
+    ap (λ w. with_piece w (8 * at) (entry_bytes b)) (append_assoc (take (8 * at) v) (entry_bytes a) (drop (8 * at + 8) v))
+    ∙ behind (take (8 * at) v) (entry_bytes a ++ drop (8 * at + 8) v) (entry_bytes b) (8 * at) (length-take-le (8 * at) v (omega (arith, whole, low)))
+    ∙ ap (λ w. take (8 * at) v ++ entry_bytes b ++ w) (drop_at (entry_bytes a) (drop (8 * at + 8) v) 8 (length-entry a))
 
 -- what lies before a piece, and after it, stays
 module _ (bytes piece : List ℕ) (at : ℕ) (fits : at + length piece ≤ length bytes) where

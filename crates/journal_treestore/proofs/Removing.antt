@@ -2,47 +2,29 @@
 use Rattle.std.proofs.Common.{◌≡◌, ◌≢◌, ℕ, cond, Some, None, refl, sym, ap, subst, ◌⊎◌, inl, inr, ◌∙◌, arith}
 use Rattle.std.specs.Prelude.{option_map}
 use Rattle.std.proofs.lemmas.Bool.{cases_eq, eq-eqb, ne_eqb}
-use Rattle.journal_tree.specs.declared.limits.TheConstants.{ROOT}
 use Rattle.journal_tree.specs.declared.time.Time.{Time}
 use Rattle.journal_tree.specs.declared.reply.Kind.{Kind}
 use Rattle.journal_tree.specs.Times.{time_of_names}
-use Rattle.journal_tree.specs.Trees.{Home, Body, Tree, with_slot, with_node, find}
+use Rattle.journal_tree.specs.Trees.{Body, Tree, with_slot, with_node}
 use Rattle.journal_tree.specs.Changes.{with_times, touched, touch}
-use Rattle.journal_treestore.specs.declared.entry.Entry.{Entry}
 use Rattle.journal_treestore.specs.Entries.{with_entry, no_entry}
 use Rattle.journal_treestore.specs.Views.{Held, Seen, View, with_inode, with_block, body_of, slot_of, tree_of, entry_of, entry_at, home_in, homes}
 use Rattle.journal_treestore.specs.Views.Seen.{free, used}
-use Rattle.journal_treestore.specs.Sound.{IsEntryOf, IsHung, IsSoundInode, IsSoundView}
+use Rattle.journal_treestore.specs.Sound.{IsHung, IsSoundInode, IsSoundView}
 use Rattle.journal_treestore.specs.Steps.{with_moment, Seat, seat_place, IsSeat, cut_view, CuttingShows}
+use Rattle.journal_treestore.specs.Moves.{IsPlaced}
 use Rattle.journal_treestore.proofs.Recording.{length-with}
 use Rattle.journal_treestore.proofs.Hanging.{with_home, with_place, entry-other, cut}
-use Rattle.journal_treestore.proofs.Viewing.{finds, root_apart}
 use Rattle.journal_treestore.proofs.Changing.{tree-inode, homes-inode, entries-inode, AreInodes, inodes-inode, inodes-block, tree-block, entries-block, inode-other}
 use Rattle.journal_treestore.proofs.Planting.{entry_by-moment, with_home-again}
+use Rattle.journal_treestore.proofs.Placed.{seat-placed, in_d, at_place, no_root, not_d}
 
 module _ (V : View) (sound : IsSoundView V) (s : Seat) (seat : IsSeat V s) where
   head : IsSoundInode V s.d s.h
   head = sound.inodes s.d s.h seat.is
 
-  entry : IsEntryOf (homes V) s.d (seat_place s) (entry_at V s.d (seat_place s))
-  entry = sound.hung.back s.d (seat_place s) (λ z. seat.some (sym seat.names ∙ z))
-
-  home_is : s.g.home ≡ entry.home
-  home_is = let e : Some s.g.home ≡ Some entry.home = sym (ap home_in seat.node) ∙ ap (homes V) (sym seat.names) ∙ entry.is in cc
-
-  pub in_d : s.g.home.directory ≡ s.d
-  in_d = ap (λ (h : Home). h.directory) home_is ∙ entry.directory
-
-  pub at_place : s.g.home.place ≡ seat_place s
-  at_place = ap (λ (h : Home). h.place) home_is ∙ entry.place_is
-
-  pub no_root : s.n ≢ ROOT
-  no_root e = root_apart V sound s.d s.h s.g seat.is (ap V.inode (sym e) ∙ seat.node) in_d
-
-  pub found_is : find (tree_of V) s.d s.g.home.name ≡ Some s.n
-  found_is =
-      finds V sound s.d (seat_place s) s.g.home.name s.g (λ z. seat.some (sym seat.names ∙ z)) (ap V.inode seat.names ∙ seat.node) refl
-      ∙ ap Some seat.names
+  placed : IsPlaced V s
+  placed = seat-placed V s seat
 
   module _ (now : Time) where
     abbrev V1 : View
@@ -54,11 +36,8 @@ module _ (V : View) (sound : IsSoundView V) (s : Seat) (seat : IsSeat V s) where
     abbrev V3 : View
     V3 = with_inode V2 s.n (free s.g.generation)
 
-    not_d : s.n ≢ s.d
-    not_d e = seat.some (sym seat.names ∙ ap (λ (e : Entry). e.number) (
-        ap (λ d. entry_at V d (seat_place s)) (sym e)
-        ∙ ap (λ y. entry_of V y (seat_place s)) seat.node
-        ∙ seat.bare (seat_place s)))
+    apart : s.n ≢ s.d
+    apart = not_d V sound s placed
 
     heads1 : AreInodes V1
     heads1 = inodes-block V s.d s.h s.j sound.inodes seat.is seat.there (with_entry (V.block (s.h.blocks s.j)) s.q no_entry) (length-with (V.block (s.h.blocks s.j)) s.q no_entry (head.sized s.j seat.there) seat.low)
@@ -101,7 +80,7 @@ module _ (V : View) (sound : IsSoundView V) (s : Seat) (seat : IsSeat V s) where
             ap (λ (T : Tree). T.at i) steps
             ∙ ap (λ b. cond b (record { generation = s.g.generation; node = None }) ((with_slot (tree_of V) s.d (slot_of V1 (used (with_moment s.h now)))).at i)) (eq-eqb i s.n same)
             ∙ sym (
-            ap (λ b. cond b (record { generation = ((with_node (tree_of V) s.n None).at s.d).generation; node = option_map (touched now) ((with_node (tree_of V) s.n None).at s.d).node }) ((with_node (tree_of V) s.n None).at i)) (ne_eqb i s.d (λ e. not_d (sym same ∙ e)))
+            ap (λ b. cond b (record { generation = ((with_node (tree_of V) s.n None).at s.d).generation; node = option_map (touched now) ((with_node (tree_of V) s.n None).at s.d).node }) ((with_node (tree_of V) s.n None).at i)) (ne_eqb i s.d (λ e. apart (sym same ∙ e)))
             ∙ ap (λ b. cond b (record { generation = ((tree_of V).at s.n).generation; node = None }) ((tree_of V).at i)) (eq-eqb i s.n same)
             ∙ ap (λ (y : Seen). record { generation = (slot_of V y).generation; node = None }) seat.node)
         each i (inr other) (inl same) =
@@ -111,7 +90,7 @@ module _ (V : View) (sound : IsSoundView V) (s : Seat) (seat : IsSeat V s) where
             ∙ slot_d
             ∙ sym (
             ap (λ b. cond b (record { generation = ((with_node (tree_of V) s.n None).at s.d).generation; node = option_map (touched now) ((with_node (tree_of V) s.n None).at s.d).node }) ((with_node (tree_of V) s.n None).at i)) (eq-eqb i s.d same)
-            ∙ ap (λ b. record { generation = (cond b (record { generation = ((tree_of V).at s.n).generation; node = None }) ((tree_of V).at s.d)).generation; node = option_map (touched now) (cond b (record { generation = ((tree_of V).at s.n).generation; node = None }) ((tree_of V).at s.d)).node }) (ne_eqb s.d s.n (λ e. not_d (sym e))))
+            ∙ ap (λ b. record { generation = (cond b (record { generation = ((tree_of V).at s.n).generation; node = None }) ((tree_of V).at s.d)).generation; node = option_map (touched now) (cond b (record { generation = ((tree_of V).at s.n).generation; node = None }) ((tree_of V).at s.d)).node }) (ne_eqb s.d s.n (λ e. apart (sym e))))
         each i (inr other) (inr apart_d) =
             ap (λ (T : Tree). T.at i) steps
             ∙ ap (λ b. cond b (record { generation = s.g.generation; node = None }) ((with_slot (tree_of V) s.d (slot_of V1 (used (with_moment s.h now)))).at i)) (ne_eqb i s.n other)
@@ -130,7 +109,7 @@ module _ (V : View) (sound : IsSoundView V) (s : Seat) (seat : IsSeat V s) where
         entries2 = entries-inode V1 s.d (used (with_moment s.h now)) (λ place. entry_by-moment V1 s.h now s.h.kind place ∙ sym (ap (λ y. entry_of V1 y place) seat.is))
 
         node2 : V2.inode s.n ≡ used s.g
-        node2 = inode-other V1 s.d s.n (used (with_moment s.h now)) not_d ∙ seat.node
+        node2 = inode-other V1 s.d s.n (used (with_moment s.h now)) apart ∙ seat.node
 
         bare : (place : ℕ) → entry_of V2 (used s.g) place ≡ no_entry
         bare place = by s.g.kind refl
@@ -138,7 +117,7 @@ module _ (V : View) (sound : IsSoundView V) (s : Seat) (seat : IsSeat V s) where
             entry2 : (place : ℕ) → entry_at V2 s.n place ≡ entry_at V s.n place
             entry2 place =
                 ap (λ E. E s.n place) (entries2 ∙ entries1)
-                ∙ entry-other (entry_at V) s.d (seat_place s) no_entry s.n place (λ same _. not_d same)
+                ∙ entry-other (entry_at V) s.d (seat_place s) no_entry s.n place (λ same _. apart same)
 
             by : (kind : Kind) → s.g.kind ≡ kind → entry_of V2 (used s.g) place ≡ no_entry
             by kind is =
@@ -156,9 +135,9 @@ module _ (V : View) (sound : IsSoundView V) (s : Seat) (seat : IsSeat V s) where
 
         cuts : IsHung (with_home (homes V) s.n None) (with_place (entry_at V) s.d (seat_place s) no_entry)
         cuts =
-            subst (λ d. IsHung (with_home (homes V) s.n None) (with_place (entry_at V) d (seat_place s) no_entry)) in_d
-            (subst (λ p. IsHung (with_home (homes V) s.n None) (with_place (entry_at V) s.g.home.directory p no_entry)) at_place
-            (cut (homes V) (entry_at V) s.n s.g.home (ap home_in seat.node) no_root sound.hung))
+            subst (λ d. IsHung (with_home (homes V) s.n None) (with_place (entry_at V) d (seat_place s) no_entry)) (in_d V sound s placed)
+            (subst (λ p. IsHung (with_home (homes V) s.n None) (with_place (entry_at V) s.g.home.directory p no_entry)) (at_place V sound s placed)
+            (cut (homes V) (entry_at V) s.n s.g.home (ap home_in seat.node) (no_root V sound s placed) sound.hung))
 
 pub cutting-shows : CuttingShows
 cutting-shows V s now sound seat = record {

@@ -1,24 +1,18 @@
 -- A directory that got a block is sound, and a node may be put into that block at once.
-use Rattle.std.proofs.Common.{◌≡◌, ◌≢◌, ℕ, ◌+◌, ◌*◌, ◌/◌, ◌<◌, ◌≤◌, true, cond, eqb, List, Option, Some, None, refl, sym, ap, subst, ◌⊎◌, inl, inr, ◌∙◌, arith}
+use Rattle.std.proofs.Common.{◌≡◌, ◌≢◌, ℕ, ◌+◌, ◌*◌, ◌<◌, ◌≤◌, true, cond, Option, Some, None, refl, sym, ap, subst, ◌⊎◌, inl, inr, ◌∙◌, arith}
 use Rattle.std.specs.Prelude.{option_map}
 use Rattle.std.proofs.lemmas.Bool.{cases_eq, eq-eqb, ne_eqb}
 use Rattle.journal_tree.specs.declared.limits.TheConstants.{MOST_PLACES}
 use Rattle.journal_tree.specs.declared.time.Time.{Time}
-use Rattle.journal_tree.specs.declared.reply.Attributes.{Attributes}
-use Rattle.journal_tree.specs.declared.reply.Kind.{Kind}
-use Rattle.journal_tree.specs.declared.reply.Kind.TheVariants.{Directory}
-use Rattle.journal_tree.specs.Trees.{Node, Slot, Tree, is_directory, with_node}
-use Rattle.journal_tree.specs.Rule.{Stem, stem_of, stems, IsTree, HasTree}
+use Rattle.journal_tree.specs.Trees.{Node, Tree, is_directory}
+use Rattle.journal_tree.specs.Rule.{stem_of, stems, IsTree, HasTree}
 use Rattle.journal_tree.specs.Fit.{IsFit, HasFit}
 use Rattle.journal_tree.specs.Changes.{opened, touch_place}
 use Rattle.journal_tree.proofs.Stems.{with_stem}
 use Rattle.journal_tree.proofs.Bounds.{grown-body-fits}
-use Rattle.journal_tree.proofs.Changing.{stems-with_slot, HasTree-place}
-use Rattle.journal_tree.proofs.Keeping.{same_generation}
-use Rattle.journal_treestore.specs.declared.entry.Entry.{Entry}
-use Rattle.journal_treestore.specs.Views.{Held, Seen, View, body_of, node_of, slot_of, tree_of}
-use Rattle.journal_treestore.specs.Sound.{IsSoundView}
-use Rattle.journal_treestore.specs.Steps.{Growth, IsGrowth, grown_view, widened, widen, Shows, GrowingStaysSound}
+use Rattle.journal_tree.proofs.Changing.{stems-with_slot, HasTree-place, same_generation}
+use Rattle.journal_treestore.specs.Views.{body_of, node_of, tree_of}
+use Rattle.journal_treestore.specs.Steps.{grown_view, widened, widen, Shows, GrowingStaysSound}
 use Rattle.journal_treestore.proofs.Viewing.{inode-node}
 use Rattle.journal_treestore.proofs.Growing.{growing-shows}
 

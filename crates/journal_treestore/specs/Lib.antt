@@ -8,3 +8,4 @@ pub mod Views
 pub mod Sound
 pub mod Lookups
 pub mod Steps
+pub mod Moves

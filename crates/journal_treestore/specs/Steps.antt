@@ -14,7 +14,7 @@ use Rattle.journal_tree.specs.Changes.{with_times, grown_body, touch_place, plan
 use Rattle.journal_tree.specs.Fit.{IsCallable, IsCaller}
 use Rattle.journal_tree.specs.Op.{Call, Reply, IsRoom, Op}
 use Rattle.journal_treestore.specs.Entries.{with_entry, no_entry}
-use Rattle.journal_treestore.specs.Views.{Held, View, with_inode, with_owner, with_block, entry_of, entry_at, zero_block, node_of, tree_of, homes}
+use Rattle.journal_treestore.specs.Views.{Held, View, with_inode, with_owner, with_block, entry_of, entry_at, zero_block, tree_of, homes}
 use Rattle.journal_treestore.specs.Views.Seen.{free, used}
 use Rattle.journal_treestore.specs.Sound.{entry_for, IsHung, IsSoundInode, IsSoundView}
 

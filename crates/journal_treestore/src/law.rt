@@ -2,6 +2,7 @@
 ghost use Rattle.journal_treestore.specs.Places.{PlacesAreObjects, PlacesAreApart};
 ghost use Rattle.journal_treestore.specs.Lookups.{BlocksAreHadOnce, LookupFinds, LookupMisses};
 ghost use Rattle.journal_treestore.specs.Steps.{PlantingShows, CuttingShows, GrowingShows, GrowingStaysSound, CallsStaySound};
+ghost use Rattle.journal_treestore.specs.Moves.{DroppingShows, DroppingStaysSound, RenamingShows, MovingShows};
 
 /// Each object of a disk has an address that its layout knows, and no two have one address.
 pub fn places_never_overlap()
@@ -29,6 +30,16 @@ pub fn writes_show_the_tree_after_them()
     ensures cut { CuttingShows }
     ensures grown { GrowingShows }
     ensures sound { GrowingStaysSound }
+{}
+
+/// The tree that a sound disk shows once a node that is replaced goes by two writes, and once a
+/// node gets another name in its directory by three, or a free place of another directory by five.
+/// They are as many however large the node is, and whatever hangs in it.
+pub fn renames_show_the_tree_after_them()
+    ensures dropped { DroppingShows }
+    ensures sound { DroppingStaysSound }
+    ensures renamed { RenamingShows }
+    ensures moved { MovingShows }
 {}
 
 /// A call that leads to the tree that is shown by such steps leaves a sound disk.

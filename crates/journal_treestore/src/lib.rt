@@ -12,8 +12,8 @@
 //! Contracts see bytes as lists, and a value is read back as it was written. A `View` is all the
 //! objects of a disk (`specs/Views.antt`), `tree_of` their tree, and `IsSoundView` the rule
 //! (`specs/Sound.antt`). `specs/Steps.antt` has the tree that a view shows once some of its objects
-//! are overwritten. The functions of `law` do nothing: their contracts hold for all disks. No
-//! program uses this crate yet.
+//! are overwritten, and `specs/Moves.antt` has it for the writes of RENAME. The functions of `law`
+//! do nothing: their contracts hold for all disks.
 #![tactic(auto)]
 
 mod bytes;
@@ -29,7 +29,7 @@ pub use entry::{ENTRY_BYTES, Entry, PLACES, find_tag, tag_of};
 pub use inode::{DIRECT_BLOCKS, Head, INODE_BYTES, Inode, name_in};
 pub use law::{
     blocks_are_had_once, calls_leave_a_sound_disk, lookups_answer_by_what_they_read,
-    places_never_overlap, writes_show_the_tree_after_them,
+    places_never_overlap, renames_show_the_tree_after_them, writes_show_the_tree_after_them,
 };
 pub use owner::{OWNER_BYTES, Owner};
 pub use place::{
