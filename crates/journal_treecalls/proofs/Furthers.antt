@@ -87,7 +87,7 @@ module _ (T : Tree) (d place : ℕ) (now : Time) where
       by false x = refl
 
 -- a number in a list is set
-get-set : (bs : List ℕ) (j b i : ℕ) → j < length bs → get_or (set bs j b) i 0 ≡ cond (eqb i j) b (get_or bs i 0)
+pub get-set : (bs : List ℕ) (j b i : ℕ) → j < length bs → get_or (set bs j b) i 0 ≡ cond (eqb i j) b (get_or bs i 0)
 get-set bs j b i low = by (cases_eq i j)
   where
     by : (i ≡ j) ⊎ (i ≡ j → ⊥) → get_or (set bs j b) i 0 ≡ cond (eqb i j) b (get_or bs i 0)

@@ -29,6 +29,10 @@ pub mod Laying
 pub mod Overlaying
 pub mod Writes
 pub mod Takeovers
+pub mod Upward
+pub mod Going
+pub mod Arriving
+pub mod Deciding
 pub mod Renames
 pub mod Walking
 pub mod Showing

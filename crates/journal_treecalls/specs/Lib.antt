@@ -12,6 +12,7 @@ pub mod Portions
 pub mod Overlays
 pub mod Takings
 pub mod Renamings
+pub mod Moves
 pub mod Lines
 pub mod Walks
 pub mod Listings

@@ -433,7 +433,7 @@ fn plant_further<T: TreeDisk>(
 }
 
 // The number of the first place of a directory's block.
-fn first_place(j: u64) -> u32
+pub(crate) fn first_place(j: u64) -> u32
     requires { j < MOST_BLOCKS }
     ensures { result ≡ 512 * j }
 {

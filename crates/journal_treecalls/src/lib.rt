@@ -8,6 +8,7 @@
 //! of `journal_tree`; and the disk is sound again. So nothing here needs the journal.
 #![tactic(auto)]
 
+mod ancestry;
 mod attributes;
 mod blocks;
 mod bytes;
@@ -23,6 +24,7 @@ mod image;
 mod lines;
 mod listing;
 mod lookups;
+mod moving;
 mod name;
 mod named;
 mod node;
@@ -50,7 +52,7 @@ pub use overlay::{WriteData, write};
 pub use portion::{ReadReply, read};
 pub use refusals::{create_exclusive, link, mknod, readlink, symlink};
 pub use removal::remove;
-pub use renaming::rename;
+pub use renaming::{NameIn, rename};
 pub use room::Spare;
 pub use setting::setattr;
 pub use unchecked::create_unchecked;

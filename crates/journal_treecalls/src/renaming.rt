@@ -1,31 +1,77 @@
 // RENAME.
-ghost use Rattle.std.specs.Prelude.{◌≡◌, [], IfOk, Err};
-ghost use Rattle.journal_tree.specs.declared.time.Time.{Time};
+ghost use Rattle.std.specs.Prelude.{◌≡◌, ◌<◌, ◌≤◌, [], length, IfOk};
+ghost use Rattle.journal_tree.specs.declared.limits.TheConstants.{MOST_NAME};
+ghost use Rattle.journal_tree.specs.Times.{IsTime};
 ghost use Rattle.journal_tree.specs.Op.Call.{rename as rename_call};
-ghost use Rattle.journal_tree.specs.Op.Reply.{not_done};
+ghost use Rattle.journal_tree.specs.Op.Reply.{renamed};
 ghost use Rattle.journal_treecalls.specs.Disks.{Learns, Does};
-ghost use Rattle.journal_treecalls.specs.Renamings.{names_status, ways_of, renaming_status, IsWayTo, IsWay, IsRenaming};
+ghost use Rattle.journal_treecalls.specs.Renamings.{names_status, ways_of, IsWayTo, IsWay, is_within, keeps_parent, may_go, TellsBelowGoal, IsBareIf, MayReplace, onto_of, IsInsideDecision, DecidesNew, DecidesOver, DecidesHit, DecidesName, both_same, Renames, RenamesNamed};
+ghost use Rattle.journal_treecalls.specs.Moves.{Performs};
 
 use crate::TreeDisk;
+use crate::ancestry::is_above;
+use crate::entries::find_entry;
+use crate::moving::put_move;
 use crate::name::name_kind;
 use crate::named::name_status;
 use crate::node::{Record, directory_for, node};
+use crate::removal::are_words;
+use crate::room::{NewPlace, Spare, find_place};
 use crate::search::{Hit, find};
-use journal_tree::{Caller, Handle, Status};
+use crate::setting::{changed, is_directory_kind};
+use journal_tree::{Caller, Handle, Kind, Renamed, Status, Time};
+use journal_treestore::{Head, PLACES};
+
+/// A name in a directory.
+#[derive(Clone, Copy)]
+pub struct NameIn<'a> {
+    pub directory: Handle,
+    pub name: &'a [u8],
+}
+
+// One of the two directories: its number, and its inode.
+#[derive(Clone, Copy)]
+pub(crate) struct Side {
+    pub(crate) number: u32,
+    pub(crate) inode: Record,
+}
 
 // The directories from which and to which a node is to go.
 #[derive(Clone, Copy)]
 pub(crate) struct Way {
-    pub(crate) source: Record,
-    pub(crate) goal: Record,
+    pub(crate) source: Side,
+    pub(crate) goal: Side,
 }
 
-/// RENAME (RFC 1813, 3.3.14): a node keeps its name.
+// Where a node goes.
+#[derive(Clone, Copy)]
+pub(crate) enum Destination {
+    // To another name of its directory, at its own place.
+    Own,
+    // The same. This node, which had the new name, goes.
+    OwnOver(Hit),
+    // To another directory, at the place of this node, which goes.
+    Onto(Hit),
+    // To another directory, at a place that is free there.
+    Into(NewPlace),
+}
+
+// The outcome of RENAME: both names are one node, or this node goes there.
+#[derive(Clone, Copy)]
+pub(crate) enum Decision {
+    Stays,
+    Goes(Hit, Destination),
+}
+
+/// RENAME (RFC 1813, 3.3.14): a node gets another name, in its directory or in another. The
+/// node that had the new name is removed. If the other directory has no free place, it gets the
+/// first of these blocks that is free. At most six objects are written, two of them blocks of
+/// directories, however large the nodes are and whatever hangs in them.
 ///
 /// # Errors
 /// - The call is given up.
 ///
-/// The answers. The first that holds:
+/// The other answers. The first that holds:
 /// - `Stale`: the node of one of the handles was removed.
 /// - `NotDirectory`: the first handle is a file's.
 /// - `NoAccess`: the caller may not search the first directory.
@@ -34,37 +80,37 @@ pub(crate) struct Way {
 /// - `NameTooLong`: the first name has more than 255 bytes.
 /// - These two for the second name.
 /// - `NoEntry`: the first directory has no node of the first name.
-/// - `NoAccess`: the caller may not write one of the directories, or the first is sticky and neither
-///   it nor the node is his.
-/// - `NotSupported`.
+/// - `NoAccess`: the caller may not write one of the directories, or the first is sticky and
+///   neither it nor the node is his, or the node is a directory that goes to another one, and he
+///   may not write it.
+/// - If both names are one node: both directories as they are, and nothing changes.
+/// - `Invalid`: the second directory is the node, or lies below it.
+/// - `NoAccess`: the second directory is sticky, and neither it nor the node of the second name is
+///   his.
+/// - `Exists`: a file would replace a directory, or a directory a file or one that has entries.
+/// - `NoSpace`: the second directory is another one that has no node of the second name and no free
+///   place, and none of the blocks is free or it has as many as a directory may have.
 pub fn rename<T: TreeDisk>(
     disk: &mut T,
     caller: &Caller,
-    source: Handle,
-    name: &[u8],
-    goal: Handle,
-    new_name: &[u8],
-) -> Result<Status, T::Fault>
+    source: &NameIn,
+    goal: &NameIn,
+    spare: &Spare,
+    now: Time,
+) -> Result<Result<Renamed, Status>, T::Fault>
     requires first { T.writes disk.old ≡ [] }
-    ensures { IfOk result (λ status. (now : Time) → Does (T.may_be disk.new) (T.writes disk.new) (rename_call source name.now goal new_name.now) caller.now now (not_done (Err status))) }
+    requires time { IsTime now }
+    ensures { IfOk result (λ reply. Does (T.may_be disk.new) (T.writes disk.new) (rename_call source.now.directory source.now.name.now goal.now.directory goal.now.name.now) caller.now now (renamed reply)) }
 {
-    let refusal = names_status(name, new_name);
-    match find_way(disk, caller, source, goal)? {
-        Ok(way) => rename_on(disk, caller, &way, name, refusal),
-        Err(status) => Ok(status),
+    are_words(*caller);
+    let (name, new_name) = (source.name, goal.name);
+    match find_way(disk, caller, source.directory, goal.directory)? {
+        Ok(way) => rename_on(disk, caller, &way, name, new_name, spare, now),
+        Err(status) => Ok(Err(status)),
     }
 }
 
-// The answer to names that are none.
-fn names_status(name: &[u8], new_name: &[u8]) -> Option<Status>
-    ensures { result ≡ names_status name.now new_name.now }
-{
-    let none = Status::Invalid;
-    match name_status(name_kind(name), none, none) {
-        Some(status) => Some(status),
-        None => name_status(name_kind(new_name), none, none),
-    }
-}
+// ── the directories and the names ──
 
 // The two directories, if the caller may search them.
 fn find_way<T: TreeDisk>(
@@ -79,7 +125,10 @@ fn find_way<T: TreeDisk>(
 {
     match node(disk, source)? {
         None => Ok(Err(Status::Stale)),
-        Some(found) => way_to(disk, caller, found, goal),
+        Some(inode) => {
+            let number = source.number;
+            way_to(disk, caller, Side { number, inode }, goal)
+        }
     }
 }
 
@@ -87,7 +136,7 @@ fn find_way<T: TreeDisk>(
 fn way_to<T: TreeDisk>(
     disk: &mut T,
     caller: &Caller,
-    source: Record,
+    source: Side,
     goal: Handle,
 ) -> Result<Result<Way, Status>, T::Fault>
     requires first { T.writes disk.old ≡ [] }
@@ -96,57 +145,292 @@ fn way_to<T: TreeDisk>(
 {
     match node(disk, goal)? {
         None => Ok(Err(Status::Stale)),
-        Some(found) => Ok(way_of(caller, source, found)),
+        Some(inode) => {
+            let number = goal.number;
+            Ok(way_of(caller, source, Side { number, inode }))
+        }
     }
 }
 
 // Two nodes, if they are directories that the caller may search.
-fn way_of(caller: &Caller, source: Record, goal: Record) -> Result<Way, Status>
+fn way_of(caller: &Caller, source: Side, goal: Side) -> Result<Way, Status>
     ensures { result ≡ ways_of caller.now source goal }
 {
-    let source = directory_for(caller, source)?;
-    let goal = directory_for(caller, goal)?;
-    Ok(Way { source, goal })
+    let first = directory_for(caller, source.inode)?;
+    let second = directory_for(caller, goal.inode)?;
+    Ok(Way {
+        source: Side {
+            number: source.number,
+            inode: first,
+        },
+        goal: Side {
+            number: goal.number,
+            inode: second,
+        },
+    })
 }
 
-// The answer in these directories.
+// RENAME in these directories.
 fn rename_on<T: TreeDisk>(
     disk: &mut T,
     caller: &Caller,
     way: &Way,
     name: &[u8],
-    refusal: Option<Status>,
-) -> Result<Status, T::Fault>
+    new_name: &[u8],
+    spare: &Spare,
+    now: Time,
+) -> Result<Result<Renamed, Status>, T::Fault>
     requires first { T.writes disk.old ≡ [] }
-    ensures learns { IfOk result (λ status. Learns (T.may_be disk.old) (T.may_be disk.new) (λ V. IsRenaming V caller.now way.now name.now refusal status)) }
+    requires time { IsTime now }
+    ensures { IfOk result (Renames (T.may_be disk.old) (T.may_be disk.new) (T.writes disk.new) caller.now way.now name.now new_name.now now) }
+{
+    match names_status(name, new_name) {
+        Some(status) => Ok(Err(status)),
+        None => rename_named(disk, caller, way, name, new_name, spare, now),
+    }
+}
+
+// The answer to names that are none.
+fn names_status(name: &[u8], new_name: &[u8]) -> Option<Status>
+    ensures { result ≡ names_status name.now new_name.now }
+{
+    let none = Status::Invalid;
+    match name_status(name_kind(name), none, none) {
+        Some(status) => Some(status),
+        None => name_status(name_kind(new_name), none, none),
+    }
+}
+
+// RENAME of a name that is one, to another.
+fn rename_named<T: TreeDisk>(
+    disk: &mut T,
+    caller: &Caller,
+    way: &Way,
+    name: &[u8],
+    new_name: &[u8],
+    spare: &Spare,
+    now: Time,
+) -> Result<Result<Renamed, Status>, T::Fault>
+    requires first { T.writes disk.old ≡ [] }
+    requires time { IsTime now }
+    requires short { length new_name.now ≤ MOST_NAME }
+    ensures { IfOk result (RenamesNamed (T.may_be disk.old) (T.may_be disk.new) (T.writes disk.new) caller.now way.now name.now new_name.now now) }
+{
+    match decide(disk, caller, way, name, new_name, spare)? {
+        Ok(decision) => {
+            let renamed = perform(disk, way, &decision, new_name, now)?;
+            Ok(Ok(renamed))
+        }
+        Err(status) => Ok(Err(status)),
+    }
+}
+
+// Does what was decided.
+fn perform<T: TreeDisk>(
+    disk: &mut T,
+    way: &Way,
+    decision: &Decision,
+    new_name: &[u8],
+    now: Time,
+) -> Result<Renamed, T::Fault>
+    requires first { T.writes disk.old ≡ [] }
+    requires time { IsTime now }
+    requires short { length new_name.now ≤ MOST_NAME }
+    requires inside { IsInsideDecision decision.now }
+    ensures { IfOk result (Performs (T.may_be disk.old) (T.may_be disk.new) (T.writes disk.new) way.now decision.now new_name.now now) }
+{
+    match *decision {
+        Decision::Stays => Ok(both_same(way)),
+        Decision::Goes(hit, to) => put_move(disk, way, &hit, &to, new_name, now),
+    }
+}
+
+// The reply where nothing changes.
+fn both_same(way: &Way) -> Renamed
+    ensures { result ≡ both_same way.now }
+{
+    let (source, goal) = (&way.source, &way.goal);
+    Renamed {
+        source: changed(source.number, &source.inode.head, &source.inode.head),
+        goal: changed(goal.number, &goal.inode.head, &goal.inode.head),
+    }
+}
+
+// ── the decision ──
+
+// The decision on a name.
+fn decide<T: TreeDisk>(
+    disk: &mut T,
+    caller: &Caller,
+    way: &Way,
+    name: &[u8],
+    new_name: &[u8],
+    spare: &Spare,
+) -> Result<Result<Decision, Status>, T::Fault>
+    requires first { T.writes disk.old ≡ [] }
+    ensures learns { IfOk result (λ decision. Learns (T.may_be disk.old) (T.may_be disk.new) (λ V. DecidesName V caller.now way.now name.now new_name.now decision)) }
+    ensures inside { IfOk result (λ decision. IfOk decision IsInsideDecision) }
     ensures first { T.writes disk.new ≡ [] }
 {
-    match refusal {
-        Some(status) => Ok(status),
-        None => {
-            let hit = find(disk, &way.source.head.blocks, name)?;
-            Ok(renaming_status(caller, way, hit))
+    match find(disk, &way.source.inode.head.blocks, name)? {
+        None => Ok(Err(Status::NoEntry)),
+        Some(hit) => decide_hit(disk, caller, way, &hit, new_name, spare),
+    }
+}
+
+// The decision on a node that was found.
+fn decide_hit<T: TreeDisk>(
+    disk: &mut T,
+    caller: &Caller,
+    way: &Way,
+    hit: &Hit,
+    new_name: &[u8],
+    spare: &Spare,
+) -> Result<Result<Decision, Status>, T::Fault>
+    requires first { T.writes disk.old ≡ [] }
+    requires inside { hit.now.at < PLACES }
+    ensures learns { IfOk result (λ decision. Learns (T.may_be disk.old) (T.may_be disk.new) (λ V. DecidesHit V caller.now way.now hit.now new_name.now decision)) }
+    ensures inside { IfOk result (λ decision. IfOk decision IsInsideDecision) }
+    ensures first { T.writes disk.new ≡ [] }
+{
+    if !may_go(caller, way, &hit.head) {
+        return Ok(Err(Status::NoAccess));
+    }
+    match find(disk, &way.goal.inode.head.blocks, new_name)? {
+        None => decide_new(disk, way, hit, spare),
+        Some(over) => decide_over(disk, caller, way, hit, &over),
+    }
+}
+
+// True if the caller may take the node out of the one directory and put a name into the other. A
+// directory that gets another parent he must be allowed to write too.
+fn may_go(caller: &Caller, way: &Way, node: &Head) -> bool
+    ensures { result ≡ may_go caller.now way.now node.now }
+{
+    let source = &way.source.inode.head.attributes;
+    let goal = &way.goal.inode.head.attributes;
+    let keeps = keeps_parent(way, node);
+    caller.may_rename(source)
+        && caller.may_take(source, &node.attributes)
+        && caller.may_rename(goal)
+        && (keeps || caller.may_write(&node.attributes))
+}
+
+// True if a node is no directory, or keeps the directory in which it hangs.
+fn keeps_parent(way: &Way, node: &Head) -> bool
+    ensures { result ≡ keeps_parent way.now node.now }
+{
+    is_within(way) || !is_directory_kind(node.kind)
+}
+
+// True if both directories are one.
+fn is_within(way: &Way) -> bool
+    ensures { result ≡ is_within way.now }
+{
+    way.source.number == way.goal.number
+}
+
+// The decision on a node, if the goal has none of the new name.
+fn decide_new<T: TreeDisk>(
+    disk: &mut T,
+    way: &Way,
+    hit: &Hit,
+    spare: &Spare,
+) -> Result<Result<Decision, Status>, T::Fault>
+    requires first { T.writes disk.old ≡ [] }
+    requires inside { hit.now.at < PLACES }
+    ensures learns { IfOk result (λ decision. Learns (T.may_be disk.old) (T.may_be disk.new) (λ V. DecidesNew V way.now hit.now decision)) }
+    ensures inside { IfOk result (λ decision. IfOk decision IsInsideDecision) }
+    ensures first { T.writes disk.new ≡ [] }
+{
+    if is_below(disk, way, hit)? {
+        return Ok(Err(Status::Invalid));
+    }
+    if is_within(way) {
+        return Ok(Ok(Decision::Goes(*hit, Destination::Own)));
+    }
+    match find_place(disk, &way.goal.inode.head, spare.blocks)? {
+        None => Ok(Err(Status::NoSpace)),
+        Some(place) => Ok(Ok(Decision::Goes(*hit, Destination::Into(place)))),
+    }
+}
+
+// True if the goal is the node, or lies below it. A node that keeps its parent needs no look.
+fn is_below<T: TreeDisk>(disk: &mut T, way: &Way, hit: &Hit) -> Result<bool, T::Fault>
+    requires first { T.writes disk.old ≡ [] }
+    ensures learns { IfOk result (λ below. Learns (T.may_be disk.old) (T.may_be disk.new) (λ V. TellsBelowGoal V way.now hit.now below)) }
+    ensures first { T.writes disk.new ≡ [] }
+{
+    if keeps_parent(way, &hit.head) {
+        return Ok(false);
+    }
+    is_above(disk, hit.number, way.goal.number)
+}
+
+// The decision on a node, if this one has the new name.
+fn decide_over<T: TreeDisk>(
+    disk: &mut T,
+    caller: &Caller,
+    way: &Way,
+    hit: &Hit,
+    over: &Hit,
+) -> Result<Result<Decision, Status>, T::Fault>
+    requires first { T.writes disk.old ≡ [] }
+    requires inside { hit.now.at < PLACES }
+    requires over { over.now.at < PLACES }
+    ensures learns { IfOk result (λ decision. Learns (T.may_be disk.old) (T.may_be disk.new) (λ V. DecidesOver V caller.now way.now hit.now over.now decision)) }
+    ensures inside { IfOk result (λ decision. IfOk decision IsInsideDecision) }
+    ensures first { T.writes disk.new ≡ [] }
+{
+    if over.number == hit.number {
+        return Ok(Ok(Decision::Stays));
+    }
+    if is_below(disk, way, hit)? {
+        return Ok(Err(Status::Invalid));
+    }
+    if !caller.may_take(&way.goal.inode.head.attributes, &over.head.attributes) {
+        return Ok(Err(Status::NoAccess));
+    }
+    if !may_replace(disk, &hit.head, &over.head)? {
+        return Ok(Err(Status::Exists));
+    }
+    Ok(Ok(Decision::Goes(*hit, onto(way, over))))
+}
+
+// True if a node may replace another: a file replaces a file, and a directory one without entries.
+fn may_replace<T: TreeDisk>(disk: &mut T, node: &Head, over: &Head) -> Result<bool, T::Fault>
+    requires first { T.writes disk.old ≡ [] }
+    ensures learns { IfOk result (λ may. Learns (T.may_be disk.old) (T.may_be disk.new) (λ V. MayReplace V node.now over.now may)) }
+    ensures first { T.writes disk.new ≡ [] }
+{
+    match node.kind {
+        Kind::File => Ok(!is_directory_kind(over.kind)),
+        Kind::Directory => is_bare(disk, over),
+    }
+}
+
+// True if a node is a directory without entries.
+fn is_bare<T: TreeDisk>(disk: &mut T, over: &Head) -> Result<bool, T::Fault>
+    requires first { T.writes disk.old ≡ [] }
+    ensures learns { IfOk result (λ is. Learns (T.may_be disk.old) (T.may_be disk.new) (λ V. IsBareIf V over.now is)) }
+    ensures first { T.writes disk.new ≡ [] }
+{
+    match over.kind {
+        Kind::File => Ok(false),
+        Kind::Directory => {
+            let entry = find_entry(disk, &over.blocks)?;
+            Ok(entry.is_none())
         }
     }
 }
 
-// The answer to a name that was looked for.
-fn renaming_status(caller: &Caller, way: &Way, hit: Option<Hit>) -> Status
-    ensures { result ≡ renaming_status caller.now way.now hit }
+// Where a node goes that replaces another.
+fn onto(way: &Way, over: &Hit) -> Destination
+    ensures { result ≡ onto_of way.now over.now }
 {
-    let source = &way.source.head.attributes;
-    let goal = &way.goal.head.attributes;
-    match hit {
-        None => Status::NoEntry,
-        Some(hit) => {
-            let may = caller.may_rename(source)
-                && caller.may_take(source, &hit.head.attributes)
-                && caller.may_rename(goal);
-            if may {
-                Status::NotSupported
-            } else {
-                Status::NoAccess
-            }
-        }
+    if is_within(way) {
+        Destination::OwnOver(*over)
+    } else {
+        Destination::Onto(*over)
     }
 }

@@ -138,7 +138,7 @@ fn if_young(number: u32, generation: u32) -> Option<FreeNumber>
 // ── a place ──
 
 // A place for an entry of a directory. It gets a further block only where it has no place.
-fn find_place<T: TreeDisk>(
+pub(crate) fn find_place<T: TreeDisk>(
     disk: &mut T,
     directory: &Head,
     blocks: &[u32],

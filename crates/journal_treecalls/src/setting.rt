@@ -114,7 +114,7 @@ fn setting_status(
     None
 }
 
-fn is_directory_kind(kind: Kind) -> bool
+pub(crate) fn is_directory_kind(kind: Kind) -> bool
     ensures { result ≡ is_directory_kind kind }
 {
     match kind {

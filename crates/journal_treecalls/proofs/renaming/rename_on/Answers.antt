@@ -1,8 +1,13 @@
-use Rattle.journal_treecalls.proofs.Renames.{on-refused, on-sought}
+use Rattle.std.proofs.Common.{sym, ◌∙◌}
+use Rattle.journal_treecalls.proofs.Learned.{IfOk-like}
+use Rattle.journal_treecalls.proofs.Renames.{new-short, on-refused, on-named}
 use Rattle.journal_treecalls.proofs.renaming.rename_on.Goals as goal
 
-pub returns-in-Some-clause-learns : goal.returns-in-Some-clause-learns
-returns-in-Some-clause-learns g c = on-refused _ c.args.caller.now c.args.way.now c.args.name.now c.args.refusal c.in-Some.status c.in-Some.is (λ V m. m)
+pub returns-in-Some : goal.returns-in-Some
+returns-in-Some g c = on-refused _ _ (g.T.TreeDisk.are_sound c.args.disk.now) _ c.args.caller.now c.args.way.now c.args.name.now c.args.new_name.now c.args.now c.names_status.result c.in-Some.status (λ V m. m) c.requires.first c.names_status.ensures c.in-Some.is
 
-pub returns-in_ok-hit-in-None-clause-learns : goal.returns-in_ok-hit-in-None-clause-learns
-returns-in_ok-hit-in-None-clause-learns g c = on-sought _ _ c.args.caller.now c.args.way.now c.args.name.now c.args.refusal _ c.renaming_status.result c.in-None.is c.in_ok-hit-in-None.ensures.learns c.renaming_status.ensures
+pub returns-in-None : goal.returns-in-None
+returns-in-None g c = IfOk-like c.rename_named.result _ _ (λ reply k. on-named _ _ (g.T.TreeDisk.are_sound c.rename_named.new.disk) _ c.args.caller.now c.args.way.now c.args.name.now c.args.new_name.now c.args.now c.names_status.result reply c.names_status.ensures c.in-None.is k) c.rename_named.ensures
+
+pub rename_named-requires-clause-short : goal.rename_named-requires-clause-short
+rename_named-requires-clause-short g c = new-short c.args.name.now c.args.new_name.now (sym c.names_status.ensures ∙ c.in-None.is)
