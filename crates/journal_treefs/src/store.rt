@@ -1,6 +1,7 @@
 // The store: a journal over a disk that is cut for a tree.
-ghost use Rattle.std.specs.Prelude.{◌≡◌, ◌≤◌, IsTrue, IfOk, OnOk, IfErr, OnErr, MatchResult};
+ghost use Rattle.std.specs.Prelude.{◌≡◌, ◌≤◌, ◌⊎◌, IsTrue, IfOk, OnOk, IfErr, OnErr, MatchResult};
 ghost use Rattle.journal_world.specs.Histories.{is_trusted};
+ghost use Rattle.journal_world.specs.declared.refusal.Refusal.TheVariants.{NoMemory};
 ghost use Rattle.journal_disk.specs.Disks.{IsSettled};
 ghost use Rattle.journal_disk.specs.Images.{EveryImage};
 ghost use Rattle.journal_circ.specs.Mending.{IsMendable};
@@ -12,6 +13,7 @@ ghost use Rattle.journal_twophase.specs.declared.journal.TheConstants.{MAX_CACHE
 ghost use Rattle.journal_tree.specs.Times.{IsTime};
 ghost use Rattle.journal_treestore.specs.Places.{shape_of, IsCut};
 ghost use Rattle.journal_treeobjects.specs.Maps.{IsWhole};
+ghost use Rattle.journal_treefs.specs.declared.fault.AttemptFault.TheVariants.{Refused as RefusedSo};
 ghost use Rattle.journal_treefs.specs.Calls.{IsCommittedCall, IsTreeRefusal, IsAttemptEnd};
 
 use crate::{AttemptFault, JournalTransaction, TreeRule};
@@ -22,8 +24,8 @@ use journal_memory::Cause;
 use journal_treeobjects::{Asking, Finished, GivenUp, TreeOperation, TreeTransaction};
 use journal_treestore::Cut;
 use journal_twophase::{Journal, MAX_CACHED_BLOCKS};
-use journal_world::{Addr, Refusal, Refused};
-use std::alloc::Global;
+use journal_world::{Addr, Objects, Refusal, Refused};
+use std::alloc::{AllocError, Global};
 use std::marker::Model;
 use std::sync::Wait;
 
@@ -131,11 +133,14 @@ impl<'b, D: BlockDisk, R: TreeRule, J: Naming> TreeStore<'b, D, R, J> {
     }
 
     /// Does a call that is asked so, and commits it with its answer. An attempt that finds a slot
-    /// held is undone, and made again once the slot is free, at most 8 times.
+    /// held is undone, and made again, at most 8 times. The next attempt first reads what this one
+    /// had read and the object whose slot was held, in the order of the slots. So it waits for each
+    /// of these slots.
     ///
     /// # Errors
     /// The session has no commit of the call then, and may have seen more of the history.
-    /// - `J5 Busy`: after the last attempt another transaction held a slot.
+    /// - `J5 Busy`: the last attempt read an object that none before it had read, and another
+    ///   transaction held its slot.
     /// - `J2 BadAddress`: a number on the disk names no object of it. A sound disk has none such.
     /// - `J1 NoMemory`: memory is refused.
     /// - All others: those of `Txn::read` and `Txn::commit`.
@@ -152,38 +157,30 @@ impl<'b, D: BlockDisk, R: TreeRule, J: Naming> TreeStore<'b, D, R, J> {
         ensures session { OnErr result (OnlyExtends session.old session.new) }
         ensures refusal { IfErr result IsTreeRefusal }
     {
+        let mut first = Vec::new(self.alloc);
         for _ in 0..RETRIES {
-            match self.once(rt, session, asking, operation) {
+            match self.once(rt, session, asking, operation, &mut first) {
                 Ok(done) => return Ok(done),
-                Err(AttemptFault::Held(addr)) => self.await_slot(rt, session, addr),
+                Err(AttemptFault::Held(_)) => {}
                 Err(AttemptFault::Refused(refusal)) => return Err(refusal),
             }
         }
-        match self.once(rt, session, asking, operation) {
+        match self.once(rt, session, asking, operation, &mut first) {
             Ok(done) => Ok(done),
             Err(AttemptFault::Held(_)) => Err(Refusal::Busy),
             Err(AttemptFault::Refused(refusal)) => Err(refusal),
         }
     }
 
-    // Waits until the slot of the address is free, by a transaction that only reads it. It holds no
-    // other slot, so it waits for this one. If the read is refused, the next attempt is refused
-    // too.
-    fn await_slot<W: Wait>(&self, rt: &W, session: &mut Session<'b, J, R>, held: Addr)
-        ensures { OnlyExtends session.old session.new }
-    {
-        let mut txn = self.journal.begin(self.alloc, session);
-        let _answer = txn.read(rt, held);
-        txn.abort(rt);
-    }
-
-    // One attempt: committed, or undone.
+    // One attempt, which reads these objects first: committed, or undone. One that found a slot
+    // held leaves what the next attempt is to read first.
     fn once<O: TreeOperation, W: Wait>(
         &self,
         rt: &W,
         session: &mut Session<'b, J, R>,
         asking: Asking,
         operation: &O,
+        first: &mut Vec<Addr>,
     ) -> Result<Committed<O::Reply, Receipt<'b, J, R>>, AttemptFault<Cause<'b, J, R>>>
         requires time { IsTime asking.now }
         ensures committed { IfOk result (λ done. IsCommittedCall self.now.cut (O.call operation.now) asking.caller asking.now
@@ -192,7 +189,11 @@ impl<'b, D: BlockDisk, R: TreeRule, J: Naming> TreeStore<'b, D, R, J> {
         ensures refusal { IfErr result IsAttemptEnd }
     {
         let txn = self.journal.begin(self.alloc, session);
-        let transaction = JournalTransaction { rt, txn };
+        let mut transaction = JournalTransaction { rt, txn };
+        if let Err(fault) = transaction.read_all(first) {
+            transaction.abort();
+            return Err(fault);
+        }
         let mut disk = TreeTransaction::begin(self.alloc, self.cut, transaction);
         let reply = match operation.attempt(asking, &mut disk) {
             Ok(reply) => reply,
@@ -200,22 +201,59 @@ impl<'b, D: BlockDisk, R: TreeRule, J: Naming> TreeStore<'b, D, R, J> {
                 let GivenUp {
                     transaction,
                     fault: refused,
+                    read,
                 } = disk.give_up();
                 transaction.abort();
-                return Err(AttemptFault::of(fault, refused));
+                return Err(self.undone(AttemptFault::of(fault, refused), &read, first));
             }
         };
         let Finished {
             transaction,
             outcome,
+            read,
         } = disk.finish();
         if let Err(fault) = outcome {
             transaction.abort();
-            return Err(fault);
+            return Err(self.undone(fault, &read, first));
         }
         match transaction.commit(session) {
             Ok(receipt) => Ok(Committed { reply, receipt }),
             Err(refusal) => Err(AttemptFault::Refused(refusal)),
         }
+    }
+
+    // An attempt that had read this was undone for this reason. Where a slot was held, the next
+    // attempt reads these objects first.
+    fn undone<C: Drop>(
+        &self,
+        fault: AttemptFault<C>,
+        read: &Objects,
+        first: &mut Vec<Addr>,
+    ) -> AttemptFault<C>
+        ensures { (result ≡ fault) ⊎ (result ≡ RefusedSo NoMemory) }
+    {
+        match fault {
+            AttemptFault::Held(addr) => match self.set_first(read, addr, first) {
+                Ok(()) => AttemptFault::Held(addr),
+                Err(_) => AttemptFault::Refused(Refusal::NoMemory),
+            },
+            AttemptFault::Refused(refusal) => AttemptFault::Refused(refusal),
+        }
+    }
+
+    // The addresses that were read, and the one whose slot was held, in the order of their slots.
+    fn set_first(
+        &self,
+        read: &Objects,
+        held: Addr,
+        first: &mut Vec<Addr>,
+    ) -> Result<(), AllocError> {
+        first.clear();
+        for (addr, _) in read.iter() {
+            first.push(*addr)?;
+        }
+        first.push(held)?;
+        let layout = self.cut.layout();
+        first.sort_by_key(|addr| layout.slot_of(*addr))
     }
 }

@@ -1,10 +1,10 @@
 // A transaction of a journal, as one on objects.
-ghost use Rattle.std.specs.Prelude.{◌≡◌, IfOk, IfErr, OnErr};
+ghost use Rattle.std.specs.Prelude.{◌≡◌, [], IfOk, IfErr, OnErr};
 ghost use Rattle.journal_world.specs.Maps.{Map, Agrees, overwritten};
 ghost use Rattle.journal_history.specs.Tokens.{OnlyExtends};
 ghost use Rattle.journal_twophase.specs.Transactions.{core_of};
 ghost use Rattle.journal_twophase.specs.Commits.{IsCommitted};
-ghost use Rattle.journal_treefs.specs.Calls.{IsTreeRefusal};
+ghost use Rattle.journal_treefs.specs.Calls.{IsTreeRefusal, IsAttemptEnd};
 
 use crate::AttemptFault;
 use journal_disk::BlockDisk;
@@ -65,6 +65,18 @@ impl<'t, 'j, 'b, D: BlockDisk, R: MapRule, J: Naming, W: Wait> JournalTransactio
     J,
     W,
 > {
+    // Reads objects. It has overwritten nothing yet.
+    pub(crate) fn read_all(&mut self, addrs: &[Addr]) -> Result<(), AttemptFault<Cause<'b, J, R>>>
+        requires unwritten { self.old.txn.writes ≡ [] }
+        ensures unwritten { self.new.txn.writes ≡ [] }
+        ensures fault { IfErr result IsAttemptEnd }
+    {
+        for addr in addrs {
+            self.read(*addr)?;
+        }
+        Ok(())
+    }
+
     /// Commits the transaction, as `Txn::commit` does.
     ///
     /// # Errors

@@ -59,6 +59,8 @@ pub struct Finished<T: ObjectTransaction> {
     pub transaction: T,
     /// `Ok` if it has all writes.
     pub outcome: Result<(), T::Fault>,
+    /// The objects that the call had read.
+    pub read: Objects,
 }
 
 /// The transaction of a call that is given up. It has no writes.
@@ -67,6 +69,8 @@ pub struct GivenUp<T: ObjectTransaction> {
     pub transaction: T,
     /// Why it refused, if it did.
     pub fault: Option<T::Fault>,
+    /// The objects that the call had read.
+    pub read: Objects,
 }
 
 impl<T: ObjectTransaction> TreeTransaction<T> {
@@ -103,7 +107,7 @@ impl<T: ObjectTransaction> TreeTransaction<T> {
             alloc: _,
             cut,
             transaction,
-            kept: _,
+            kept,
             waiting,
             fault: _,
         } = self;
@@ -112,6 +116,7 @@ impl<T: ObjectTransaction> TreeTransaction<T> {
         Finished {
             transaction,
             outcome,
+            read: kept,
         }
     }
 
@@ -124,11 +129,15 @@ impl<T: ObjectTransaction> TreeTransaction<T> {
             alloc: _,
             cut: _,
             transaction,
-            kept: _,
+            kept,
             waiting: _,
             fault,
         } = self;
-        GivenUp { transaction, fault }
+        GivenUp {
+            transaction,
+            fault,
+            read: kept,
+        }
     }
 
     // Reads an object, if it was not read before, and keeps it.

@@ -1,7 +1,7 @@
 // The calls that look for a name, and those that take one away or give another.
 use crate::{Asking, TreeOperation};
-use journal_tree::{Changed, Found, Handle, Status};
-use journal_treecalls::{TreeDisk, lookup, remove, rename, rmdir};
+use journal_tree::{Changed, Found, Handle, Renamed, Status};
+use journal_treecalls::{NameIn, Spare, TreeDisk, lookup, remove, rename, rmdir};
 
 /// LOOKUP of a name in a directory.
 #[derive(Clone, Copy)]
@@ -83,30 +83,47 @@ impl<'n> TreeOperation for RmDir<'n> {
     }
 }
 
-/// RENAME: the reason why it is refused. A node keeps its name.
+/// RENAME of a node, in its directory or to another.
 #[derive(Clone, Copy)]
 pub struct Rename<'n> {
     /// The directory of the node.
     pub source: Handle,
     pub name: &'n [u8],
-    /// The directory in which it would be.
+    /// The directory in which it will be.
     pub goal: Handle,
     pub new_name: &'n [u8],
+    /// Blocks that may be free.
+    pub blocks: &'n [u32],
 }
 
 impl<'n> TreeOperation for Rename<'n> {
-    ghost use Rattle.std.specs.Prelude.{Err};
     ghost use Rattle.journal_tree.specs.Op.Call.{rename};
-    ghost use Rattle.journal_tree.specs.Op.Reply.{not_done};
+    ghost use Rattle.journal_tree.specs.Op.Reply.{renamed};
 
-    type Reply = Status;
+    type Reply = Result<Renamed, Status>;
 
     ghost call = { λ o. rename o.source o.name.now o.goal o.new_name.now };
 
-    ghost told = { λ status. not_done (Err status) };
+    ghost told = { renamed };
 
-    fn attempt<T: TreeDisk>(&self, asking: Asking, disk: &mut T) -> Result<Status, T::Fault> {
-        let (source, goal) = (self.source, self.goal);
-        rename(disk, &asking.caller, source, self.name, goal, self.new_name)
+    fn attempt<T: TreeDisk>(
+        &self,
+        asking: Asking,
+        disk: &mut T,
+    ) -> Result<Result<Renamed, Status>, T::Fault> {
+        let Asking { caller, now } = asking;
+        let source = NameIn {
+            directory: self.source,
+            name: self.name,
+        };
+        let goal = NameIn {
+            directory: self.goal,
+            name: self.new_name,
+        };
+        let spare = Spare {
+            numbers: &[],
+            blocks: self.blocks,
+        };
+        rename(disk, &caller, &source, &goal, &spare, now)
     }
 }

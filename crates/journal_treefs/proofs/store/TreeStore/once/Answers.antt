@@ -13,7 +13,7 @@ commit-requires g c =
     record {
       rule = keeps-rule g.R.MapRule.statement g.met.R.TreeRule.has_tree g.J.Naming.layout c.attempt.new.disk.cut at.cut at.whole at.layout
           (g.O.TreeOperation.call c.args.operation.now) c.args.asking.caller c.args.asking.now (g.O.TreeOperation.told c.in-Ok.reply)
-          c.finish-transaction.result.transaction.txn (IfOk-at_ok _ c.in_default.is (at.calls _ _ _ _ c.in-Ok.ensures)) g.met.R.TreeRule.admits_tree;
+          c.finish-transaction.result.transaction.txn (IfOk-at_ok _ c.in_default-outcome.is (at.calls _ _ _ _ c.in-Ok.ensures)) g.met.R.TreeRule.admits_tree;
     }
 
 pub returns-in-Ok-commit-clause-committed : goal.returns-in-Ok-commit-clause-committed
@@ -26,8 +26,5 @@ returns-in-Ok-commit-clause-committed g c =
     (committed-later c.attempt.new.disk.cut _ _ _ _ c.args.session.now c.begin-txn.new.session c.commit.new.session c.in-Ok-commit.receipt c.begin-txn.ensures.session
     (committed-call g.R.MapRule.statement g.met.R.TreeRule.has_tree g.J.Naming.layout c.attempt.new.disk.cut at.cut at.whole at.layout
     (g.O.TreeOperation.call c.args.operation.now) c.args.asking.caller c.args.asking.now (g.O.TreeOperation.told c.in-Ok.reply)
-    c.finish-transaction.result.transaction.txn (IfOk-at_ok _ c.in_default.is (at.calls _ _ _ _ c.in-Ok.ensures))
+    c.finish-transaction.result.transaction.txn (IfOk-at_ok _ c.in_default-outcome.is (at.calls _ _ _ _ c.in-Ok.ensures))
     c.begin-txn.new.session c.commit.new.session c.in-Ok-commit.receipt c.in-Ok-commit.ensures.committed))
-
-pub returns-in-Err-clause-refusal : goal.returns-in-Err-clause-refusal
-returns-in-Err-clause-refusal g c = subst IsAttemptEnd (sym c.of.ensures) (call-refused c.in-Err.fault c.give_up-transaction.result.fault c.give_up-transaction.ensures.fault)
