@@ -6,8 +6,9 @@ use Rattle.journal_nfs3_wire.specs.declared.results.NfsError.{NfsError}
 use Rattle.journal_nfs3_wire.specs.Arguments as nine
 use Rattle.journal_nfs3_wire.specs.Profile.{no_change}
 use Rattle.journal_treewire.specs.Directories as links
+use Rattle.journal_treewire.specs.Profile.{no_changes}
 use Rattle.journal_treewire.specs.Requests.{Requested, file, directory}
-use Rattle.journal_treewire.specs.Results.{Results, Changed, Write, Made, Commit}
+use Rattle.journal_treewire.specs.Results.{Results, Changed, Write, Made, Renamed, Commit}
 use Rattle.journal_treeserver.specs.declared.awaited.AwaitedForm.{AwaitedForm}
 use Rattle.journal_treeserver.specs.declared.awaited.AwaitedForm.TheVariants as forms
 
@@ -31,6 +32,7 @@ form_of (file (nine.Remove e)) = Some forms.Changed
 form_of (file (nine.Commit h offset count)) = Some forms.Commit
 form_of (directory (links.MakeDirectory e a)) = Some forms.Made
 form_of (directory (links.RemoveDirectory e)) = Some forms.Changed
+form_of (directory (links.Rename e f)) = Some forms.Renamed
 form_of other = None
 
 -- the results of a request of this form that is refused: the status alone
@@ -38,4 +40,5 @@ abbrev pub refused_form : AwaitedForm → NfsError → Results
 refused_form forms.Changed why = Changed (Err (why, no_change))
 refused_form forms.Write why = Write (Err (why, no_change))
 refused_form forms.Made why = Made (Err (why, no_change))
+refused_form forms.Renamed why = Renamed (Err (why, no_changes))
 refused_form forms.Commit why = Commit (Err (why, no_change))

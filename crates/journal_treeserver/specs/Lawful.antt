@@ -53,7 +53,7 @@ refused_form_is (directory (links.MakeDirectory x a)) form why e = form_is _ for
 refused_form_is (directory (links.MakeLink a)) form why e = absurd cc
 refused_form_is (directory (links.MakeNode x d)) form why e = absurd cc
 refused_form_is (directory (links.RemoveDirectory x)) form why e = form_is _ form why e
-refused_form_is (directory (links.Rename x y)) form why e = absurd cc
+refused_form_is (directory (links.Rename x y)) form why e = form_is _ form why e
 refused_form_is (directory (links.Link h x)) form why e = absurd cc
 
 module _ (S : Served) where

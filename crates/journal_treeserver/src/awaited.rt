@@ -18,6 +18,8 @@ pub enum AwaitedForm {
     Write,
     /// CREATE and MKDIR.
     Made,
+    /// RENAME.
+    Renamed,
     /// COMMIT.
     Commit,
 }
@@ -52,6 +54,7 @@ impl AwaitedForm {
                 verifier: Verifier([0; 8]),
             },
             AwaitedForm::Made => TreeResults::Made(Err(why)),
+            AwaitedForm::Renamed => TreeResults::Renamed(Err(why)),
             AwaitedForm::Commit => TreeResults::Commit {
                 outcome: Err(why),
                 verifier: Verifier([0; 8]),
@@ -112,6 +115,7 @@ fn form_of_directory_operation(operation: &DirectoryOperation<'_>) -> Option<Awa
     match operation {
         DirectoryOperation::MakeDirectory(_, _) => Some(AwaitedForm::Made),
         DirectoryOperation::RemoveDirectory(_) => Some(AwaitedForm::Changed),
+        DirectoryOperation::Rename(_, _) => Some(AwaitedForm::Renamed),
         _ => None,
     }
 }

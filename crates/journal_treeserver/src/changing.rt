@@ -2,7 +2,7 @@
 ghost use Rattle.std.specs.Prelude.{◌≡◌};
 ghost use Rattle.journal_tree.specs.Times.{IsTime};
 ghost use Rattle.journal_tree.specs.declared.settings.CreateMode.TheVariants.{Unchecked, Guarded};
-ghost use Rattle.journal_tree.specs.Op.Call.{write as write_call, create as create_call, mkdir as mkdir_call};
+ghost use Rattle.journal_tree.specs.Op.Call.{write as write_call, create as create_call, mkdir as mkdir_call, rename as rename_call};
 ghost use Rattle.journal_treewire.specs.Calls.{call_of};
 ghost use Rattle.journal_treewire.specs.Requests.{request_of};
 ghost use Rattle.journal_treeserver.specs.CodeViews.{served_as, IsDone, ChangesAs};
@@ -67,7 +67,7 @@ impl<'s, 'b, D: BlockDisk, R: TreeRule, J: Naming, H: FreeHints> TreeServer<'s, 
             }
             TreeCall::MakeLink(entry) => self.perform(rt, session, asked, &symlink_of(entry)),
             TreeCall::MakeNode(entry) => self.perform(rt, session, asked, &mknod_of(entry)),
-            TreeCall::Rename(old, new) => { self.perform(rt, session, asked, &rename_of(old, new)) }
+            TreeCall::Rename(old, new) => self.rename(rt, alloc, session, asked, &old, &new),
             TreeCall::Link(handle, entry) => {
                 self.perform(rt, session, asked, &link_of(handle, entry))
             }
@@ -204,6 +204,36 @@ impl<'s, 'b, D: BlockDisk, R: TreeRule, J: Naming, H: FreeHints> TreeServer<'s, 
         self.hints.put_back(rt, drawn, taken_by(&done.results));
         done
     }
+
+    // RENAME, with blocks that may be free for the directory to which a node goes. It may free what
+    // it replaces.
+    fn rename<W: Wait>(
+        &self,
+        rt: &W,
+        alloc: Global,
+        session: &mut Session<'b, J, R>,
+        asked: &Asked<'_, '_>,
+        old: &NameIn<'_>,
+        new: &NameIn<'_>,
+    ) -> Done<Receipt<'b, J, R>>
+        requires time { IsTime asked.now.asking.now }
+        ensures { IsDone (served_as self.now.store.now.cut self.now.export) (request_of asked.now.requested.now)
+            (rename_call old.now.directory old.now.name.now new.now.directory new.now.name.now) asked.now.asking.caller asked.now.asking.now session.old session.new result }
+    {
+        let Ok(drawn) = self.hints.draw(rt, alloc, 0, DIRECTORY_BLOCKS) else {
+            return Done::at_once(asked.requested.refused(NfsError::ServerFault));
+        };
+        let operation = Rename {
+            source: old.directory,
+            name: old.name,
+            goal: new.directory,
+            new_name: new.name,
+            blocks: &drawn.blocks,
+        };
+        let done = self.perform_freeing(rt, session, asked, &operation);
+        self.hints.put_back(rt, drawn, taken_by(&done.results));
+        done
+    }
 }
 
 // CREATE of this name, which may be there.
@@ -289,6 +319,10 @@ fn taken_by(results: &TreeResults) -> Taken {
             number: None,
             blocks: growth(changed),
         },
+        TreeResults::Renamed(Ok(renamed)) => Taken {
+            number: None,
+            blocks: growth(&renamed.goal),
+        },
         _ => Taken {
             number: None,
             blocks: 0,
@@ -343,18 +377,6 @@ fn mknod_of(name: NameIn<'_>) -> MkNod<'_>
     MkNod {
         directory: name.directory,
         name: name.name,
-    }
-}
-
-// RENAME of the one name to the other.
-fn rename_of<'a>(old: NameIn<'a>, new: NameIn<'a>) -> Rename<'a>
-    ensures { result ≡ record { source = old.entry.directory; name = old.entry.name; goal = new.entry.directory; new_name = new.entry.name } }
-{
-    Rename {
-        source: old.directory,
-        name: old.name,
-        goal: new.directory,
-        new_name: new.name,
     }
 }
 

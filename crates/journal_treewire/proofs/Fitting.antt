@@ -12,6 +12,7 @@ use Rattle.journal_tree.specs.declared.reply.Told.{Told}
 use Rattle.journal_tree.specs.declared.reply.Changed.{Changed as TreeChanged}
 use Rattle.journal_tree.specs.declared.reply.Found.{Found as TreeFound}
 use Rattle.journal_tree.specs.declared.reply.Made.{Made as TreeMade}
+use Rattle.journal_tree.specs.declared.reply.Renamed.{Renamed as TreeRenamed}
 use Rattle.journal_tree.specs.declared.reply.Space.{Space}
 use Rattle.journal_treecalls.specs.declared.attributes.AccessReply.{AccessReply}
 use Rattle.journal_treecalls.specs.declared.facts.FactsReply.{FactsReply}
@@ -31,7 +32,7 @@ use Rattle.journal_treewire.specs.declared.parts.FilePart.{FilePart}
 use Rattle.journal_treewire.specs.declared.parts.Lines.{Lines}
 use Rattle.journal_treewire.specs.CodeViews.{access_seen, read_seen, line_seen, line_plus_seen, list_seen, list_plus_seen, information_seen, configuration_seen}
 use Rattle.journal_treewire.specs.Handles.{DiskHandle, disk_handle}
-use Rattle.journal_treewire.specs.Profile.{type_of, used_of, fattr_of, before_of, change_of, handle_of, found_of, write_of, made_of, cookie_verifier, entry_of, entries_plus, status_of, word_of, commit_of}
+use Rattle.journal_treewire.specs.Profile.{type_of, used_of, fattr_of, before_of, change_of, handle_of, found_of, write_of, made_of, renamed_of, no_changes, cookie_verifier, entry_of, entries_plus, status_of, word_of, commit_of}
 use Rattle.journal_treewire.specs.Results.{given_handle, found_results, made_results, entry_plus, refusal, two_changes, file_and_change}
 use Rattle.journal_treewire.specs.Values.{time_out}
 use Rattle.journal_treewire.proofs.DirectoryLaws.{disk_handle_laws}
@@ -138,8 +139,16 @@ made_ok disk m h node directory = ok_has made_results change (made_of disk m) (s
 pub made_err : (why : NfsError) → (outcome made_results change).Has (Err (why, no_change))
 made_err why = err_has made_results change why no_change no_change_has
 
-pub renamed_has : (why : NfsError) → (refusal two_changes).Has (Some why, (no_change, no_change))
-renamed_has why = (status_some why, (no_change_has, no_change_has))
+pub renamed_ok : (disk : ℕ) (r : TreeRenamed) → change.Has (change_of disk r.source) → change.Has (change_of disk r.goal) → (outcome two_changes two_changes).Has (Ok (renamed_of disk r))
+unfolding two_changes
+renamed_ok disk r source goal = ok_has two_changes two_changes (renamed_of disk r) (source, goal)
+
+no_changes_has : two_changes.Has no_changes
+unfolding two_changes
+no_changes_has = (no_change_has, no_change_has)
+
+pub renamed_err : (why : NfsError) → (outcome two_changes two_changes).Has (Err (why, no_changes))
+renamed_err why = err_has two_changes two_changes why no_changes no_changes_has
 
 pub linked_has : (why : NfsError) → (refusal file_and_change).Has (Some why, (None, no_change))
 linked_has why = (status_some why, (none_has fattr, no_change_has))

@@ -7,3 +7,4 @@ pub mod Written
 pub mod Fitting
 pub mod ResultLaws
 pub mod ListLengths
+pub mod Bounds

@@ -81,7 +81,7 @@ pub record HasFront (cost : Item → ℕ) (room : ℕ) (told : List Item) : Type
   pub few : count ≤ fitting cost room all
   pub is : told ≡ take count all
 
-front_few : (cost : Item → ℕ) (text : Item → List ℕ) → ((i : Item) → length (text i) ≤ cost i) → (room : ℕ) (told : List Item) → HasFront cost room told → length (flat_map text told) ≤ room
+pub front_few : (cost : Item → ℕ) (text : Item → List ℕ) → ((i : Item) → length (text i) ≤ cost i) → (room : ℕ) (told : List Item) → HasFront cost room told → length (flat_map text told) ≤ room
 front_few cost text each room told f = rw f.is (fits cost text each f.count room f.all f.few)
 
 -- ---- the answers of the definitions
@@ -95,7 +95,7 @@ gives {A} T T2 (at d x) f r e = here (is_directory x.body) e
     here true e = (d, x, e)
     here false e = let e0 : Ok r ≡ Err NotDirectory = ap (λ (o : Outcome A). o.0) e in absurd (cc e0)
 
-permitted : {A : Type 0} (T T2 : Tree) (b : Bool) (o : Outcome A) (r : A) → (Ok r, T2) ≡ allowed T b o → (Ok r, T2) ≡ o
+pub permitted : {A : Type 0} (T T2 : Tree) (b : Bool) (o : Outcome A) (r : A) → (Ok r, T2) ≡ allowed T b o → (Ok r, T2) ≡ o
 permitted T T2 true o r e = e
 permitted {A} T T2 false o r e = let e0 : Ok r ≡ Err NoAccess = ap (λ (o : Outcome A). o.0) e in absurd (cc e0)
 
@@ -110,7 +110,7 @@ paged {A} T T2 all count answer r e = by (nat_lt 0 (length all) && count == 0) e
     by true e = let e0 : Ok r ≡ Err TooSmall = ap (λ (o : Outcome A). o.0) e in absurd (cc e0)
     by false e = let e0 : Ok r ≡ Ok made = ap (λ (o : Outcome A). o.0) e in cc
 
-list_front : (T T2 : Tree) (t : Target) (c : Caller) (cookie most : ℕ) (l : Listed) → (Ok l, T2) ≡ readdir_case c cookie most T t → HasFront line_bytes (most - FRAME_BYTES) l.page.items
+pub list_front : (T T2 : Tree) (t : Target) (c : Caller) (cookie most : ℕ) (l : Listed) → (Ok l, T2) ≡ readdir_case c cookie most T t → HasFront line_bytes (most - FRAME_BYTES) l.page.items
 list_front T T2 t c cookie most l e =
     let g = gives T T2 t _ l e in
     let all = items_above T g.0 g.1 cookie in
@@ -120,12 +120,12 @@ list_front T T2 t c cookie most l e =
     record { all = all; count = count; few = omega arith; is = ap (λ (l : Listed). l.page.items) same }
 
 -- what READDIRPLUS answers has lines that are READDIR's, with what the tree tells beside each
-record HasPlus (T : Tree) (names most : ℕ) (l : ListedPlus) : Type 0 where
+pub record HasPlus (T : Tree) (names most : ℕ) (l : ListedPlus) : Type 0 where
   pub by_names : HasFront line_bytes names l.page.items
   pub by_all : HasFront plus_bytes (most - FRAME_BYTES) l.page.items
   pub beside : l.lines ≡ map (line_of T) l.page.items
 
-plus_front : (T T2 : Tree) (t : Target) (c : Caller) (cookie names most : ℕ) (l : ListedPlus) → (Ok l, T2) ≡ readdirplus_case c cookie names most T t → HasPlus T names most l
+pub plus_front : (T T2 : Tree) (t : Target) (c : Caller) (cookie names most : ℕ) (l : ListedPlus) → (Ok l, T2) ≡ readdirplus_case c cookie names most T t → HasPlus T names most l
 plus_front T T2 t c cookie names most l e =
     let g = gives T T2 t _ l e in
     let all = items_above T g.0 g.1 cookie in

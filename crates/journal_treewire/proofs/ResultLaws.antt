@@ -10,7 +10,7 @@ use Rattle.journal_nfs3_wire.proofs.QueryLaws.{entry_laws, page_results_laws}
 use Rattle.journal_nfs3_wire.proofs.ResultLaws.{after_laws, change_laws, outcome_laws}
 use Rattle.journal_nfs3_wire.proofs.WholeLaws.{whole_is}
 use Rattle.journal_treewire.specs.Handles.{disk_handle}
-use Rattle.journal_treewire.specs.Results.{given_handle, found_results, made_results, entry_plus}
+use Rattle.journal_treewire.specs.Results.{given_handle, found_results, made_results, two_changes, entry_plus}
 use Rattle.journal_treewire.proofs.DirectoryLaws.{disk_handle_laws}
 
 given_handle_laws : IsGrammar given_handle
@@ -25,6 +25,10 @@ made_results_laws : IsGrammar made_results
 unfolding made_results
 made_results_laws = made_laws _ _ _ (pair_laws _ _ (optional_laws given_handle given_handle_laws) (pair_laws _ _ after_laws change_laws)) (λ p. refl) (λ r. refl)
 
+two_changes_laws : IsGrammar two_changes
+unfolding two_changes
+two_changes_laws = made_laws _ _ _ (pair_laws _ _ change_laws change_laws) (λ p. refl) (λ c. refl)
+
 entry_plus_laws : IsGrammar entry_plus
 unfolding entry_plus
 entry_plus_laws = made_laws _ _ _ (pair_laws _ _ entry_laws (pair_laws _ _ after_laws (optional_laws given_handle given_handle_laws))) (λ p. refl) (λ e. refl)
@@ -34,6 +38,9 @@ found_laws = outcome_laws found_results post_op_attributes found_results_laws af
 
 pub made_results_outcome_laws : IsGrammar (outcome made_results change)
 made_results_outcome_laws = outcome_laws made_results change made_results_laws change_laws
+
+pub renamed_laws : IsGrammar (outcome two_changes two_changes)
+renamed_laws = outcome_laws two_changes two_changes two_changes_laws two_changes_laws
 
 pub plus_laws : IsGrammar (outcome (page_results entry_plus) post_op_attributes)
 plus_laws = outcome_laws (page_results entry_plus) post_op_attributes (page_results_laws entry_plus entry_plus_laws) after_laws

@@ -9,7 +9,7 @@ use Rattle.journal_nfs3_wire.specs.Results.{Fattr, fattr, post_op_attributes, Ch
 use Rattle.journal_nfs3_wire.specs.QueryResults.{AccessResults, access_results, StatusResults, status_results, InformationResults, information_results, ConfigurationResults, configuration_results}
 use Rattle.journal_nfs3_wire.proofs.ResultFacts.{length-time, length-fattr, after_short, change_short, write_short, commit_short, ok_short, err_short}
 use Rattle.journal_treewire.specs.Handles.{DiskHandle, disk_handle}
-use Rattle.journal_treewire.specs.Results.{given_handle, FoundResults, found_results, MadeResults, made_results, refusal, two_changes, file_and_change}
+use Rattle.journal_treewire.specs.Results.{given_handle, FoundResults, found_results, MadeResults, made_results, TwoChanges, two_changes, refusal, file_and_change}
 
 -- ---- parts
 
@@ -36,6 +36,10 @@ made_short r =
     let a = post_op_attributes.spelling r.attributes in
     let d = change.spelling r.directory in
     omega (arith, length-append object (a ++ d), length-append a d, handle_short r.object, after_short r.attributes, change_short r.directory)
+
+two_changes_short : (c : TwoChanges) → length (two_changes.spelling c) ≤ 300
+unfolding two_changes
+two_changes_short c = omega (arith, length-append (change.spelling c.source) (change.spelling c.goal), change_short c.source, change_short c.goal)
 
 access_short : (r : AccessResults) → length (access_results.spelling r) ≤ 92
 unfolding access_results
@@ -176,6 +180,9 @@ access_result r = omega (arith, outcome_short access_results post_op_attributes 
 pub made_result : (r : Result MadeResults (NfsError × Change)) → IsShort ((outcome made_results change).spelling r)
 made_result r = omega (arith, outcome_short made_results change 300 (λ f. omega (arith, made_short f)) change_few r)
 
+pub renamed_result : (r : Result TwoChanges (NfsError × TwoChanges)) → IsShort ((outcome two_changes two_changes).spelling r)
+renamed_result r = omega (arith, outcome_short two_changes two_changes 300 two_changes_short two_changes_short r)
+
 pub status_result : (r : Result StatusResults (NfsError × Option Fattr)) → IsShort ((outcome status_results post_op_attributes).spelling r)
 status_result r = omega (arith, outcome_short status_results post_op_attributes 300 (λ f. omega (arith, status_short f)) after_few r)
 
@@ -190,9 +197,6 @@ refusal_short a why v h = omega (arith, h, length-append (word.spelling (error_n
 
 pub link_result : (why : NfsError) (a : Option Fattr) → IsShort ((refusal post_op_attributes).spelling (Some why, a))
 link_result why a = refusal_short post_op_attributes why a (after_few a)
-
-pub renamed_result : (why : NfsError) (c : Change × Change) → IsShort ((refusal two_changes).spelling (Some why, c))
-renamed_result why c = refusal_short two_changes why c (omega (arith, length-append (change.spelling c.0) (change.spelling c.1), change_short c.0, change_short c.1))
 
 pub linked_result : (why : NfsError) (c : Option Fattr × Change) → IsShort ((refusal file_and_change).spelling (Some why, c))
 linked_result why c = refusal_short file_and_change why c (omega (arith, length-append (post_op_attributes.spelling c.0) (change.spelling c.1), after_short c.0, change_short c.1))

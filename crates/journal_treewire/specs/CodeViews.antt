@@ -18,8 +18,8 @@ use Rattle.journal_treewire.specs.declared.parts.FilePart.{FilePart}
 use Rattle.journal_treewire.specs.declared.parts.Lines.{Lines}
 use Rattle.journal_treewire.specs.declared.results.TreeResults as code_results
 use Rattle.journal_treewire.specs.declared.results.TreeResults.TheVariants as code_result
-use Rattle.journal_treewire.specs.Profile.{fattr_of, change_of, found_of, access_of, read_of, write_of, made_of, entry_of, entry_plus_of, list_of, list_plus_of, status_of, information_of, configuration_of, commit_of}
-use Rattle.journal_treewire.specs.Results.{EntryPlus, entry_plus, Results, Null, Attributes, Changed, Found, Access, NoLink, Read, Write, Made, NotRenamed, NotLinked, Directory, DirectoryPlus, FileSystemStatus, FileSystemInformation, PathConfiguration, Commit}
+use Rattle.journal_treewire.specs.Profile.{fattr_of, change_of, found_of, access_of, read_of, write_of, made_of, renamed_of, no_changes, entry_of, entry_plus_of, list_of, list_plus_of, status_of, information_of, configuration_of, commit_of}
+use Rattle.journal_treewire.specs.Results.{EntryPlus, entry_plus, Results, Null, Attributes, Changed, Found, Access, NoLink, Read, Write, Made, Renamed, NotLinked, Directory, DirectoryPlus, FileSystemStatus, FileSystemInformation, PathConfiguration, Commit}
 
 -- ---- the replies of the definitions
 
@@ -92,7 +92,7 @@ results_of disk (code_result.NoLink why) = NoLink why None
 results_of disk (code_result.Read r) = Read (outcome_of (read_seen disk) None r)
 results_of disk (code_result.Write r count how verifier) = Write (outcome_of (write_of disk count how verifier.0) no_change r)
 results_of disk (code_result.Made r) = Made (outcome_of (made_of disk) no_change r)
-results_of disk (code_result.NotRenamed why) = NotRenamed why (no_change, no_change)
+results_of disk (code_result.Renamed r) = Renamed (outcome_of (renamed_of disk) no_changes r)
 results_of disk (code_result.NotLinked why) = NotLinked why (None, no_change)
 results_of disk (code_result.Directory r) = Directory (outcome_of (list_seen disk) None r)
 results_of disk (code_result.DirectoryPlus r) = DirectoryPlus (outcome_of (list_plus_seen disk) None r)

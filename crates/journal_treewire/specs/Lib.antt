@@ -10,3 +10,4 @@ pub mod CodeViews
 pub mod Answers
 pub mod Refusals
 pub mod ListLengths
+pub mod Bounds

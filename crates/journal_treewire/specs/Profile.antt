@@ -7,6 +7,7 @@ use Rattle.journal_tree.specs.declared.reply.Told.{Told}
 use Rattle.journal_tree.specs.declared.reply.Changed.{Changed as TreeChanged}
 use Rattle.journal_tree.specs.declared.reply.Found.{Found as TreeFound}
 use Rattle.journal_tree.specs.declared.reply.Made.{Made as TreeMade}
+use Rattle.journal_tree.specs.declared.reply.Renamed.{Renamed as TreeRenamed}
 use Rattle.journal_tree.specs.declared.reply.Space.{Space}
 use Rattle.journal_tree.specs.Attributes.{Access as TreeAccess}
 use Rattle.journal_tree.specs.Contents.{Portion}
@@ -15,9 +16,9 @@ use Rattle.journal_tree.specs.Listing.{Item, Line, Listed, ListedPlus}
 use Rattle.journal_nfs3_wire.specs.declared.arguments.StableHow.{StableHow}
 use Rattle.journal_nfs3_wire.specs.Results.{Fattr, Before, Change, ReadResults, WriteResults, CommitResults}
 use Rattle.journal_nfs3_wire.specs.QueryResults.{Entry, AccessResults, PageResults, StatusResults, InformationResults, ConfigurationResults}
-use Rattle.journal_nfs3_wire.specs.Profile.{stability_told}
+use Rattle.journal_nfs3_wire.specs.Profile.{no_change, stability_told}
 use Rattle.journal_treewire.specs.Handles.{DiskHandle}
-use Rattle.journal_treewire.specs.Results.{FoundResults, MadeResults, EntryPlus}
+use Rattle.journal_treewire.specs.Results.{FoundResults, MadeResults, TwoChanges, EntryPlus}
 use Rattle.journal_treewire.specs.Values.{time_out}
 
 -- ---- a node
@@ -77,6 +78,13 @@ write_of disk count how verifier c = record { change = change_of disk c; count =
 
 abbrev pub made_of : ℕ → TreeMade → MadeResults
 made_of disk m = record { object = Some (handle_of disk m.node.number m.generation); attributes = Some (fattr_of disk m.node); directory = change_of disk m.directory }
+
+abbrev pub renamed_of : ℕ → TreeRenamed → TwoChanges
+renamed_of disk r = record { source = change_of disk r.source; goal = change_of disk r.goal }
+
+-- two changes of which nothing is described
+abbrev pub no_changes : TwoChanges
+no_changes = record { source = no_change; goal = no_change }
 
 -- No cookie ends, so that each has the same verifier
 abbrev pub cookie_verifier : List ℕ

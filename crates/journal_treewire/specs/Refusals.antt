@@ -5,8 +5,9 @@ use Rattle.journal_nfs3_wire.specs.Arguments as nine
 use Rattle.journal_nfs3_wire.specs.Profile.{no_change}
 use Rattle.journal_nfs3_wire.specs.Queries as query
 use Rattle.journal_treewire.specs.Directories as links
+use Rattle.journal_treewire.specs.Profile.{no_changes}
 use Rattle.journal_treewire.specs.Requests.{Requested, Requested as requested, file, directory}
-use Rattle.journal_treewire.specs.Results.{Results, Null, Attributes, Changed, Found, Access, NoLink, Read, Write, Made, NotRenamed, NotLinked, Directory, DirectoryPlus, FileSystemStatus, FileSystemInformation, PathConfiguration, Commit}
+use Rattle.journal_treewire.specs.Results.{Results, Null, Attributes, Changed, Found, Access, NoLink, Read, Write, Made, Renamed, NotLinked, Directory, DirectoryPlus, FileSystemStatus, FileSystemInformation, PathConfiguration, Commit}
 
 -- NULL is never refused
 abbrev pub refused_file : nine.Operation → NfsError → Results
@@ -34,7 +35,7 @@ refused_directory (links.MakeDirectory e a) why = Made (Err (why, no_change))
 refused_directory (links.MakeLink a) why = Made (Err (why, no_change))
 refused_directory (links.MakeNode e d) why = Made (Err (why, no_change))
 refused_directory (links.RemoveDirectory e) why = Changed (Err (why, no_change))
-refused_directory (links.Rename e f) why = NotRenamed why (no_change, no_change)
+refused_directory (links.Rename e f) why = Renamed (Err (why, no_changes))
 refused_directory (links.Link h e) why = NotLinked why (None, no_change)
 
 abbrev pub refused_request : Requested → NfsError → Results

@@ -41,16 +41,21 @@ entry_plus = mapped_item (pair entry (pair post_op_attributes (optional given_ha
     (λ p. record { entry = p.0; attributes = p.1.0; object = p.1.1 })
     (λ e. (e.entry, (e.attributes, e.object)))
 
--- RENAME3resfail: both directories
-abbrev pub two_changes : Item (Change × Change)
-two_changes = pair change change
+-- RENAME3resok and RENAME3resfail: the directory from which a node goes, and the one to which it
+-- goes
+pub record TwoChanges : Type 0 where
+  pub source : Change
+  pub goal : Change
+
+unfoldable pub two_changes : Item TwoChanges
+two_changes = mapped_item (pair change change) (λ p. record { source = p.0; goal = p.1 }) (λ c. (c.source, c.goal))
 
 -- LINK3resfail: the file and the directory
 abbrev pub file_and_change : Item (Option Fattr × Change)
 file_and_change = pair post_op_attributes change
 
 -- Results, by their form. The four procedures that make a node have one form, and so have SETATTR,
--- REMOVE and RMDIR. READLINK, RENAME and LINK are always refused
+-- REMOVE and RMDIR. READLINK and LINK are always refused
 pub data Results : Type 0 where
   Null : Results
   Attributes : Result Fattr (NfsError × Unit {0}) → Results
@@ -61,7 +66,7 @@ pub data Results : Type 0 where
   Read : Result ReadResults (NfsError × Option Fattr) → Results
   Write : Result WriteResults (NfsError × Change) → Results
   Made : Result MadeResults (NfsError × Change) → Results
-  NotRenamed : NfsError → Change × Change → Results
+  Renamed : Result TwoChanges (NfsError × TwoChanges) → Results
   NotLinked : NfsError → Option Fattr × Change → Results
   Directory : Result (PageResults Entry) (NfsError × Option Fattr) → Results
   DirectoryPlus : Result (PageResults EntryPlus) (NfsError × Option Fattr) → Results
@@ -85,7 +90,7 @@ results_text (NoLink why a) = (refusal post_op_attributes).spelling (Some why, a
 results_text (Read r) = (outcome read_results post_op_attributes).spelling r
 results_text (Write r) = (outcome write_results change).spelling r
 results_text (Made r) = (outcome made_results change).spelling r
-results_text (NotRenamed why a) = (refusal two_changes).spelling (Some why, a)
+results_text (Renamed r) = (outcome two_changes two_changes).spelling r
 results_text (NotLinked why a) = (refusal file_and_change).spelling (Some why, a)
 results_text (Directory r) = (outcome (page_results entry) post_op_attributes).spelling r
 results_text (DirectoryPlus r) = (outcome (page_results entry_plus) post_op_attributes).spelling r
@@ -105,7 +110,7 @@ AreInGrammar (NoLink why a) = (refusal post_op_attributes).Has (Some why, a)
 AreInGrammar (Read r) = (outcome read_results post_op_attributes).Has r
 AreInGrammar (Write r) = (outcome write_results change).Has r
 AreInGrammar (Made r) = (outcome made_results change).Has r
-AreInGrammar (NotRenamed why a) = (refusal two_changes).Has (Some why, a)
+AreInGrammar (Renamed r) = (outcome two_changes two_changes).Has r
 AreInGrammar (NotLinked why a) = (refusal file_and_change).Has (Some why, a)
 AreInGrammar (Directory r) = (outcome (page_results entry) post_op_attributes).Has r
 AreInGrammar (DirectoryPlus r) = (outcome (page_results entry_plus) post_op_attributes).Has r

@@ -5,14 +5,14 @@ ghost use Rattle.journal_nfs3_wire.specs.Profile.{no_change, outcome_of};
 ghost use Rattle.journal_nfs3_wire.specs.QueryResults.{entry, access_results, page_results, status_results, information_results, configuration_results};
 ghost use Rattle.journal_nfs3_wire.specs.Results.{outcome, nothing, fattr, before, post_op_attributes, change, read_results, write_results, commit_results};
 ghost use Rattle.journal_treewire.specs.CodeViews.{results_of, access_seen, read_seen, line_seen, line_plus_seen, list_seen, list_plus_seen, information_seen, configuration_seen};
-ghost use Rattle.journal_treewire.specs.Profile.{fattr_of, before_of, change_of, handle_of, found_of, write_of, made_of, status_of, commit_of};
-ghost use Rattle.journal_treewire.specs.Results.{given_handle, found_results, made_results, entry_plus, AreInGrammar};
+ghost use Rattle.journal_treewire.specs.Profile.{fattr_of, before_of, change_of, handle_of, found_of, write_of, made_of, renamed_of, no_changes, status_of, commit_of};
+ghost use Rattle.journal_treewire.specs.Results.{given_handle, found_results, made_results, two_changes, entry_plus, AreInGrammar};
 
 use crate::length::prove_verifier;
 use crate::parts::{FilePart, Lines};
 use crate::results::{DiskResults, TreeResults};
 use journal_nfs3_wire::{NfsError, StableHow, Verifier};
-use journal_tree::{Changed, Found, Made, Space, Time, Told};
+use journal_tree::{Changed, Found, Made, Renamed, Space, Time, Told};
 use journal_treecalls::{AccessReply, FactsReply, Line, NameFactsReply};
 
 impl DiskResults {
@@ -37,7 +37,7 @@ impl DiskResults {
                 verifier,
             } => prove_write(disk, outcome, *count, *how, verifier),
             TreeResults::Made(answer) => prove_made(disk, answer),
-            TreeResults::NotRenamed(_) => {}
+            TreeResults::Renamed(answer) => prove_renamed(disk, answer),
             TreeResults::NotLinked(_) => {}
             TreeResults::Directory(answer) => prove_list(disk, answer),
             TreeResults::DirectoryPlus(answer) => prove_list_plus(disk, answer),
@@ -122,6 +122,19 @@ fn prove_made(disk: u64, answer: &Result<Made, NfsError>)
             prove_handle(disk, made.node.number, made.generation);
             prove_told(disk, &made.node);
             prove_change(disk, &made.directory);
+        }
+        Err(_) => {}
+    }
+}
+
+#[tactic(auto, using(crate::proofs::Fitting::renamed_ok))]
+fn prove_renamed(disk: u64, answer: &Result<Renamed, NfsError>)
+    ensures { (outcome two_changes two_changes).Has (outcome_of (renamed_of disk) no_changes answer.now) }
+{
+    match answer {
+        Ok(renamed) => {
+            prove_change(disk, &renamed.source);
+            prove_change(disk, &renamed.goal);
         }
         Err(_) => {}
     }

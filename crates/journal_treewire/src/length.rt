@@ -31,7 +31,7 @@ impl DiskResults {
     }
 
     /// The results are short enough for a reply. The call is for its contract.
-    #[tactic(auto, using(crate::proofs::Short::attributes_result, crate::proofs::Short::changed_result, crate::proofs::Short::found_result, crate::proofs::Short::access_result, crate::proofs::Short::made_result, crate::proofs::Short::status_result, crate::proofs::Short::information_result, crate::proofs::Short::configuration_result))]
+    #[tactic(auto, using(crate::proofs::Short::attributes_result, crate::proofs::Short::changed_result, crate::proofs::Short::found_result, crate::proofs::Short::access_result, crate::proofs::Short::made_result, crate::proofs::Short::renamed_result, crate::proofs::Short::status_result, crate::proofs::Short::information_result, crate::proofs::Short::configuration_result))]
     pub fn prove_short(&self)
         ensures { length (results_text (results_of self.now.disk self.now.results)) < 2 ^ 30 }
     {
@@ -51,7 +51,7 @@ impl DiskResults {
                 verifier,
             } => prove_written(disk, outcome, *count, *how, verifier),
             TreeResults::Made(_) => {}
-            TreeResults::NotRenamed(_) => {}
+            TreeResults::Renamed(_) => {}
             TreeResults::NotLinked(_) => {}
             TreeResults::Directory(outcome) => prove_lines(disk, outcome),
             TreeResults::DirectoryPlus(outcome) => prove_lines_plus(disk, outcome),

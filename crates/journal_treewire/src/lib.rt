@@ -10,7 +10,8 @@
 //! `specs/Results.antt` has the grammar of results, `specs/Profile.antt` has the results for each
 //! reply of the definitions, and `specs/Answers.antt` puts both together: the results of a call by
 //! its reply. Each is in the grammar (`DiskResults::prove_grammar`) and is short enough for a reply
-//! (`DiskResults::prove_short`). `specs/ListLengths.antt` says how many bytes listings have.
+//! (`DiskResults::prove_short`). `specs/ListLengths.antt` says how many bytes listings have, and
+//! `specs/Bounds.antt` how many bytes and lines the answers of a tree have.
 #![tactic(auto)]
 
 mod arguments;
@@ -38,8 +39,8 @@ pub use credential::{Credential, read_credential};
 pub use decision::read_request;
 pub use handle::read_handle;
 pub use laws::{
-    credentials_are_spellings, directory_arguments_are_spellings, disk_handles_are_spellings,
-    listings_have_room, node_results_are_spellings,
+    answers_are_bounded, credentials_are_spellings, directory_arguments_are_spellings,
+    disk_handles_are_spellings, listings_have_room, node_results_are_spellings,
 };
 pub use parts::{FilePart, Lines, MOST_LINES};
 pub use procedure::DirectoryProcedure;

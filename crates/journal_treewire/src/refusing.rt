@@ -74,7 +74,7 @@ fn refused_directory_operation(operation: &DirectoryOperation<'_>, why: NfsError
         DirectoryOperation::MakeLink(_) => TreeResults::Made(Err(why)),
         DirectoryOperation::MakeNode(_, _) => TreeResults::Made(Err(why)),
         DirectoryOperation::RemoveDirectory(_) => TreeResults::Changed(Err(why)),
-        DirectoryOperation::Rename(_, _) => TreeResults::NotRenamed(why),
+        DirectoryOperation::Rename(_, _) => TreeResults::Renamed(Err(why)),
         DirectoryOperation::Link(_, _) => TreeResults::NotLinked(why),
     }
 }

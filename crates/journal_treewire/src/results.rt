@@ -6,10 +6,10 @@ use crate::parts::{FilePart, Lines};
 use crate::space::{write_information, write_path_configuration, write_space};
 use crate::writing::{
     write_access, write_attributes_of, write_changed, write_commit, write_found, write_made,
-    write_not_linked, write_not_renamed, write_read, write_refused_link, write_write,
+    write_not_linked, write_read, write_refused_link, write_renamed, write_write,
 };
 use journal_nfs3_wire::{NfsError, StableHow, Verifier};
-use journal_tree::{Changed, Found, Made, Space, Told};
+use journal_tree::{Changed, Found, Made, Renamed, Space, Told};
 use journal_treecalls::{AccessReply, FactsReply, NameFactsReply};
 use journal_xdr::Writer;
 use std::alloc::AllocError;
@@ -36,8 +36,8 @@ pub enum TreeResults {
     },
     /// CREATE, MKDIR, SYMLINK and MKNOD.
     Made(Result<Made, NfsError>),
-    /// RENAME, which is refused.
-    NotRenamed(NfsError),
+    /// RENAME.
+    Renamed(Result<Renamed, NfsError>),
     /// LINK, which is refused.
     NotLinked(NfsError),
     Directory(Result<Lines, NfsError>),
@@ -81,7 +81,7 @@ impl journal_rpc::Results for DiskResults {
                 verifier,
             } => write_write(writer, disk, outcome, *count, *how, *verifier),
             TreeResults::Made(outcome) => write_made(writer, disk, outcome),
-            TreeResults::NotRenamed(why) => write_not_renamed(writer, *why),
+            TreeResults::Renamed(outcome) => write_renamed(writer, disk, outcome),
             TreeResults::NotLinked(why) => write_not_linked(writer, *why),
             TreeResults::Directory(outcome) => write_lines(writer, disk, outcome),
             TreeResults::DirectoryPlus(outcome) => write_lines_plus(writer, disk, outcome),

@@ -5,13 +5,13 @@ ghost use Rattle.journal_nfs3_wire.specs.Results.{fattr, post_op_attributes, cha
 ghost use Rattle.journal_nfs3_wire.specs.QueryResults.{access_results};
 ghost use Rattle.journal_nfs3_wire.specs.Profile.{no_change, outcome_of};
 ghost use Rattle.journal_treewire.specs.CodeViews.{access_seen, read_seen};
-ghost use Rattle.journal_treewire.specs.Profile.{fattr_of, change_of, found_of, write_of, made_of, commit_of};
+ghost use Rattle.journal_treewire.specs.Profile.{fattr_of, change_of, found_of, write_of, made_of, renamed_of, no_changes, commit_of};
 ghost use Rattle.journal_treewire.specs.Results.{found_results, made_results, refusal, two_changes, file_and_change};
 
 use crate::attributes::{write_change, write_handle, write_some_told, write_told};
 use crate::parts::FilePart;
 use journal_nfs3_wire::{NfsError, StableHow, Untold, Verifier, write_status};
-use journal_tree::{Changed, Found, Made, Told};
+use journal_tree::{Changed, Found, Made, Renamed, Told};
 use journal_treecalls::AccessReply;
 use journal_xdr::Writer;
 use std::alloc::AllocError;
@@ -150,14 +150,28 @@ pub(crate) fn write_made(
     write_change(writer, disk, &made.directory)
 }
 
-// RENAME, which is refused (RFC 1813, section 3.3.14), without attributes of either directory.
-#[tactic(auto, unfolding(journal_nfs3_wire::specs::Results::change))]
-pub(crate) fn write_not_renamed(writer: &mut Writer, why: NfsError) -> Result<(), AllocError>
-    ensures { OnOk result (Writes (refusal two_changes) (Some why, (no_change, no_change)) writer.old writer.new) }
+// RENAME (RFC 1813, section 3.3.14).
+#[tactic(auto, unfolding(crate::specs::Results::two_changes))]
+pub(crate) fn write_renamed(
+    writer: &mut Writer,
+    disk: u64,
+    answer: &Result<Renamed, NfsError>,
+) -> Result<(), AllocError>
+    ensures { OnOk result (Writes (outcome two_changes two_changes) (outcome_of (renamed_of disk) no_changes answer.now) writer.old writer.new) }
 {
-    writer.word(why as u32)?;
-    writer.boolean(false)?;
-    writer.boolean(false)?;
+    write_status(writer, answer, Untold::Change)?;
+    let Ok(renamed) = answer else {
+        return write_no_change(writer);
+    };
+    write_change(writer, disk, &renamed.source)?;
+    write_change(writer, disk, &renamed.goal)
+}
+
+// A change of which nothing is told (RFC 1813, section 2.5, wcc_data).
+#[tactic(auto, unfolding(journal_nfs3_wire::specs::Results::change))]
+fn write_no_change(writer: &mut Writer) -> Result<(), AllocError>
+    ensures { OnOk result (Writes change no_change writer.old writer.new) }
+{
     writer.boolean(false)?;
     writer.boolean(false)
 }

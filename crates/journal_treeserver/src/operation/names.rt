@@ -1,7 +1,7 @@
 // The calls that look for a name, and those that take one away or give another.
 use super::{NfsOperation, Told};
 use journal_nfs3_wire::{StableHow, Verifier};
-use journal_tree::{Changed, Found, Status};
+use journal_tree::{Changed, Found, Renamed, Status};
 use journal_treeobjects::{Lookup, Remove, Rename, RmDir};
 use journal_treewire::{TreeResults, error_of};
 
@@ -33,7 +33,10 @@ impl<'n> NfsOperation for RmDir<'n> {
 }
 
 impl<'n> NfsOperation for Rename<'n> {
-    fn tell(&self, reply: Status, _how: StableHow, _verifier: Verifier) -> Told {
-        Told::refusal(TreeResults::NotRenamed(error_of(reply)))
+    fn tell(&self, reply: Result<Renamed, Status>, _how: StableHow, _verifier: Verifier) -> Told {
+        match reply {
+            Ok(renamed) => Told::done(TreeResults::Renamed(Ok(renamed))),
+            Err(status) => Told::refusal(TreeResults::Renamed(Err(error_of(status)))),
+        }
     }
 }
