@@ -179,6 +179,13 @@ class Made(NamedTuple):
     directory: Change
 
 
+class Renamed(NamedTuple):
+    """RENAME3resok: of the directory that the node comes from, and of the one to which it goes."""
+
+    source: Change
+    goal: Change
+
+
 class Access(NamedTuple):
     attributes: Optional[Attributes]
     rights: int
@@ -295,6 +302,9 @@ class Reader:
     def made(self):
         return Made(self.optional(self.opaque), self.optional(self.attributes), self.change())
 
+    def renamed(self):
+        return Renamed(self.change(), self.change())
+
     def access(self):
         return Access(self.optional(self.attributes), self.word())
 
@@ -342,6 +352,7 @@ RESULTS = {
     MKDIR: Reader.made,
     REMOVE: Reader.change,
     RMDIR: Reader.change,
+    RENAME: Reader.renamed,
     READDIR: lambda reader: reader.listing(reader.line),
     READDIRPLUS: lambda reader: reader.listing(reader.line_plus),
     FSSTAT: Reader.space,

@@ -6,7 +6,9 @@ files, and files in one folder of all clients. It sends several calls at once. W
 always be as its calls leave it up to some one of them, in order: the last that it was told to be
 stable, or one after that. Told to be stable is a call that was answered OK, but for a WRITE that
 was answered UNSTABLE and for what changes nothing; and all before a COMMIT that was answered OK
-with the verifier of the writes.
+with the verifier of the writes. So a node whose RENAME was under way has the old name or the new
+one, and never both or none; what had the new name is there or replaced; and a RENAME that was
+answered is done.
 """
 
 import random
@@ -22,6 +24,7 @@ FILE_BYTES = 20000
 SHARED = b"shared"
 FOLDERS = 3
 FILES_EACH = 2
+NAMES_SHARE, RENAMES_SHARE = 0.4, 0.4
 START_SECONDS = 60
 
 
@@ -132,6 +135,39 @@ class RemoveFolder(Remove):
     procedure = RMDIR
 
 
+class Rename(Call):
+    """A node gets another path, with all that is below it. Its reply does not tell the node's
+    ctime."""
+
+    procedure = RENAME
+
+    def __init__(self, path, directory, new_path, new_directory):
+        super().__init__(path)
+        self.new_path = new_path
+        self.arguments = entry(directory, path[-1]) + entry(new_directory, new_path[-1])
+
+    def take(self, renamed):
+        pass
+
+    def after(self, state):
+        if not self.is_done:
+            return state
+        moved = moved_paths(state, self.path, self.new_path)
+        return {**moved, self.new_path: moved[self.new_path]._replace(ctime=None)}
+
+
+def is_below(path, top):
+    """Whether a path is this one, or leads through it."""
+    return path[: len(top)] == top
+
+
+def moved_paths(by_path, top, new_top):
+    """What is kept by paths, where all from one path on stands under another one, in place of what
+    stood there."""
+    stays = {path: it for path, it in by_path.items() if not is_below(path, top) and not is_below(path, new_top)}
+    return stays | {new_top + path[len(top) :]: it for path, it in by_path.items() if is_below(path, top)}
+
+
 class Set(Call):
     """SETATTR of a size, or of a mode."""
 
@@ -187,12 +223,15 @@ class Commit(Call):
 
 class Client:
     """The calls of a connection to paths of its own, and what it was told of them. It goes on from
-    run to run."""
+    run to run. Of its bursts `names_share` change a name, and of these changes `renames_share` are
+    renames."""
 
-    def __init__(self, number, most_at_once, choice=random):
+    def __init__(self, number, most_at_once, choice=random, names_share=NAMES_SHARE, renames_share=RENAMES_SHARE):
         self.number, self.most_at_once, self.choice = number, most_at_once, choice
+        self.names_share, self.renames_share = names_share, renames_share
         self.own = b"client%d" % number
-        self.folders = [(self.own, b"folder%d" % place) for place in range(FOLDERS)]
+        tops = [(self.own, b"folder%d" % place) for place in range(FOLDERS)]
+        self.folders = tops + [(*top, b"deep") for top in tops]
         places = range(FILES_EACH)
         inner = [(*top, b"file%d" % place) for top in [(self.own,), *self.folders] for place in places]
         self.files = inner + [(SHARED, b"client%d file%d" % (number, place)) for place in places]
@@ -237,7 +276,7 @@ class Client:
         there = [path for path in self.files if self.handles.get(path)]
         count = self.choice.randint(1, self.most_at_once) if there else 0
         calls = [self.change(self.choice.choice(there)) for _ in range(count)]
-        if not calls or self.choice.random() < 0.4:
+        if not calls or self.choice.random() < self.names_share:
             calls.append(self.change_of_names())
         return calls
 
@@ -258,18 +297,43 @@ class Client:
         return Write(path, handle, start, data, how)
 
     def change_of_names(self):
-        """A file or a folder that is made or removed, where its folder is there and it is empty."""
-        possible = [path for path in self.folders + self.files if self.handles.get(path[:-1])]
-        path = self.choice.choice(possible)
+        """A file or a folder that is made, removed or renamed, where its folder is there."""
+        if self.choice.random() < self.renames_share and (rename := self.possible_rename()):
+            return rename
+        path = self.choice.choice([path for path in self.folders + self.files if self.handles.get(path[:-1])])
+        if self.handles.get(path):
+            return self.removal(path)
         directory = self.handles[path[:-1]]
-        if not self.handles.get(path):
-            if path in self.folders:
-                return MakeFolder(path, directory, 0o755)
-            return Create(path, directory, 0o644, self.choice.choice([0, 0, 1, 5000, FILE_BYTES]))
         if path in self.folders:
-            inner = [file for file in self.files if file[:-1] == path and self.handles.get(file)]
-            return Remove(inner[0], self.handles[path]) if inner else RemoveFolder(path, directory)
-        return Remove(path, directory)
+            return MakeFolder(path, directory, 0o755)
+        return Create(path, directory, 0o644, self.choice.choice([0, 0, 1, 5000, FILE_BYTES]))
+
+    def removal(self, path):
+        """The removal of a path, or of the first thing that is in it."""
+        inner = [it for it in self.folders + self.files if it[:-1] == path and self.handles.get(it)]
+        if inner:
+            return self.removal(inner[0])
+        return (RemoveFolder if path in self.folders else Remove)(path, self.handles[path[:-1]])
+
+    def possible_rename(self):
+        """A rename of something that is there, if there is one."""
+        there = [path for path in self.folders + self.files if self.handles.get(path)]
+        places = [path for path in self.folders + self.files if self.handles.get(path[:-1])]
+        for path in self.choice.sample(there, len(there)):
+            goals = [goal for goal in places if self.may_get(path, goal, there)]
+            if goals:
+                goal = self.choice.choice(goals)
+                return Rename(path, self.handles[path[:-1]], goal, self.handles[goal[:-1]])
+        return None
+
+    def may_get(self, path, goal, there):
+        """Whether a path may get another one of the same kind, which has nothing in it, where all
+        that is below it has a path of this client then."""
+        if is_below(goal, path) or (path in self.folders) != (goal in self.folders):
+            return False
+        if any(is_below(it, goal) and it != goal for it in there):
+            return False
+        return all(self.is_own(goal + it[len(path) :]) for it in there if is_below(it, path))
 
     def take(self, connection, place):
         """Takes the answer to a call."""
@@ -299,6 +363,8 @@ class Client:
             self.handles[call.path] = call.handle
         if isinstance(call, Remove):
             self.handles[call.path] = None
+        if isinstance(call, Rename):
+            self.handles = moved_paths(self.handles, call.path, call.new_path)
 
     def states(self, stable, sent):
         """What its paths may be where so many calls are stable, and so many were sent at most; and

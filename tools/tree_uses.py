@@ -1,17 +1,16 @@
 """What a Linux kernel does with a tree of files that it mounts. `mount-tree` runs it as root within
 the kernel's machine.
 
-    python3 tree_uses.py HOST PORT SMALL_PORT DATA_BLOCKS INODES WORD OPTIONS
+    python3 tree_uses.py GIVEN
 
-The tree is served at HOST:PORT, and a small one of few blocks, which gets full, at SMALL_PORT;
-DATA_BLOCKS and INODES are the first one's. All is mounted with OPTIONS more, which may be empty.
-Each check prints a line, `ok NAME` or `WRONG NAME: WHY`, and those alone are made whose name has
-WORD in it. A line `DO restart` asks that the service is killed and started again. What is needed
-lies below /mnt, which must be writable.
+GIVEN is a file of JSON with what `tree_mount.py` reads: where the tree is served, and a small one
+of few blocks, which gets full; how many blocks of data and inodes the first one has; how much is to
+be done. Each check prints a line, `ok NAME` or `WRONG NAME: WHY`, and those alone are made whose
+name has the word in it that is given. A line `DO restart` asks that the service is killed and
+started again. What is needed lies below /mnt, which must be writable. Checks of what saves by
+RENAME are in `tree_saves.py`, and those that Connectathon's basic ones make in `tree_basics.py`.
 """
 
-import collections
-import ctypes
 import errno
 import filecmp
 import mmap
@@ -25,115 +24,9 @@ import time
 import traceback
 from pathlib import Path
 
-MOST_BYTES = 196608
-LONGEST_NAME = 255
-BLOCK = 4096
-NOBODY, USER, GROUP = 65534, 1000, 77
-ENOTSUPP = 524  # What Linux makes of NFS3ERR_NOTSUPP. It has no name outside of the kernel.
-A, B, SMALL, HERE = Path("/mnt/a"), Path("/mnt/b"), Path("/mnt/small"), Path("/mnt/here")
-OPTIONS = "vers=3,addr={host},port={port},mountport={port},mountvers=3,nolock,proto=tcp,mountproto=tcp,hard{more}"
-PIECES = random.Random(7)
-
-
-class Wrong(Exception):
-    """What was seen is not what must be."""
-
-
-def equal(what, got, wanted):
-    if got != wanted:
-        raise Wrong(f"{what}: {got!r}, not {wanted!r}")
-
-
-def say(text):
-    print(f"say {text}", flush=True)
-
-
-def run(*words):
-    """A program's run, which must end well and print no fault. Its output."""
-    ran = subprocess.run([str(word) for word in words], capture_output=True, text=True)
-    if ran.returncode or ran.stderr:
-        raise Wrong(f"{' '.join(map(str, words))}: status {ran.returncode}, {ran.stderr.strip()[:300]}")
-    return ran.stdout
-
-
-def refused(what, numbers, act):
-    """The system must refuse the act with one of these numbers."""
-    numbers = numbers if isinstance(numbers, tuple) else (numbers,)
-    try:
-        act()
-    except OSError as why:
-        if why.errno not in numbers:
-            raise Wrong(f"{what}: {called(why.errno)}, not {called(numbers[0])}") from None
-        return
-    raise Wrong(f"{what} is done, and not {called(numbers[0])}")
-
-
-def called(number):
-    return errno.errorcode.get(number, number)
-
-
-def as_user(user, group, act, groups=()):
-    """Does something in a process of a user. What is wrong there is wrong here."""
-    child = os.fork()
-    if child == 0:
-        status = 0
-        try:
-            os.setgroups(groups)
-            os.setgid(group)
-            os.setuid(user)
-            act()
-        except Exception as why:
-            print(f"say user {user}: {why}", flush=True)
-            status = 1
-        os._exit(status)
-    equal(f"what user {user} does", os.waitpid(child, 0)[1], 0)
-
-
-LIBRARY = ctypes.CDLL(None, use_errno=True)
-
-
-def mount(served, folder, port, more=""):
-    folder.mkdir(exist_ok=True)
-    options = OPTIONS.format(host=HOST, port=port, more=more + MORE_OPTIONS).encode()
-    if LIBRARY.mount(f"{HOST}:{served}".encode(), bytes(folder), b"nfs", 0, options):
-        raise OSError(ctypes.get_errno(), f"mount {folder}")
-
-
-def unmount(folder):
-    if LIBRARY.umount(bytes(folder)):
-        raise OSError(ctypes.get_errno(), f"umount {folder}")
-
-
-def forget():
-    """The kernel forgets what it has read."""
-    os.sync()
-    Path("/proc/sys/vm/drop_caches").write_text("3")
-
-
-def calls(folder):
-    """How many calls of each procedure the kernel has made for a mount."""
-    counts, is_here = collections.Counter(), False
-    for line in Path("/proc/self/mountstats").read_text().splitlines():
-        if line.startswith("device "):
-            is_here = f" mounted on {folder} " in line
-        word, _, rest = line.strip().partition(": ")
-        if is_here and word.isupper() and rest.split()[0].isdigit():
-            counts[word] += int(rest.split()[0])
-    return counts
-
-
-def write(path, data, mode=0o644):
-    with open(os.open(path, os.O_WRONLY | os.O_CREAT | os.O_TRUNC, mode), "wb") as file:
-        file.write(data)
-
-
-def bytes_of(size):
-    return PIECES.randbytes(size)
-
-
-def names_in(folder):
-    return sorted(os.listdir(folder))
-
+import tree_basics
+import tree_saves
+from tree_mount import *
 
 # ---- trees
 
@@ -429,8 +322,8 @@ def listing_while_names_change():
 
 def room():
     told = os.statvfs(A)
-    equal("units of the file system", told.f_blocks, -(-DATA_BLOCKS * BLOCK // told.f_frsize))
-    equal("files of the file system", told.f_files, INODES - 1)
+    equal("units of the file system", told.f_blocks, -(-GIVEN.data_blocks * BLOCK // told.f_frsize))
+    equal("files of the file system", told.f_files, GIVEN.inodes - 1)
     equal("the longest name", told.f_namemax, LONGEST_NAME)
     if not 0 < told.f_bavail <= told.f_blocks or not 0 < told.f_favail <= told.f_files:
         raise Wrong(f"free: {told.f_bavail} of {told.f_blocks} blocks, {told.f_favail} of {told.f_files} files")
@@ -453,7 +346,7 @@ def fill(path):
 
 
 def full_disk():
-    mount("/files", SMALL, SMALL_PORT)
+    mount("/files", SMALL, GIVEN.small_port)
     try:
         write(SMALL / "first", b"stays")
         refused("writing more than there is", errno.ENOSPC, lambda: fill(SMALL / "filling"))
@@ -497,7 +390,7 @@ def set_times():
 def times_grow():
     """By a mount that remembers no attributes: ctime grows with each change, and a folder's times
     with each of its names."""
-    mount("/files", SMALL, PORT, ",noac,nosharecache")
+    mount("/files", SMALL, GIVEN.port, ",noac,nosharecache")
     try:
         folder = SMALL / "grows"
         folder.mkdir()
@@ -618,17 +511,12 @@ def made(path):
 
 
 def what_is_lacking():
-    """RENAME, links and pipes are refused, and nothing is harmed; so is the removal of a file that
-    is open."""
+    """Links and pipes are refused, and nothing is harmed."""
     write(A / "file", b"x")
     lacks = (ENOTSUPP, errno.EOPNOTSUPP)
-    refused("rename", lacks, lambda: os.rename(A / "file", A / "other"))
     refused("symlink", lacks, lambda: os.symlink("file", A / "other"))
     refused("link", lacks, lambda: os.link(A / "file", A / "other"))
     refused("mkfifo", lacks, lambda: os.mkfifo(A / "other"))
-    with open(A / "file", "rb") as held:
-        refused("removing an open file", (errno.EBUSY, *lacks), lambda: os.remove(A / "file"))
-        equal("its bytes", held.read(), b"x")
     equal("what is there", names_in(A), ["file"])
     os.remove(A / "file")
 
@@ -680,7 +568,7 @@ def a_kill_under_a_copy():
         time.sleep(0.05)
     forget()
     same_files("by the same mount", A / "killed")
-    mount("/", SMALL, PORT, ",nosharecache")
+    mount("/", SMALL, GIVEN.port, ",nosharecache")
     try:
         same_files("by a fresh mount", SMALL / "killed")
     finally:
@@ -719,6 +607,8 @@ CHECKS = (
     calls_of_eight_uses,
     many_files,
     listing_while_names_change,
+    *tree_basics.CHECKS,
+    *tree_saves.CHECKS,
     a_kill_under_a_copy,
 )
 
@@ -747,10 +637,10 @@ def main():
     os.umask(0o022)
     make_tree(HERE / "tree")
     run("tar", "-C", HERE, "--format=posix", "-cf", HERE / "tree.tar", "tree")
-    mount("/files", A, PORT)
-    mount("/files", B, PORT, ",nosharecache,actimeo=1")
+    mount(GIVEN.path, A, GIVEN.port)
+    mount(GIVEN.path, B, GIVEN.port, ",nosharecache,actimeo=1")
     for act in CHECKS:
-        if ONLY in act.__name__:
+        if GIVEN.only in act.__name__:
             check(act)
             clear()
     unmount(B)
@@ -759,7 +649,5 @@ def main():
 
 
 if __name__ == "__main__":
-    HOST = sys.argv[1]
-    PORT, SMALL_PORT, DATA_BLOCKS, INODES = map(int, sys.argv[2:6])
-    ONLY, MORE_OPTIONS = sys.argv[6:8]
+    begin(sys.argv[1])
     main()

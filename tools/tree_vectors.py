@@ -2,145 +2,17 @@
 
 A module: `tree-vectors` and the rows of rows/jnlfs/trees.py use it. Calls are bytes that are made
 by hand (`tree_calls.py`). Statuses, attributes and rights are written down here, from the standard
-and from what docs/OPERATING.md says that this tree is. `GROUPS` has what is asked over any new
-disk, and `DISKS` what needs disks or services of its own. Each raises `Differs` at the first answer
-that is another than the one that is written down.
+and from what docs/OPERATING.md says that this tree is; those of RENAME are in `tree_renames.py`.
+`GROUPS` has what is asked over any new disk, and `DISKS` what needs disks or services of its own.
+Each raises `Differs` at the first answer that is another than the one that is written down.
 """
 
-import os
-import re
 import subprocess
 import time
 from pathlib import Path
 
-from tree_calls import *
-
-BLOCK = 4096
-LARGEST_FILE = 196608
-TRANSFER = 65536
-LONGEST_NAME = 255
-NOBODY = 65534
-ROOT_NUMBER = 1
-NO_TIME = Time(0, 10**9)
-# A reply's time is that of its call, and a service may read the clock at its last tick.
-CLOCK_SLACK = 0.1
-
-DENIED_CREDENTIAL = words(1, 1, 1, 1)  # MSG_DENIED, AUTH_ERROR, AUTH_BADCRED
-PROGRAM_UNAVAILABLE = ACCEPTED + words(1)
-VERSION_3_ALONE = ACCEPTED + words(2, 3, 3)
-PROCEDURE_UNAVAILABLE = ACCEPTED + words(3)
-GARBAGE = ACCEPTED + words(4)
-DONE = ACCEPTED + words(0)
-
-OWNER, MEMBER, STRANGER = user(1000, 100), user(1001, 500, (7, 100)), user(1002, 500)
-
-# Where the description of the disk lies, and in it the disk's own number (docs/FORMATS.md).
-DESCRIPTION, OWN_NUMBER = 513 * BLOCK, 32
-
-
-class Differs(Exception):
-    """An answer is another than the one that was written down."""
-
-
-class Service:
-    """A run of `jnlfs serve` over a disk, with these words and this environment more."""
-
-    def __init__(self, jnlfs, disk, *more, **environment):
-        line = ["setpriv", "--pdeathsig", "KILL", jnlfs, "serve", disk, "--port", "0", *more]
-        pipes = {"stdout": subprocess.PIPE, "stderr": subprocess.DEVNULL}
-        self.process = subprocess.Popen(line, text=True, env={**os.environ, **environment}, **pipes)
-        found = re.fullmatch(r"listening (?:on [\d.]+:)?(\d+)\n", self.process.stdout.readline())
-        if not found:
-            self.process.kill()
-            raise OSError("the service did not begin")
-        self.port = int(found[1])
-
-    def __enter__(self):
-        return self
-
-    def __exit__(self, *_):
-        self.process.kill()
-        self.process.wait()
-        self.process.stdout.close()
-
-
-class Vectors:
-    """A connection to a service, the tree's root, and how many things were compared."""
-
-    def __init__(self, port, disk_number):
-        self.connection = Connection(port)
-        self.disk_number = disk_number
-        self.root = hyper(disk_number) + words(ROOT_NUMBER, 1)
-        self.compared = 0
-
-    def equal(self, what, got, wanted):
-        self.compared += 1
-        if got != wanted:
-            show = lambda it: it.hex() if isinstance(it, bytes) else it
-            raise Differs(f"{what}: got {show(got)}, wanted {show(wanted)}")
-
-    def holds(self, what, is_so):
-        self.equal(what, bool(is_so), True)
-
-    def ask(self, what, procedure, arguments, by=ROOT_USER):
-        try:
-            return self.connection.ask(procedure, arguments, by)
-        except Malformed as why:
-            raise Differs(f"{what}: {why}") from None
-
-    def does(self, what, procedure, arguments, by=ROOT_USER):
-        """The results of a call that must be answered OK."""
-        status, results = self.ask(what, procedure, arguments, by)
-        self.equal(f"{what}: status", status, OK)
-        return results
-
-    def refuses(self, what, wanted, procedure, arguments, by=ROOT_USER):
-        """A call must be answered by this status, and by no part more."""
-        self.equal(f"{what}: status", self.ask(what, procedure, arguments, by)[0], wanted)
-
-    def looks(self, what, attributes, **wanted):
-        """Attributes that are there have these fields, and what all of them have."""
-        self.holds(f"{what}: there are attributes", attributes is not None)
-        wanted |= {"links": 1, "device": (0, 0), "disk": self.disk_number, "read": attributes.mtime}
-        wanted["used"] = -(-attributes.size // BLOCK) * BLOCK
-        for name, value in wanted.items():
-            self.equal(f"{what}: {name}", getattr(attributes, name), value)
-        for moment in (attributes.mtime, attributes.ctime):
-            self.holds(f"{what}: nanoseconds", moment.nanos < 10**9)
-
-    def attributes(self, handle):
-        return self.does("GETATTR", GETATTR, opaque(handle))
-
-    def shows(self, what, attributes, handle):
-        """Attributes in a reply are those that GETATTR tells."""
-        self.equal(what, attributes, self.attributes(handle))
-
-    def changes(self, what, change, before, handle):
-        """A change tells of a node what was told of it before, and what GETATTR tells after it."""
-        self.equal(f"{what}: before", change.before, Before(before.size, before.mtime, before.ctime))
-        self.shows(f"{what}: after", change.after, handle)
-
-    def make(self, directory, name, by=ROOT_USER, **asked):
-        """The handle of a new file."""
-        arguments = entry(directory, name) + words(GUARDED) + settings(**asked)
-        return self.does(f"CREATE {name}", CREATE, arguments, by).handle
-
-    def folder(self, directory, name, by=ROOT_USER, **asked):
-        """The handle of a new folder."""
-        return self.does(f"MKDIR {name}", MKDIR, entry(directory, name) + settings(**asked), by).handle
-
-    def write(self, handle, data, offset=0, by=ROOT_USER):
-        return self.does("WRITE", WRITE, written(handle, offset, data), by)
-
-    def content(self, handle):
-        return self.connection.read_all(handle)
-
-    def set(self, handle, by=ROOT_USER, **asked):
-        return self.does("SETATTR", SETATTR, opaque(handle) + settings(**asked) + words(0), by)
-
-    def number_of(self, handle):
-        return int.from_bytes(handle[8:12], "big")
-
+import tree_renames
+from tree_asking import *
 
 # ---- the protocol
 
@@ -341,14 +213,12 @@ def no_folder(v, file, new):
         arguments = entry(file, b"x") + new.get(procedure, b"")
         v.refuses(f"{NAMES[procedure]} in a file", NOTDIR, procedure, arguments)
     v.refuses("LINK in a file", NOTDIR, LINK, opaque(file) + entry(file, b"x"))
-    v.refuses("RENAME from a file", NOTDIR, RENAME, entry(file, b"x") + entry(v.root, b"x"))
-    v.refuses("RENAME to a file", NOTDIR, RENAME, entry(v.root, b"names.file") + entry(file, b"x"))
     v.refuses("READDIR of a file", NOTDIR, READDIR, listed(file, 0, 8192))
     v.refuses("READDIRPLUS of a file", NOTDIR, READDIRPLUS, listed(file, 0, 8192, 8192))
 
 
 def what_the_tree_lacks(v):
-    """READLINK, SYMLINK, MKNOD, LINK, RENAME and CREATE EXCLUSIVE are NOTSUPP, after what is wrong
+    """READLINK, SYMLINK, MKNOD, LINK and CREATE EXCLUSIVE are NOTSUPP, after what is wrong
     otherwise."""
     folder = v.folder(v.root, b"lacks", mode=0o755)
     file = v.make(folder, b"file")
@@ -369,13 +239,6 @@ def what_the_tree_lacks(v):
         v.refuses(f"{name} of a new name", NOTSUPP, procedure, before + entry(folder, b"new") + more)
         v.refuses(f"{name} of a name that is there", EXIST, procedure, before + entry(folder, b"file") + more)
         v.refuses(f"{name} by a stranger", ACCES, procedure, before + entry(folder, b"new") + more, STRANGER)
-    here = entry(folder, b"file")
-    v.refuses("RENAME", NOTSUPP, RENAME, here + entry(folder, b"new"))
-    v.refuses("RENAME of nothing", NOENT, RENAME, entry(folder, b"nothing") + entry(folder, b"new"))
-    v.refuses("RENAME by a stranger", ACCES, RENAME, here + entry(folder, b"new"), STRANGER)
-    for name, status in {b".": INVAL, b"..": INVAL, b"": INVAL, b"a/b": INVAL, b"n" * 256: NAMETOOLONG}.items():
-        v.refuses(f"RENAME of {name[:9]}", status, RENAME, entry(folder, name) + entry(folder, b"new"))
-        v.refuses(f"RENAME to {name[:9]}", status, RENAME, here + entry(folder, name))
     v.equal("nothing was made", [line.name for line in v.connection.list_all(folder)], [b"file"])
 
 
@@ -902,32 +765,11 @@ GROUPS = (
     special_bits,
     listings,
     facts,
+    *tree_renames.GROUPS,
 )
 
 
 # ---- groups that need a disk of their own
-
-
-class Disk:
-    """A new disk of so many blocks, how it is cut, and services of it."""
-
-    def __init__(self, jnlfs, folder, name, blocks, *more):
-        self.jnlfs, self.path = jnlfs, folder / name
-        subprocess.run([jnlfs, "make", self.path, "--blocks", str(blocks), *more], check=True, stdout=subprocess.DEVNULL)
-        with open(self.path, "rb") as file:
-            file.seek(DESCRIPTION)
-            head, version, self.blocks, self.inodes, self.number = struct.unpack("<8s4Q", file.read(40))
-        if (head, version, self.blocks) != (b"GJNLDSK1", 3, blocks):
-            raise OSError(f"make makes no tree of {blocks} blocks: {head} {version} {self.blocks}")
-        inode_blocks, owner_blocks = -(-self.inodes // 8), -(-blocks // 512)
-        self.data_blocks = blocks - 514 - owner_blocks - inode_blocks
-
-    def serve(self, *more, **environment):
-        return Service(self.jnlfs, self.path, *more, **environment)
-
-    def vectors(self, service):
-        return Vectors(service.port, self.number)
-
 
 def new_root(jnlfs, folder):
     """A new tree has its root alone."""
@@ -1068,6 +910,8 @@ def standing_clock(jnlfs, folder):
         v = disk.vectors(service)
         v.equal("a new file's time", v.attributes(v.make(v.root, b"file")).ctime, Time(0, 0))
         times(v)
+        tree_renames.renames_of_files(v)
+        tree_renames.times_of_renames(v)
         other = v.folder(v.root, b"other")
         for number in range(4):
             ctime = v.attributes(other).ctime
@@ -1078,7 +922,7 @@ def standing_clock(jnlfs, folder):
         return v.compared
 
 
-DISKS = (new_root, full_disk, squashed_root, read_only, another_run, standing_clock)
+DISKS = (new_root, full_disk, squashed_root, read_only, another_run, standing_clock, *tree_renames.DISKS)
 
 
 def shared_disk(jnlfs, folder, group):

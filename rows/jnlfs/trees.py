@@ -121,3 +121,71 @@ def files_are_there_in_another_run(room):
 
 def times_grow_without_a_clock(room):
     ask(room, "standing_clock")
+
+
+def a_file_is_renamed(room):
+    ask(room, "renames_of_files")
+
+
+def a_folder_goes_to_another_parent(room):
+    ask(room, "renames_of_folders")
+
+
+def a_rename_replaces_what_stood_there(room):
+    ask(room, "renames_onto_others")
+
+
+def a_rename_to_itself_changes_nothing(room):
+    ask(room, "renames_to_itself")
+
+
+def renames_that_are_none_are_refused(room):
+    ask(room, "renames_that_are_refused")
+
+
+def the_first_refusal_of_a_rename_is_answered(room):
+    ask(room, "the_first_refusal_is_answered")
+
+
+def who_may_write_both_folders_renames(room):
+    ask(room, "rights_to_rename")
+
+
+def a_sticky_folder_keeps_what_is_anothers(room):
+    ask(room, "sticky_folders")
+
+
+def a_renamed_node_is_listed_once(room):
+    ask(room, "renames_while_a_folder_is_listed")
+
+
+def two_folders_never_hang_in_each_other(room):
+    ask(room, "two_folders_into_each_other")
+
+
+def one_of_all_has_the_name(room):
+    ask(room, "one_name_for_all")
+
+
+def a_node_is_never_under_both_names(room):
+    ask(room, "never_under_both_names")
+
+
+def a_rename_on_a_full_tree_needs_a_place(room):
+    ask(room, "renames_on_a_full_disk")
+
+
+def a_rename_makes_a_folder_grow(room):
+    ask(room, "a_folder_that_grows")
+
+
+def a_rename_to_read_alone_is_refused(room):
+    ask(room, "renames_to_read_and_squashed")
+
+
+def what_was_renamed_is_so_in_another_run(room):
+    ask(room, "renames_in_another_run")
+
+
+def times_grow_with_each_rename(room):
+    ask(room, "times_of_renames")
