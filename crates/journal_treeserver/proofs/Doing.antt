@@ -15,7 +15,7 @@ use Rattle.journal_treewire.specs.Requests.{Requested}
 use Rattle.journal_treewire.specs.Results.{Results}
 use Rattle.journal_treeserver.specs.declared.awaited.Owed.{Owed}
 use Rattle.journal_treeserver.specs.Forms.{how_of, form_of}
-use Rattle.journal_treeserver.specs.Answers.{Served, awaiting, owed_by, told_results, journal_error, IsJournalError, Comes, done, undone}
+use Rattle.journal_treeserver.specs.Answers.{Served, awaiting, owed_by, told_results, journal_error, IsJournalError, wait_error, IsWaitError, Comes, done, undone}
 
 pub journal_error_is : {C : Type 0} (why : Refusal C) → IsJournalError (journal_error why)
 journal_error_is refusal.NoMemory = tt
@@ -36,6 +36,26 @@ journal_error_is refusal.Fenced = tt
 -- the number that is told is one of these
 pub told_error_is : {C : Type 0} (why : Refusal C) (told : NfsError) → told ≡ journal_error why → IsJournalError told
 told_error_is why told is = subst IsJournalError (sym is) (journal_error_is why)
+
+wait_error_is : {C : Type 0} (why : Refusal C) → IsWaitError (wait_error why)
+wait_error_is refusal.NoMemory = tt
+wait_error_is refusal.BadAddress = tt
+wait_error_is refusal.BadSize = tt
+wait_error_is refusal.TooLarge = tt
+wait_error_is refusal.Busy = tt
+wait_error_is (refusal.DeviceFailed cause) = tt
+wait_error_is refusal.BadLog = tt
+wait_error_is refusal.BadSuper = tt
+wait_error_is (refusal.Stale cause) = tt
+wait_error_is (refusal.Stranger cause) = tt
+wait_error_is (refusal.Worn cause) = tt
+wait_error_is (refusal.Full cause) = tt
+wait_error_is (refusal.Closed cause) = tt
+wait_error_is refusal.Fenced = tt
+
+-- and that of a refused wait is one of those
+pub told_wait_error_is : {C : Type 0} (why : Refusal C) (told : NfsError) → told ≡ wait_error why → IsWaitError told
+told_wait_error_is why told is = subst IsWaitError (sym is) (wait_error_is why)
 
 unchanged : (s : SessionState) → OnlyExtends s s
 unchanged s = record { number = refl; mine = refl; seen = ([], append-nil s.seen) }

@@ -104,13 +104,25 @@ IsJournalError Io = Unit {0}
 IsJournalError ServerFault = Unit {0}
 IsJournalError other = ⊥
 
+-- why it refuses a wait, on the wire: never JUKEBOX, by which a client asks once more
+abbrev pub wait_error : {C : Type 0} → Refusal C → NfsError
+wait_error (DeviceFailed cause) = Io
+wait_error other = ServerFault
+
+-- which is one of these
+abbrev pub IsWaitError : NfsError → Type 0
+IsWaitError Io = Unit {0}
+IsWaitError ServerFault = Unit {0}
+IsWaitError other = ⊥
+
 -- A call of the tree is committed with its reply, of which there are results; or the journal
--- refuses, and it was not done; or it was done, and is not known to be stable
+-- refuses, and it was not done; or it was done, and is not known to be stable. So a call that is
+-- answered JUKEBOX was not done
 pub data Comes (S : Served) (standing : Standing) (asked : Requested) (call : Call) (caller : Caller) (now : Time) (old new : SessionState) : Results → Type 0 where
   done : (r : Reply) (receipt : CommitPlace) → IsCommittedCall S.cut call caller now old new r receipt → IsSoFar standing (form_of asked) r receipt
       → Comes S standing asked call caller now old new (told_results S.disk S.verifier (how_of asked) call r)
   undone : (why : NfsError) → IsJournalError why → OnlyExtends old new → HasNoWait standing → Comes S standing asked call caller now old new (refused_request asked why)
-  unsure : (why : NfsError) (history : List Entry) (form : AwaitedForm) (r : Reply) (place : ℕ) → standing ≡ marked history → IsJournalError why → form_of asked ≡ Some form
+  unsure : (why : NfsError) (history : List Entry) (form : AwaitedForm) (r : Reply) (place : ℕ) → standing ≡ marked history → IsWaitError why → form_of asked ≡ Some form
       → IsMadeAt S.cut call caller now old new r place → Comes S standing asked call caller now old new (refused_request asked why)
 
 -- the call is one that changes a tree, or would

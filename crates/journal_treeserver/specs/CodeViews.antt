@@ -6,7 +6,8 @@ use Rattle.journal_protocol.specs.declared.held_reply.HeldReply.{HeldReply}
 use Rattle.journal_protocol.specs.declared.held_reply.HeldWait.{HeldWait}
 use Rattle.journal_tree.specs.declared.caller.Caller.{Caller}
 use Rattle.journal_tree.specs.declared.time.Time.{Time}
-use Rattle.journal_tree.specs.Op.{Call}
+use Rattle.journal_tree.specs.declared.settings.CreateMode.TheVariants.{Unchecked, Guarded}
+use Rattle.journal_tree.specs.Op.{Call, write, create, mkdir, rename}
 use Rattle.journal_treestore.specs.declared.place.Cut.{Cut}
 use Rattle.journal_mount_wire.specs.Arguments.{mount_call_of}
 use Rattle.journal_treewire.specs.CodeViews.{results_of}
@@ -17,6 +18,8 @@ use Rattle.journal_treeserver.specs.declared.awaited.AwaitedCall.{AwaitedCall}
 use Rattle.journal_treeserver.specs.declared.awaited.Owed.{Owed}
 use Rattle.journal_treeserver.specs.declared.performing.Done.{Done}
 use Rattle.journal_treeserver.specs.declared.server.Export.{Export}
+use Rattle.journal_treeserver.specs.declared.taking.Taking as code_taking
+use Rattle.journal_treeserver.specs.declared.taking.Taking.TheVariants as code_takes
 use Rattle.journal_treeserver.specs.Asking.{Wanted, files, mount, denied, refused}
 use Rattle.journal_treewire.specs.Results.{Null}
 use Rattle.journal_treeserver.specs.Answers.{Served, awaiting, IsAtOnce, asked_of, changes, Comes, ComesUnless, Replies}
@@ -29,6 +32,14 @@ wanted_of (code_wants.Files caller r) = files caller (request_of r)
 wanted_of (code_wants.Mount m) = mount (mount_call_of m)
 wanted_of code_wants.Denied = denied
 wanted_of (code_wants.Refused why) = refused why
+
+-- a call that may take numbers or blocks
+abbrev pub taking_call : code_taking.Taking → Call
+taking_call (code_takes.Write w) = write w.handle w.offset w.count w.bytes.now
+taking_call (code_takes.CreateUnchecked p s) = create p.directory p.name.now (Unchecked s)
+taking_call (code_takes.CreateGuarded p s) = create p.directory p.name.now (Guarded s)
+taking_call (code_takes.MakeDirectory p s) = mkdir p.directory p.name.now s
+taking_call (code_takes.Rename p q) = rename p.directory p.name.now q.directory q.name.now
 
 -- a call was done so, up to its commit
 abbrev pub IsDone : Served → Requested → Call → Caller → Time → SessionState → SessionState → Done CommitPlace → Type 0

@@ -28,7 +28,7 @@ use Rattle.journal_treeserver.specs.declared.awaited.AwaitedForm.{AwaitedForm}
 use Rattle.journal_treeserver.specs.declared.awaited.Owed.{Owed}
 use Rattle.journal_treeserver.specs.Asking.{Wanted, files, mount, denied, refused, asks}
 use Rattle.journal_treeserver.specs.Forms.{form_of, refused_form}
-use Rattle.journal_treeserver.specs.Answers.{Served, Standing, marked, awaiting, owed_by, IsCovered, IsJournalError, Comes, done, undone, unsure, changes, asked_of, ComesUnless, ComesTo, Outcome, told, outcome_text, IsOutcome, Replies, answers, service_of, StandsInFor}
+use Rattle.journal_treeserver.specs.Answers.{Served, Standing, marked, awaiting, owed_by, IsCovered, IsWaitError, Comes, done, undone, unsure, changes, asked_of, ComesUnless, ComesTo, Outcome, told, outcome_text, IsOutcome, Replies, answers, service_of, StandsInFor}
 
 -- ---- what takes the place of results that wait
 
@@ -124,7 +124,7 @@ module _ (S : Served) where
   owed_form (Some form) true receipt owed e = absurd cc
   owed_form (Some form) false receipt owed e = ap (λ (o : Owed CommitPlace). Some o.form) (sym (some_is owed (record { form = form; receipt = receipt }) e))
 
-  comes_unsure : (why : NfsError) (is : IsJournalError why) (history : List Entry) (owed : Owed CommitPlace) (asked : Requested) (call : Call) (caller : Caller) (now : Time) (old new : SessionState) (r : Results)
+  comes_unsure : (why : NfsError) (is : IsWaitError why) (history : List Entry) (owed : Owed CommitPlace) (asked : Requested) (call : Call) (caller : Caller) (now : Time) (old new : SessionState) (r : Results)
       → Comes S (awaiting (Some owed)) asked call caller now old new r → (form_of asked ≡ Some owed.form) × Comes S (marked history) asked call caller now old new (refused_request asked why)
   comes_unsure why is history owed asked call caller now old new r (done reply receipt made so_far) =
       let waits : form_of asked ≡ Some owed.form = owed_form (form_of asked) (is_refusal reply) receipt owed so_far in
@@ -132,18 +132,18 @@ module _ (S : Served) where
   comes_unsure why is history owed asked call caller now old new r (undone e journal extends wait) = absurd cc
   comes_unsure why is history owed asked call caller now old new r (unsure f at form reply place e journal waits made) = absurd cc
 
-  unless_unsure : (forbidden : Bool) (why : NfsError) (is : IsJournalError why) (history : List Entry) (owed : Owed CommitPlace) (asked : Requested) (call : Call) (caller : Caller) (now : Time) (old new : SessionState) (r : Results)
+  unless_unsure : (forbidden : Bool) (why : NfsError) (is : IsWaitError why) (history : List Entry) (owed : Owed CommitPlace) (asked : Requested) (call : Call) (caller : Caller) (now : Time) (old new : SessionState) (r : Results)
       → ComesUnless forbidden S (awaiting (Some owed)) asked call caller now old new r → (form_of asked ≡ Some owed.form) × ComesUnless forbidden S (marked history) asked call caller now old new (refused_request asked why)
   unless_unsure true why is history owed asked call caller now old new r h = let none = h.2 in absurd cc
   unless_unsure false why is history owed asked call caller now old new r h = comes_unsure why is history owed asked call caller now old new r h
 
-  reached_unsure : (why : NfsError) (is : IsJournalError why) (history : List Entry) (owed : Owed CommitPlace) (asked : Requested) (caller : Caller) (now : Time) (to : Resolved) (old new : SessionState) (r : Results)
+  reached_unsure : (why : NfsError) (is : IsWaitError why) (history : List Entry) (owed : Owed CommitPlace) (asked : Requested) (caller : Caller) (now : Time) (to : Resolved) (old new : SessionState) (r : Results)
       → ComesTo S (awaiting (Some owed)) asked caller now to old new r → (form_of asked ≡ Some owed.form) × ComesTo S (marked history) asked caller now to old new (refused_request asked why)
   reached_unsure why is history owed asked caller now (Ok None) old new r h = let none = h.2 in absurd cc
   reached_unsure why is history owed asked caller now (Ok (Some call)) old new r h = unless_unsure (S.read_only && changes call) why is history owed asked (asked_of S.read_only call) caller now old new r h
   reached_unsure why is history owed asked caller now (Err e) old new r h = let none = h.2 in absurd cc
 
-  outcome_unsure : (why : NfsError) (is : IsJournalError why) (history : List Entry) (owed : Owed CommitPlace) (now : Moment) (wanted : Wanted) (old new : SessionState) (outcome : Outcome)
+  outcome_unsure : (why : NfsError) (is : IsWaitError why) (history : List Entry) (owed : Owed CommitPlace) (now : Moment) (wanted : Wanted) (old new : SessionState) (outcome : Outcome)
       → IsOutcome S (awaiting (Some owed)) now wanted old new outcome → IsOutcome S (marked history) now wanted old new (told (refused_form owed.form why))
   outcome_unsure why is history owed now (files caller asked) old new outcome h =
       let u = reached_unsure why is history owed asked caller (time_in now) (call_on S.disk asked) old new h.0 h.2 in
@@ -153,12 +153,12 @@ module _ (S : Served) where
   outcome_unsure why is history owed now (refused e) old new outcome h = let none = h.2 in absurd cc
 
   -- a reply with the refusal
-  pub replies_unsure : (why : NfsError) (is : IsJournalError why) (history : List Entry) (owed : Owed CommitPlace) (now : Moment) (xid : ℕ) (wanted : Wanted) (old new : SessionState) (soon text : List ℕ)
+  pub replies_unsure : (why : NfsError) (is : IsWaitError why) (history : List Entry) (owed : Owed CommitPlace) (now : Moment) (xid : ℕ) (wanted : Wanted) (old new : SessionState) (soon text : List ℕ)
       → text ≡ outcome_text S.disk xid (told (refused_form owed.form why)) → Replies S (awaiting (Some owed)) now xid wanted old new soon → Replies S (marked history) now xid wanted old new text
   replies_unsure why is history owed now xid wanted old new soon text sent h =
       record { outcome = told (refused_form owed.form why); comes = outcome_unsure why is history owed now wanted old new h.outcome h.comes; is_sent = sent }
 
-  pub stands_in : (a : AwaitedCall) (why : NfsError) (text : List ℕ) → IsJournalError why → text ≡ outcome_text S.disk a.xid (told (refused_form a.form why)) → StandsInFor S a text
+  pub stands_in : (a : AwaitedCall) (why : NfsError) (text : List ℕ) → IsWaitError why → text ≡ outcome_text S.disk a.xid (told (refused_form a.form why)) → StandsInFor S a text
   stands_in a why text is sent = λ now call old new receipt soon history same h.
       replies_unsure why is history (record { form = a.form; receipt = receipt }) now call.xid (asks S.squash call) old new soon text
       (sent ∙ ap (λ (xid : ℕ). outcome_text S.disk xid (told (refused_form a.form why))) (sym same)) h

@@ -3,3 +3,4 @@ pub mod Forms
 pub mod Answers
 pub mod CodeViews
 pub mod Lawful
+pub mod Short

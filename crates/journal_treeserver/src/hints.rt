@@ -1,5 +1,6 @@
 // Numbers and blocks that may be free.
 use journal_tree::Free;
+use journal_treecalls::Spare;
 use std::alloc::{AllocError, Global};
 use std::sync::Wait;
 
@@ -10,6 +11,16 @@ pub struct Drawn {
     pub numbers: Vec<u32>,
     /// Numbers of blocks.
     pub blocks: Vec<u32>,
+}
+
+impl Drawn {
+    // All of them, for a call.
+    pub(crate) fn spare(&self) -> Spare<'_> {
+        Spare {
+            numbers: &self.numbers,
+            blocks: &self.blocks,
+        }
+    }
 }
 
 /// The number and the blocks that a call has taken of them, as far as its answer says it.

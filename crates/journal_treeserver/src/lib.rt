@@ -6,25 +6,30 @@
 //! its commit's place of the history to the tree after it, with the reply. A call that changes the
 //! tree waits until it is stable, with all that the session had seen, before its reply is sent.
 //! COMMIT does so too, and a WRITE as it is asked to. Where the journal refuses, the reply is
-//! JUKEBOX, IO or SERVERFAULT, and nothing is committed, unless the call was done and its wait is
-//! refused. Where the tree is only read, a call that would change it is answered by ROFS, and not
-//! done, and ACCESS grants no right to change anything.
+//! JUKEBOX, IO or SERVERFAULT, and nothing is committed. Where the call was done and its wait is
+//! refused, the reply is IO or SERVERFAULT. Where the tree is only read, a call that would change
+//! it is answered by ROFS, and not done, and ACCESS grants no right to change anything.
 //!
 //! `specs/Asking.antt` says what a call asks, and `specs/Answers.antt` which text is its reply.
+//! `specs/Short.antt` says that no reply is too long.
 #![tactic(auto)]
 
 mod asking;
 mod awaited;
 mod changing;
 mod hints;
+mod laws;
 mod looking;
 mod moment;
 mod operation;
+mod operations;
 mod performing;
 mod protocol;
 mod replying;
 mod server;
+mod taking;
 
 pub use awaited::{AwaitedCall, AwaitedForm};
 pub use hints::{Drawn, FreeHints, Taken};
+pub use laws::replies_are_short;
 pub use server::{Export, TreeServer};

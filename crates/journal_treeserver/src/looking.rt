@@ -9,16 +9,15 @@ ghost use Rattle.journal_treeserver.specs.Answers.{asked_of};
 ghost use Rattle.journal_treeserver.specs.CodeViews.{served_as, LooksAs};
 
 use crate::hints::FreeHints;
+use crate::operations::{access_of, read_of, readdir_of, readdirplus_of};
 use crate::performing::{Asked, Done};
 use crate::server::TreeServer;
 use journal_disk::BlockDisk;
 use journal_history::{Naming, Receipt, Session};
 use journal_nfs3_wire::NfsError;
 use journal_treefs::TreeRule;
-use journal_treeobjects::{
-    Access, Commit, FsInfo, FsStat, GetAttr, Lookup, PathConf, Read, ReadDir, ReadDirPlus, ReadLink,
-};
-use journal_treewire::{TreeCall, TreeResults};
+use journal_treeobjects::{Commit, FsInfo, FsStat, GetAttr, Lookup, PathConf, ReadLink};
+use journal_treewire::{NameIn, TreeCall, TreeResults};
 use std::sync::Wait;
 
 // The rights READ, LOOKUP and EXECUTE (RFC 1813, section 3.3.4).
@@ -42,70 +41,31 @@ impl<'s, 'b, D: BlockDisk, R: TreeRule, J: Naming, H: FreeHints> TreeServer<'s, 
             // It returns by itself, as the last arm does, because the others lend the session.
             TreeCall::Null => return Done::at_once(TreeResults::Null),
             TreeCall::GetAttributes(handle) => {
-                let operation = GetAttr { handle };
-                self.perform(rt, session, asked, &operation)
+                self.perform(rt, session, asked, &GetAttr { handle })
             }
-            TreeCall::Lookup(entry) => {
-                let operation = Lookup {
-                    directory: entry.directory,
-                    name: entry.name,
-                };
-                self.perform(rt, session, asked, &operation)
+            TreeCall::Lookup(NameIn { directory, name }) => {
+                self.perform(rt, session, asked, &Lookup { directory, name })
             }
             TreeCall::Access(handle, rights) => {
-                let operation = Access {
-                    handle,
-                    asked: self.rights_asked(rights),
-                };
+                let operation = access_of(handle, self.rights_asked(rights));
                 self.perform(rt, session, asked, &operation)
             }
-            TreeCall::ReadLink(handle) => {
-                let operation = ReadLink { handle };
-                self.perform(rt, session, asked, &operation)
-            }
-            TreeCall::Read(part) => {
-                let operation = Read {
-                    handle: part.handle,
-                    offset: part.offset,
-                    count: part.count,
-                };
-                self.perform(rt, session, asked, &operation)
-            }
-            TreeCall::ReadDirectory(page) => {
-                let operation = ReadDir {
-                    handle: page.directory,
-                    cookie: page.cookie,
-                    most: u64::from(page.count),
-                };
-                self.perform(rt, session, asked, &operation)
-            }
+            TreeCall::ReadLink(handle) => self.perform(rt, session, asked, &ReadLink { handle }),
+            TreeCall::Read(part) => self.perform(rt, session, asked, &read_of(part)),
+            TreeCall::ReadDirectory(page) => self.perform(rt, session, asked, &readdir_of(page)),
             TreeCall::ReadDirectoryPlus(page) => {
-                let operation = ReadDirPlus {
-                    handle: page.directory,
-                    cookie: page.cookie,
-                    names: u64::from(page.names_count),
-                    most: u64::from(page.count),
-                };
-                self.perform(rt, session, asked, &operation)
+                self.perform(rt, session, asked, &readdirplus_of(page))
             }
-            TreeCall::Commit(handle) => {
-                let operation = Commit { handle };
-                self.perform(rt, session, asked, &operation)
-            }
+            TreeCall::Commit(handle) => self.perform(rt, session, asked, &Commit { handle }),
             TreeCall::FileSystemStatus(handle) => {
-                let operation = FsStat {
-                    handle,
-                    free: self.hints.free(rt),
-                };
-                self.perform(rt, session, asked, &operation)
+                let free = self.hints.free(rt);
+                self.perform(rt, session, asked, &FsStat { handle, free })
             }
             TreeCall::FileSystemInformation(handle) => {
-                let operation = FsInfo { handle };
-                self.perform(rt, session, asked, &operation)
+                self.perform(rt, session, asked, &FsInfo { handle })
             }
             TreeCall::PathConfiguration(handle) => {
-                let operation = PathConf { handle };
-                self.perform(rt, session, asked, &operation)
+                self.perform(rt, session, asked, &PathConf { handle })
             }
             _ => return Done::at_once(asked.requested.refused(NfsError::ReadOnly)),
         }

@@ -4,7 +4,7 @@ ghost use Rattle.journal_tree.specs.Times.{IsTime};
 ghost use Rattle.journal_treewire.specs.Calls.{call_on};
 ghost use Rattle.journal_treewire.specs.CodeViews.{results_of};
 ghost use Rattle.journal_treewire.specs.Requests.{request_of};
-ghost use Rattle.journal_treeserver.specs.Answers.{journal_error, owed_by, awaiting, ComesTo};
+ghost use Rattle.journal_treeserver.specs.Answers.{journal_error, wait_error, owed_by, awaiting, ComesTo};
 ghost use Rattle.journal_treeserver.specs.CodeViews.{served_as, IsDone};
 
 use crate::awaited::{AwaitedForm, Owed, form_of, how_of};
@@ -41,6 +41,16 @@ pub(crate) fn journal_error<C>(why: &Refusal<C>) -> NfsError
 {
     match why {
         Refusal::Busy => NfsError::Jukebox,
+        Refusal::DeviceFailed(_) => NfsError::Io,
+        _ => NfsError::ServerFault,
+    }
+}
+
+// The number of its refusal of a wait. The call is done, so that the client is not to ask again.
+pub(crate) fn wait_error<C>(why: &Refusal<C>) -> NfsError
+    ensures { result ≡ wait_error why.now }
+{
+    match why {
         Refusal::DeviceFailed(_) => NfsError::Io,
         _ => NfsError::ServerFault,
     }

@@ -15,7 +15,7 @@ use crate::asking::{Wanted, decide};
 use crate::awaited::{AwaitedCall, Owed};
 use crate::hints::FreeHints;
 use crate::moment::time_at;
-use crate::performing::{Asked, Done, journal_error};
+use crate::performing::{Asked, Done, wait_error};
 use crate::server::TreeServer;
 use journal_disk::BlockDisk;
 use journal_history::{Naming, Receipt, Session};
@@ -127,7 +127,7 @@ impl<'s, 'b, D: BlockDisk, R: TreeRule, J: Naming, H: FreeHints> TreeServer<'s, 
     ) -> Result<Vec<u8>, AllocError>
         ensures { IfOk result (λ reply. StandsInFor (served_as self.now.store.now.cut self.now.export) call.now reply.items) }
     {
-        self.told(alloc, call.xid, call.form.refused(journal_error(why)))
+        self.told(alloc, call.xid, call.form.refused(wait_error(why)))
     }
 }
 

@@ -2,7 +2,7 @@ use Rattle.std.proofs.Common.{refl, ap}
 use Rattle.journal_treewire.specs.CodeViews.{results_of}
 use Rattle.journal_treewire.specs.declared.results.TreeResults.{TreeResults}
 use Rattle.journal_treeserver.proofs.Doing.{not_begun}
-use Rattle.journal_treeserver.proofs.server.TreeServer.create_unchecked.Goals as goal
+use Rattle.journal_treeserver.proofs.server.TreeServer.take.Goals as goal
 
 pub returns-in_default : goal.returns-in_default
 returns-in_default g c =

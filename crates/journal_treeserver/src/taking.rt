@@ -1,0 +1,158 @@
+// The calls that may take numbers or blocks.
+ghost use Rattle.std.specs.Prelude.{◌≡◌};
+ghost use Rattle.journal_tree.specs.Times.{IsTime};
+ghost use Rattle.journal_treewire.specs.Requests.{request_of};
+ghost use Rattle.journal_treeserver.specs.CodeViews.{served_as, taking_call, IsDone};
+
+use crate::hints::{Drawn, FreeHints, Taken};
+use crate::operations::{guarded_of, mkdir_of, rename_of, unchecked_of, write_of};
+use crate::performing::{Asked, Done};
+use crate::server::TreeServer;
+use journal_disk::BlockDisk;
+use journal_history::{Naming, Receipt, Session};
+use journal_nfs3_wire::NfsError;
+use journal_tree::{BLOCK_BYTES, Changed, Settings};
+use journal_treefs::TreeRule;
+use journal_treewire::{NameIn, TreeResults, WriteCall};
+use std::alloc::Global;
+use std::sync::Wait;
+
+// A call that may take numbers or blocks.
+#[derive(Clone, Copy)]
+pub(crate) enum Taking<'n> {
+    Write(WriteCall<'n>),
+    CreateUnchecked(NameIn<'n>, Settings),
+    CreateGuarded(NameIn<'n>, Settings),
+    MakeDirectory(NameIn<'n>, Settings),
+    // The old name, and the new one.
+    Rename(NameIn<'n>, NameIn<'n>),
+}
+
+// How many numbers and blocks that may be free are drawn for a call.
+#[derive(Clone, Copy)]
+struct Need {
+    numbers: usize,
+    blocks: usize,
+}
+
+// The blocks in which the bytes of a WRITE lie, at most.
+const WRITE: Need = Need {
+    numbers: 0,
+    blocks: 17,
+};
+
+// A new node, and a further block of its directory.
+const NODE: Need = Need {
+    numbers: 2,
+    blocks: 2,
+};
+
+// A further block of a directory.
+const ENTRY: Need = Need {
+    numbers: 0,
+    blocks: 2,
+};
+
+// The numbers and blocks that are drawn for a call.
+fn need_of(call: &Taking<'_>) -> Need {
+    match call {
+        Taking::Write(_) => WRITE,
+        Taking::Rename(_, _) => ENTRY,
+        _ => NODE,
+    }
+}
+
+impl<'s, 'b, D: BlockDisk, R: TreeRule, J: Naming, H: FreeHints> TreeServer<'s, 'b, D, R, J, H> {
+    // Does a call with numbers and blocks that may be free, and puts back those that it has not
+    // taken.
+    pub(crate) fn take<W: Wait>(
+        &self,
+        rt: &W,
+        alloc: Global,
+        session: &mut Session<'b, J, R>,
+        asked: &Asked<'_, '_>,
+        call: &Taking<'_>,
+    ) -> Done<Receipt<'b, J, R>>
+        requires time { IsTime asked.now.asking.now }
+        ensures { IsDone (served_as self.now.store.now.cut self.now.export) (request_of asked.now.requested.now) (taking_call call.now) asked.now.asking.caller asked.now.asking.now
+            session.old session.new result }
+    {
+        let need = need_of(call);
+        let Ok(drawn) = self.hints.draw(rt, alloc, need.numbers, need.blocks) else {
+            return Done::at_once(asked.requested.refused(NfsError::ServerFault));
+        };
+        let done = self.take_of(rt, session, asked, call, &drawn);
+        self.hints.put_back(rt, drawn, taken_by(&done.results));
+        done
+    }
+
+    // Does a call with these.
+    fn take_of<W: Wait>(
+        &self,
+        rt: &W,
+        session: &mut Session<'b, J, R>,
+        asked: &Asked<'_, '_>,
+        call: &Taking<'_>,
+        drawn: &Drawn,
+    ) -> Done<Receipt<'b, J, R>>
+        requires time { IsTime asked.now.asking.now }
+        ensures { IsDone (served_as self.now.store.now.cut self.now.export) (request_of asked.now.requested.now) (taking_call call.now) asked.now.asking.caller asked.now.asking.now
+            session.old session.new result }
+    {
+        match *call {
+            Taking::Write(write) => self.perform(rt, session, asked, &write_of(write, drawn)),
+            Taking::CreateUnchecked(entry, settings) => {
+                let operation = unchecked_of(entry, settings, drawn);
+                self.perform(rt, session, asked, &operation)
+            }
+            Taking::CreateGuarded(entry, settings) => {
+                let operation = guarded_of(entry, settings, drawn);
+                self.perform(rt, session, asked, &operation)
+            }
+            Taking::MakeDirectory(entry, settings) => {
+                let operation = mkdir_of(entry, settings, drawn);
+                self.perform(rt, session, asked, &operation)
+            }
+            // It may free a node that it replaces.
+            Taking::Rename(old, new) => {
+                let operation = rename_of(old, new, drawn);
+                self.perform_freeing(rt, session, asked, &operation)
+            }
+        }
+    }
+}
+
+// The number and the blocks that a call has taken, as far as its results say it.
+fn taken_by(results: &TreeResults) -> Taken {
+    match results {
+        TreeResults::Made(Ok(made)) => Taken {
+            number: Some(made.node.number),
+            blocks: growth(&made.directory),
+        },
+        TreeResults::Write {
+            outcome: Ok(changed),
+            ..
+        } => Taken {
+            number: None,
+            blocks: growth(changed),
+        },
+        TreeResults::Renamed(Ok(renamed)) => Taken {
+            number: None,
+            blocks: growth(&renamed.goal),
+        },
+        _ => Taken {
+            number: None,
+            blocks: 0,
+        },
+    }
+}
+
+// By how many blocks a node has grown.
+fn growth(changed: &Changed) -> u64 {
+    let before = changed.before.size.div_ceil(BLOCK_BYTES);
+    changed
+        .after
+        .size
+        .div_ceil(BLOCK_BYTES)
+        .saturating_sub(before)
+}
