@@ -1,24 +1,24 @@
 -- What each change leaves within bounds.
-use Rattle.std.proofs.Common.{◌≡◌, ℕ, ◌+◌, ◌*◌, ◌/◌, ◌%◌, ◌<◌, ◌≤◌, ◌==◌, Bool, true, false, cond, List, ◌++◌, length, take, drop, Option, Some, None, refl, arith, length-append, length-drop}
+use Rattle.std.proofs.Common.{◌≡◌, ℕ, ◌+◌, ◌*◌, ◌/◌, ◌%◌, ◌<◌, ◌≤◌, ◌==◌, Bool, true, false, cond, List, ◌++◌, length, take, Option, Some, None, refl, arith, length-append, length-drop}
 use Rattle.std.specs.Prelude.{replicate, nat_lt, if◌then◌else◌, unwrap_or, ◌||◌, ◌-◌}
-use Rattle.std.proofs.lemmas.Bool.{ltb-true, ltb-false, leb-false, eqb-true, eqb-false}
+use Rattle.std.proofs.lemmas.Bool.{ltb-true, ltb-false, leb-false, eqb-false}
 use Rattle.std.proofs.lemmas.List.{length-take}
 use Rattle.journal_tree.specs.declared.limits.TheConstants.{MOST_BYTES, MOST_PLACES, BLOCK_PLACES, MODES}
 use Rattle.journal_tree.specs.declared.time.TheConstants.{NANOS, LAST_SECOND}
 use Rattle.journal_tree.specs.declared.time.Time.{Time}
 use Rattle.journal_tree.specs.declared.reply.Attributes.{Attributes}
 use Rattle.journal_tree.specs.declared.reply.Kind.{Kind}
-use Rattle.journal_tree.specs.declared.reply.Kind.TheVariants.{Directory, File}
+use Rattle.journal_tree.specs.declared.reply.Kind.TheVariants.{Directory, File, Link}
 use Rattle.journal_tree.specs.declared.settings.NewTime.{NewTime}
 use Rattle.journal_tree.specs.declared.settings.NewTime.TheVariants.{Leave, Server, Client}
 use Rattle.journal_tree.specs.Trees.{Body}
-use Rattle.journal_tree.specs.Trees.Body.{directory, file}
+use Rattle.journal_tree.specs.Trees.Body.{directory, file, link}
 use Rattle.journal_tree.specs.Times.{IsTime, is_before, is_same_time, following, time_of_change, time_of_names}
 use Rattle.journal_tree.specs.declared.caller.Caller.{Caller}
 use Rattle.journal_tree.specs.Callers.{is_root, is_member}
 use Rattle.journal_tree.specs.Rights.{SET_GROUP_BIT, SET_USER_BIT, GROUP_EXECUTE_BIT, has_bit, without_bit, with_bit}
 use Rattle.journal_tree.specs.Changes.{grown, grown_body}
-use Rattle.journal_tree.specs.Attributes.{resized, resized_body, new_mtime, plain_mode, group_mode, asked_mode, is_no_time, is_too_big}
+use Rattle.journal_tree.specs.Attributes.{resized_body, new_mtime, plain_mode, group_mode, asked_mode, is_no_time, is_too_big}
 use Rattle.journal_tree.specs.Contents.{overlaid, written_mode}
 use Rattle.journal_tree.specs.Names.{mode_within}
 use Rattle.journal_tree.specs.Fit.{IsWord, IsOptionalWord, IsAskedTime, IsFitBody}
@@ -104,6 +104,7 @@ with-low mode low = by (has_bit mode SET_GROUP_BIT) refl
 
 pub within-low : (d : Attributes) (kind : Kind) (mode : ℕ) → mode < MODES → mode_within d kind mode < MODES
 within-low d File mode low = low
+within-low d Link mode low = low
 within-low d Directory mode low = by (has_bit d.mode SET_GROUP_BIT)
   where
     by : (b : Bool) → (if b then with_bit mode SET_GROUP_BIT else mode) < MODES
@@ -127,6 +128,7 @@ length-resized bytes n = simp length-take (omega arith)
 
 pub resized-fits : (b : Body) (size : Option ℕ) → is_too_big size ≡ false → IsFitBody b → IsFitBody (resized_body b size)
 resized-fits (directory places) size few fit = fit
+resized-fits (link text) size few fit = fit
 resized-fits (file bytes) None few fit = fit
 resized-fits (file bytes) (Some n) few fit = let h = ltb-false MOST_BYTES n few in let l = length-resized bytes n in omega (arith, h, l)
 
@@ -143,3 +145,4 @@ grown-fits place places low fit = by (nat_lt place places)
 pub grown-body-fits : (place : ℕ) (b : Body) → place < MOST_PLACES → IsFitBody b → IsFitBody (grown_body place b)
 grown-body-fits place (directory places) low fit = grown-fits place places low fit
 grown-body-fits place (file bytes) low fit = fit
+grown-body-fits place (link text) low fit = fit

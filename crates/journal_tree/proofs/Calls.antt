@@ -1,12 +1,12 @@
 -- What each call does, and that its reply is true.
-use Rattle.std.proofs.Common.{◌≡◌, ◌≢◌, ℕ, ◌+◌, ◌%◌, ◌<◌, ◌==◌, Bool, true, false, not, ◌&&◌, List, [], length, Option, Some, None, Ok, refl, sym, ap, arith, inr, ◌∙◌}
+use Rattle.std.proofs.Common.{◌≡◌, ◌≢◌, ℕ, ◌+◌, ◌%◌, ◌<◌, ◌==◌, Bool, true, false, not, ◌&&◌, ◌||◌, List, [], length, Option, Some, None, Ok, refl, sym, ap, arith, inr, ◌∙◌}
 use Rattle.std.specs.Prelude.{⊤, is_some, is_none, nat_lt, map, option_map, unwrap_or}
-use Rattle.std.proofs.lemmas.Bool.{eqb-true, and_parts, not-false, ltb-false, true≢false}
-use Rattle.journal_tree.specs.declared.limits.TheConstants.{MOST_BYTES, MOST_PLACES, MODES, FILE_MODE, DIRECTORY_MODE}
+use Rattle.std.proofs.lemmas.Bool.{eqb-true, and_parts, or_parts, not-false, ltb-false, true≢false}
+use Rattle.journal_tree.specs.declared.limits.TheConstants.{MOST_BYTES, MOST_LINK, MOST_PLACES, MODES, FILE_MODE, DIRECTORY_MODE, LINK_MODE}
 use Rattle.journal_tree.specs.declared.time.Time.{Time}
 use Rattle.journal_tree.specs.declared.reply.Attributes.{Attributes}
 use Rattle.journal_tree.specs.declared.reply.Kind.{Kind}
-use Rattle.journal_tree.specs.declared.reply.Kind.TheVariants.{Directory, File}
+use Rattle.journal_tree.specs.declared.reply.Kind.TheVariants.{Directory, File, Link}
 use Rattle.journal_tree.specs.declared.reply.Handle.{Handle}
 use Rattle.journal_tree.specs.declared.reply.Changed.{Changed}
 use Rattle.journal_tree.specs.declared.reply.Found.{Found}
@@ -17,8 +17,8 @@ use Rattle.journal_tree.specs.declared.settings.Settings.{Settings}
 use Rattle.journal_tree.specs.declared.settings.CreateMode.{CreateMode}
 use Rattle.journal_tree.specs.declared.settings.CreateMode.TheVariants.{Unchecked, Guarded, Exclusive}
 use Rattle.journal_tree.specs.declared.status.Status.TheVariants.{NotOwner, NoEntry, Exists, NotDirectory, IsDirectory, Invalid, TooBig, NoSpace, NameTooLong, NotEmpty, NotSync, NotSupported, TooSmall}
-use Rattle.journal_tree.specs.Trees.{Body, Node, Slot, Tree, is_directory, with_node, find, find_any}
-use Rattle.journal_tree.specs.Trees.Body.{directory, file}
+use Rattle.journal_tree.specs.Trees.{Body, Node, Slot, Tree, is_directory, is_file, with_node, find, find_any}
+use Rattle.journal_tree.specs.Trees.Body.{directory, file, link}
 use Rattle.journal_tree.specs.Times.{IsTime}
 use Rattle.journal_tree.specs.declared.caller.Caller.{Caller}
 use Rattle.journal_tree.specs.Callers.{is_root}
@@ -30,7 +30,7 @@ use Rattle.journal_tree.specs.declared.name.NameKind.TheVariants.{Dot, DotDot, N
 use Rattle.journal_tree.specs.Changes.{touched, opened, touch_place, planted, cut}
 use Rattle.journal_tree.specs.Attributes.{resized, group_mode, is_no_time, is_too_big, is_other_time, asks_nothing, may_set, may_set_bytes, with_settings, changed, unchanged, getattr_case, setattr_case, access_case}
 use Rattle.journal_tree.specs.Contents.{overlaid, written, read_body, read_case, write_body, write_case, commit_body, commit_case}
-use Rattle.journal_tree.specs.Names.{parent_of, found, lookup_name, lookup_case, group_within, new_group, new_attributes, new_node, born, size_alone, create_over, create_new, create_case, mkdir_new, mkdir_case, removed, may_remove, remove_case, rmdir_case, readlink_case, make_other_case, link_case}
+use Rattle.journal_tree.specs.Names.{parent_of, found, lookup_name, lookup_case, group_within, new_group, new_attributes, new_node, born, size_alone, create_over, create_new, create_case, mkdir_new, mkdir_case, symlink_new, symlink_case, text_of, removed, may_remove, remove_case, rmdir_case, readlink_case, make_other_case, link_case}
 use Rattle.journal_tree.specs.Listing.{Item, Page, line_of, with_page, items_above, readdir_case, readdirplus_case}
 use Rattle.journal_tree.specs.Facts.{fsstat_case, fsinfo_case, pathconf_case}
 use Rattle.journal_tree.specs.Op.{MayTake}
@@ -57,6 +57,12 @@ TrueFound n r T2 = IsTrueFound T2 n r
 abbrev pub TrueMade : Tree → ℕ → Made → Tree → Type 0
 TrueMade T n r T2 = IsTrueMade T T2 n r
 
+-- what is a file is no directory
+file-no-directory : (b : Body) → is_file b ≡ true → is_directory b ≡ false
+file-no-directory (directory places) e = absurd (true≢false (sym e))
+file-no-directory (file bytes) e = refl
+file-no-directory (link text) e = refl
+
 -- a node in a tree is told as it is
 pub true-of : (T : Tree) (n : ℕ) (x : Node) → (T.at n).node ≡ Some x → IsTrueOf T n (told n x)
 true-of T n x is = record { node = x; is = is; tells = refl }
@@ -74,7 +80,12 @@ module _ (R : Type 0) (c : Caller) (now : Time) (T : Tree) where
   access-right h asked = right_target R c now T Anything h _ (λ x is. still _)
 
   pub readlink-right : (h : Handle) → IsRight R c now T Anything (readlink_case T (target T h))
-  readlink-right h = right_target R c now T Anything h _ (λ x is. right_no R c now T Anything NotSupported)
+  readlink-right h = right_target R c now T Anything h _ (λ x is. by x x.body)
+    where
+      by : (x : Node) (b : Body) → IsRight R c now T Anything (text_of T h.number x b)
+      by x (directory places) = right_no R c now T Anything Invalid
+      by x (file bytes) = right_no R c now T Anything Invalid
+      by x (link text) = still _
 
   pub read-right : (h : Handle) (offset count : ℕ) → IsRight R c now T Anything (read_case c offset count T (target T h))
   read-right h offset count = right_target R c now T Anything h _ (λ x is. by x x.body)
@@ -82,12 +93,14 @@ module _ (R : Type 0) (c : Caller) (now : Time) (T : Tree) where
       by : (x : Node) (b : Body) → IsRight R c now T Anything (read_body c offset count T h.number x b)
       by x (directory places) = right_no R c now T Anything Invalid
       by x (file bytes) = right_allowed R c now T Anything (may_fetch c x.attributes) _ (λ _. still _)
+      by x (link text) = right_no R c now T Anything Invalid
 
   pub commit-right : (h : Handle) → IsRight R c now T Anything (commit_case T (target T h))
   commit-right h = right_target R c now T Anything h _ (λ x is. by x x.body)
     where
       by : (x : Node) (b : Body) → IsRight R c now T Anything (commit_body T h.number x b)
       by x (directory places) = right_no R c now T Anything Invalid
+      by x (link text) = right_no R c now T Anything Invalid
       by x (file bytes) = still _
 
   pub fsstat-right : (h : Handle) (free : Free) → IsRight R c now T Anything (fsstat_case free T (target T h))
@@ -131,7 +144,7 @@ module _ (R : Type 0) (c : Caller) (now : Time) (T : Tree) where
 
   pub setattr-right : (h : Handle) (s : Settings) (guard : Option Time) → (R → IsAsked s) → IsRight R c now T (TrueChange T h.number) (setattr_case c s guard now T (target T h))
   setattr-right h s guard asked = right_target R c now T (TrueChange T h.number) h _ (λ x is.
-      right_if R c now T (TrueChange T h.number) (is_some s.size && is_directory x.body) _ _ (λ _. right_no R c now T (TrueChange T h.number) Invalid) (λ _.
+      right_if R c now T (TrueChange T h.number) (is_some s.size && not (is_file x.body)) _ _ (λ _. right_no R c now T (TrueChange T h.number) Invalid) (λ _.
       right_if R c now T (TrueChange T h.number) (is_no_time s.mtime) _ _ (λ _. right_no R c now T (TrueChange T h.number) Invalid) (λ shown.
       right_if R c now T (TrueChange T h.number) (not (may_set c s x.attributes)) _ _ (λ _. right_no R c now T (TrueChange T h.number) NotOwner) (λ may.
       right_allowed R c now T (TrueChange T h.number) (may_set_bytes c s x.attributes) _ (λ may_bytes.
@@ -145,6 +158,7 @@ module _ (R : Type 0) (c : Caller) (now : Time) (T : Tree) where
     where
       by : (x : Node) → (T.at h.number).node ≡ Some x → (b : Body) → x.body ≡ b → IsRight R c now T (TrueChange T h.number) (write_body c room offset count bs now T h.number x b)
       by x is (directory places) body = right_no R c now T (TrueChange T h.number) Invalid
+      by x is (link text) body = right_no R c now T (TrueChange T h.number) Invalid
       by x is (file bytes) body =
           right_if R c now T (TrueChange T h.number) (not (count == length bs)) _ _ (λ _. right_no R c now T (TrueChange T h.number) Invalid) (λ all.
           right_allowed R c now T (TrueChange T h.number) (may_store c x.attributes) _ (λ may.
@@ -177,7 +191,7 @@ module _ (R : Type 0) (c : Caller) (now : Time) (T : Tree) where
       by x is Name = right_find R c now T (TrueFound h.number) h.number name (refused NoEntry T) (found T h.number x)
           (λ _. right_no R c now T (TrueFound h.number) NoEntry) (λ n y at home. found-right h.number x n y is at)
 
-  -- ── CREATE and MKDIR ──
+  -- ── CREATE, MKDIR and SYMLINK ──
 
   -- a new node, of which the caller and what he asks are told by numbers of 32 bits
   new-fits : (s : Settings) (d : ℕ) (x : Node) (room : Room) (name : List ℕ) (kind : Kind) (body : Body) (mode : ℕ) → (R → IsAsked s) → (R → IsCaller c) → is_no_time s.mtime ≡ false → name_kind name ≡ Name
@@ -233,7 +247,7 @@ module _ (R : Type 0) (c : Caller) (now : Time) (T : Tree) where
 
   over-right : (s : Settings) (d : ℕ) (x : Node) (n : ℕ) (y : Node) → (T.at d).node ≡ Some x → is_directory x.body ≡ true → (T.at n).node ≡ Some y → IsRight R c now T (TrueMade T d) (create_over c s now T d x n y)
   over-right s d x n y is kind at =
-      right_if R c now T (TrueMade T d) (is_directory y.body) _ _ (λ _. right_no R c now T (TrueMade T d) Exists) (λ a_file.
+      right_if R c now T (TrueMade T d) (not (is_file y.body)) _ _ (λ _. right_no R c now T (TrueMade T d) Exists) (λ a_file.
       right_if R c now T (TrueMade T d) (is_none s.size) _ _
       (λ _. right_yes R c now T (TrueMade T d) _ T stays (record { node = true-of T n y at; generation = refl; directory = record { before = true-of T d x is; after = true-of T d x is } })) (λ _.
       right_allowed R c now T (TrueMade T d) (may_store c y.attributes) _ (λ may.
@@ -243,7 +257,7 @@ module _ (R : Type 0) (c : Caller) (now : Time) (T : Tree) where
         generation = refl;
         directory = record {
           before = true-of T d x is;
-          after = true-of (with_node T n (Some (sized s y))) d x (ap (λ (s : Slot). s.node) (at_other T n d _ (apart a_file)) ∙ is);
+          after = true-of (with_node T n (Some (sized s y))) d x (ap (λ (s : Slot). s.node) (at_other T n d _ (apart (file-no-directory y.body (not-false (is_file y.body) a_file)))) ∙ is);
         };
       })))))
     where
@@ -283,6 +297,18 @@ module _ (R : Type 0) (c : Caller) (now : Time) (T : Tree) where
       right_if R c now T (TrueMade T h.number) (is_no_time s.mtime) _ _ (λ _. right_no R c now T (TrueMade T h.number) Invalid) (λ shown.
       born-right h.number x name room (new_attributes c s x.attributes Directory DIRECTORY_MODE now) (directory 0) is kind free take may
       (λ place within r moment fit. new-fits s h.number x place name Directory (directory 0) DIRECTORY_MODE asked caller shown is_name (omega arith, (0, refl)) within r moment fit))))
+      (λ x is kind n y at home. right_no R c now T (TrueMade T h.number) Exists)
+
+  pub symlink-right : (h : Handle) (name : List ℕ) (s : Settings) (text : List ℕ) (room : Option Room) → (R → IsAsked s) → (R → IsCaller c) → MayTake T h.number room
+      → IsRight R c now T (TrueMade T h.number) (symlink_case c name s text room now T (target T h))
+  symlink-right h name s text room asked caller take = right_named R c now T (TrueMade T h.number) h name Exists Exists (symlink_new c name s text room now T) _
+      (λ x is kind is_name free.
+      right_allowed R c now T (TrueMade T h.number) (may_rename c x.attributes) _ (λ may.
+      right_if R c now T (TrueMade T h.number) (is_no_time s.mtime || length text == 0) _ _ (λ _. right_no R c now T (TrueMade T h.number) Invalid) (λ given.
+      right_if R c now T (TrueMade T h.number) (nat_lt MOST_LINK (length text)) _ _ (λ _. right_no R c now T (TrueMade T h.number) NameTooLong) (λ few.
+      born-right h.number x name room (new_attributes c s x.attributes Link LINK_MODE now) (link text) is kind free take may
+      (λ place within r moment fit.
+      new-fits s h.number x place name Link (link text) LINK_MODE asked caller (or_parts (is_no_time s.mtime) (length text == 0) given).0 is_name (ltb-false MOST_LINK (length text) few) within r moment fit)))))
       (λ x is kind n y at home. right_no R c now T (TrueMade T h.number) Exists)
 
   -- ── REMOVE and RMDIR ──

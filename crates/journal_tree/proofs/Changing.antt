@@ -5,7 +5,7 @@ use Rattle.std.proofs.lemmas.Bool.{cases_eq, eq-eqb, ne_eqb, ltb-true, ltb-false
 use Rattle.journal_tree.specs.declared.limits.TheConstants.{ROOT, BLOCK_PLACES}
 use Rattle.journal_tree.specs.declared.time.Time.{Time}
 use Rattle.journal_tree.specs.Trees.{Home, Body, Node, Slot, Tree, places_of, is_directory, with_slot, with_node}
-use Rattle.journal_tree.specs.Trees.Body.{directory, file}
+use Rattle.journal_tree.specs.Trees.Body.{directory, file, link}
 use Rattle.journal_tree.specs.Rule.{Stem, Stems, stem_of, stems, HasPlace, IsBelow, IsTree, HasTree}
 use Rattle.journal_tree.specs.Rule.IsBelow.{itself, parent}
 use Rattle.journal_tree.specs.Changes.{touched, touch, grown, grown_body, opened, touch_place, planted}
@@ -75,6 +75,7 @@ HasTree-place T d x place now tree is kind = by x.body refl kind
   where
     by : (b : Body) → x.body ≡ b → is_directory b ≡ true → HasTree (touch_place T d place now) × HasPlace (stems (touch_place T d place now)) d place
     by (file bytes) body kind = absurd (cc (kind))
+    by (link text) body kind = absurd (cc (kind))
     by (directory places) body kind = (subst (IsTree T.numbers) (sym all) grows, (v, grown place places, ap (λ (S : Stems). S d) all ∙ with_stem-same (stems T) d (Some v), refl, (grown_has place places).0))
       where
         v : Stem

@@ -25,7 +25,7 @@ use Rattle.journal_tree.proofs.Steps.{IsWithout, Step, IsRight, own_slot}
 use Rattle.journal_tree.proofs.Steps.Step.{stays, sets, plants, cuts, moves}
 use Rattle.journal_tree.proofs.Moving.{moved_node, moved-generation, moved-tree}
 use Rattle.journal_tree.proofs.Renaming.{IsTrueRenamed, rename-right}
-use Rattle.journal_tree.proofs.Calls.{Anything, TrueChange, TrueFound, TrueMade, getattr-right, setattr-right, lookup-right, access-right, readlink-right, read-right, write-right, create-right, mkdir-right, other-right, remove-right, rmdir-right, link-right, readdir-right, readdirplus-right, fsstat-right, fsinfo-right, pathconf-right, commit-right}
+use Rattle.journal_tree.proofs.Calls.{Anything, TrueChange, TrueFound, TrueMade, getattr-right, setattr-right, lookup-right, access-right, readlink-right, read-right, write-right, create-right, mkdir-right, symlink-right, other-right, remove-right, rmdir-right, link-right, readdir-right, readdirplus-right, fsstat-right, fsinfo-right, pathconf-right, commit-right}
 
 -- What is known of each call
 pub record IsDone (call : Call) (c : Caller) (now : Time) (T : Tree) (reply : Reply) (T2 : Tree) : Type 0 where
@@ -66,8 +66,10 @@ op-done _ c now T T2 _ tree (answers_mkdir h name s room _ _ _ _ (Ok a) take is)
     let right = of (IsCallable (Call.mkdir h name s) × IsCaller c) c now T (TrueMade T h.number) _ (Ok a) T2 is (mkdir-right _ c now T h name s room (λ r. r.0) (λ r. r.1) take) in record { step = right.step; truth = right.given a refl; refusal = right.refusal }
 op-done _ c now T T2 _ tree (answers_mkdir h name s room _ _ _ _ (Err e) take is) =
     let right = of (IsCallable (Call.mkdir h name s) × IsCaller c) c now T (TrueMade T h.number) _ (Err e) T2 is (mkdir-right _ c now T h name s room (λ r. r.0) (λ r. r.1) take) in record { step = right.step; truth = tt; refusal = right.refusal }
-op-done _ c now T T2 _ tree (answers_symlink h name _ _ _ _ r is) =
-    let right = of (IsCallable (Call.symlink h name) × IsCaller c) c now T Anything _ r T2 is (other-right _ c now T h name) in record { step = right.step; truth = tt; refusal = right.refusal }
+op-done _ c now T T2 _ tree (answers_symlink h name s text room _ _ _ _ (Ok a) take is) =
+    let right = of (IsCallable (Call.symlink h name s text) × IsCaller c) c now T (TrueMade T h.number) _ (Ok a) T2 is (symlink-right _ c now T h name s text room (λ r. r.0) (λ r. r.1) take) in record { step = right.step; truth = right.given a refl; refusal = right.refusal }
+op-done _ c now T T2 _ tree (answers_symlink h name s text room _ _ _ _ (Err e) take is) =
+    let right = of (IsCallable (Call.symlink h name s text) × IsCaller c) c now T (TrueMade T h.number) _ (Err e) T2 is (symlink-right _ c now T h name s text room (λ r. r.0) (λ r. r.1) take) in record { step = right.step; truth = tt; refusal = right.refusal }
 op-done _ c now T T2 _ tree (answers_mknod h name _ _ _ _ r is) =
     let right = of (IsCallable (Call.mknod h name) × IsCaller c) c now T Anything _ r T2 is (other-right _ c now T h name) in record { step = right.step; truth = tt; refusal = right.refusal }
 op-done _ c now T T2 _ tree (answers_remove h name _ _ _ _ (Ok a) is) =

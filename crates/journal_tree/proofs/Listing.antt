@@ -3,7 +3,7 @@ use Rattle.std.proofs.Common.{◌≡◌, ℕ, zero, suc, ◌+◌, ◌-◌, ◌<�
 use Rattle.std.proofs.lemmas.Bool.{cases_eq, leb-true}
 use Rattle.journal_tree.specs.Trees.{Body, Node, Tree, find_place, places_of}
 use Rattle.journal_tree.specs.Rule.{Stem, HasTree, stems, stem_of}
-use Rattle.journal_tree.specs.Trees.Body.{directory, file}
+use Rattle.journal_tree.specs.Trees.Body.{directory, file, link}
 use Rattle.journal_tree.specs.Listing.{Item, item_of, with_item, with_number, entries, dot_dot_item, items_above, all_places, FIRST_COOKIE, Page, Stands, IsIn, Ascends, last_cookie, Step, IsPage, IsChain, all_told, EachStep, SomeStep}
 use Rattle.journal_tree.specs.Listing.Stands.{itself, parent, entry}
 use Rattle.journal_tree.specs.Listing.IsChain.{last, more}
@@ -153,6 +153,7 @@ place_low T d n x y tree is at home =
     places_are : (b : Body) (p : ℕ) → places_of b ≡ Some p → all_places b ≡ p
     places_are (directory places) p e = cc
     places_are (file bytes) p e = absurd (cc (e))
+    places_are (link text) p e = absurd (cc (e))
 
 items-have : (T : Tree) (d : ℕ) (x : Node) (c : ℕ) (i : Item) → HasTree T → (T.at d).node ≡ Some x → c < i.cookie → Stands T d i → IsIn i (items_above T d x c)
 items-have T d x zero _ tree is above itself = inl refl

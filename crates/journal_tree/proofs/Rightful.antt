@@ -9,7 +9,7 @@ use Rattle.journal_tree.specs.declared.reply.Handle.{Handle}
 use Rattle.journal_tree.specs.declared.status.Status.{Status}
 use Rattle.journal_tree.specs.declared.status.Status.TheVariants.{NoAccess, Invalid, TooBig, NoSpace, Stale}
 use Rattle.journal_tree.specs.Trees.{Body, Node, Slot, Tree, with_node}
-use Rattle.journal_tree.specs.Trees.Body.{directory, file}
+use Rattle.journal_tree.specs.Trees.Body.{directory, file, link}
 use Rattle.journal_tree.specs.declared.caller.Caller.{Caller}
 use Rattle.journal_tree.specs.Callers.{is_root}
 use Rattle.journal_tree.specs.Rights.{is_owner, may_read, may_write, may_run, may_fetch, may_store, may_rename, may_take}
@@ -141,10 +141,12 @@ owners-read-and-write c T h x is = (
   where
     reads : (offset count : ℕ) → may_fetch c x.attributes ≡ true → (b : Body) → IsNotDenied (read_body c offset count T h.number x b)
     reads offset count may (directory places) = no_such Invalid T (λ e. absurd (cc (e)))
+    reads offset count may (link text) = no_such Invalid T (λ e. absurd (cc (e)))
     reads offset count may (file bytes) = allowed-is T (may_fetch c x.attributes) _ may (answered _ T)
 
     writes : (room : Bool) (offset count : ℕ) (bs : List ℕ) (now : Time) → may_store c x.attributes ≡ true → (b : Body) → IsNotDenied (write_body c room offset count bs now T h.number x b)
     writes room offset count bs now may (directory places) = no_such Invalid T (λ e. absurd (cc (e)))
+    writes room offset count bs now may (link text) = no_such Invalid T (λ e. absurd (cc (e)))
     writes room offset count bs now may (file bytes) =
         denied_if (not (count == length bs)) _ _ (no_such Invalid T (λ e. absurd (cc (e)))) (
         allowed-is T (may_store c x.attributes) _ may (

@@ -1,16 +1,14 @@
 -- What SETATTR, WRITE and CREATE make of a node that is there.
 use Rattle.std.proofs.Common.{◌≡◌, ℕ, ◌+◌, ◌≤◌, ◌==◌, Bool, true, false, not, ◌&&◌, ◌||◌, List, length, Option, Some, None, refl, sym, ap, subst, ◌⊎◌, inl, inr, ◌∙◌}
 use Rattle.std.specs.Prelude.{is_some, is_none, unwrap_or}
-use Rattle.std.proofs.lemmas.Bool.{eqb-true, and_parts, or_cases, or_parts, not-true, not-false, true≢false, false≢true}
+use Rattle.std.proofs.lemmas.Bool.{eqb-true, and_parts, or_cases, or_parts, not-true, true≢false, false≢true}
 use Rattle.journal_tree.specs.declared.limits.TheConstants.{MOST_BYTES}
 use Rattle.journal_tree.specs.declared.time.Time.{Time}
 use Rattle.journal_tree.specs.declared.reply.Attributes.{Attributes}
-use Rattle.journal_tree.specs.declared.settings.NewTime.{NewTime}
-use Rattle.journal_tree.specs.declared.settings.NewTime.TheVariants.{Leave}
 use Rattle.journal_tree.specs.declared.settings.Settings.{Settings}
 use Rattle.journal_tree.specs.Trees.{Body, Node, places_of}
-use Rattle.journal_tree.specs.Trees.Body.{directory, file}
-use Rattle.journal_tree.specs.Times.{IsTime, time_of_change}
+use Rattle.journal_tree.specs.Trees.Body.{directory, file, link}
+use Rattle.journal_tree.specs.Times.{time_of_change}
 use Rattle.journal_tree.specs.declared.caller.Caller.{Caller}
 use Rattle.journal_tree.specs.Callers.{is_root, is_member}
 use Rattle.journal_tree.specs.Rights.{is_owner, may_store, may_rename}
@@ -18,7 +16,7 @@ use Rattle.journal_tree.specs.Attributes.{resized_body, with_settings, asked_mod
 use Rattle.journal_tree.specs.Calls.{kind_of}
 use Rattle.journal_tree.specs.Contents.{overlaid, written}
 use Rattle.journal_tree.specs.Names.{size_alone}
-use Rattle.journal_tree.specs.Fit.{IsFit, IsFitBody, IsAsked}
+use Rattle.journal_tree.specs.Fit.{IsFitBody, IsAsked}
 use Rattle.journal_tree.specs.Laws.{IsRightful}
 use Rattle.journal_tree.proofs.Steps.{IsChange}
 use Rattle.journal_tree.proofs.Bounds.{change-fits, mtime-fits, asked-low, choice-low, written-low, or-word, resized-fits, length-overlaid}
@@ -43,10 +41,12 @@ given_group c (Some n) a e = by (or_cases (n == a.group) (is_member c n) e)
 same_body : (b : Body) → resized_body b None ≡ b
 same_body (directory places) = refl
 same_body (file bytes) = refl
+same_body (link text) = refl
 
 same_places : (b : Body) (size : Option ℕ) → places_of (resized_body b size) ≡ places_of b
 same_places (directory places) size = refl
 same_places (file bytes) size = refl
+same_places (link text) size = refl
 
 -- who is not root, and may set what he asks
 owns : (c : Caller) (s : Settings) (a : Attributes) → is_root c ≡ false → may_set c s a ≡ true → (asks_as_owner s ≡ false) ⊎ ((is_owner c a ≡ true) × (keeps_owner s.owner a ≡ true) × (may_give c s.group a ≡ true))

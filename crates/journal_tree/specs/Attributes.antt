@@ -5,15 +5,15 @@ use Rattle.journal_tree.specs.declared.time.TheConstants.{NANOS}
 use Rattle.journal_tree.specs.declared.time.Time.{Time}
 use Rattle.journal_tree.specs.declared.reply.Attributes.{Attributes}
 use Rattle.journal_tree.specs.declared.reply.Kind.{Kind}
-use Rattle.journal_tree.specs.declared.reply.Kind.TheVariants.{Directory, File}
+use Rattle.journal_tree.specs.declared.reply.Kind.TheVariants.{Directory, File, Link}
 use Rattle.journal_tree.specs.declared.reply.Told.{Told}
 use Rattle.journal_tree.specs.declared.reply.Changed.{Changed}
 use Rattle.journal_tree.specs.declared.settings.NewTime.{NewTime}
 use Rattle.journal_tree.specs.declared.settings.NewTime.TheVariants.{Leave, Server, Client}
 use Rattle.journal_tree.specs.declared.settings.Settings.{Settings}
 use Rattle.journal_tree.specs.declared.status.Status.TheVariants.{NotOwner, Invalid, TooBig, NotSync}
-use Rattle.journal_tree.specs.Trees.{Body, Node, Tree, is_directory, with_node}
-use Rattle.journal_tree.specs.Trees.Body.{directory, file}
+use Rattle.journal_tree.specs.Trees.{Body, Node, Tree, is_file, with_node}
+use Rattle.journal_tree.specs.Trees.Body.{directory, file, link}
 use Rattle.journal_tree.specs.Times.{is_same_time, time_of_change}
 use Rattle.journal_tree.specs.declared.caller.Caller.{Caller}
 use Rattle.journal_tree.specs.Callers.{is_root, is_member}
@@ -35,6 +35,7 @@ resized bytes (Some size) = take size (bytes ++ replicate size 0)
 abbrev pub resized_body : Body → Option ℕ → Body
 resized_body (directory places) size = directory places
 resized_body (file bytes) size = file (resized bytes size)
+resized_body (link text) size = link text
 
 -- mtime, where a change has this time. A new size changes the bytes
 abbrev pub new_mtime : Bool → NewTime → Time → Time → Time
@@ -62,6 +63,7 @@ asked_mode c (Some mode) group old = group_mode c group (mode % MODES)
 -- somebody who is not root
 abbrev pub becomes_plain : Caller → Settings → Kind → Bool
 becomes_plain c s Directory = false
+becomes_plain c s Link = false
 becomes_plain c s File = is_some s.owner || is_some s.group || is_some s.size && not (is_root c)
 
 abbrev pub set_mode : Caller → Settings → Kind → Attributes → ℕ
@@ -138,7 +140,7 @@ unchanged T n x = (Ok (record { before = told n x; after = told n x }), T)
 
 abbrev pub setattr_case : Caller → Settings → Option Time → Time → Tree → Target → Outcome Changed
 setattr_case c s guard now T t = on_node T t (λ n x.
-    if is_some s.size && is_directory x.body then refused Invalid T
+    if is_some s.size && not (is_file x.body) then refused Invalid T
     else if is_no_time s.mtime then refused Invalid T
     else if not (may_set c s x.attributes) then refused NotOwner T
     else allowed T (may_set_bytes c s x.attributes) (
@@ -175,6 +177,7 @@ granted c a (directory places) =
     + where_true (may_write c a && may_search c a) (ACCESS_WRITE + ACCESS_DELETE)
 granted c a (file bytes) =
     where_true (may_read c a) ACCESS_READ + where_true (may_write c a) ACCESS_WRITE + where_true (may_run c a) ACCESS_EXECUTE
+granted c a (link text) = where_true (may_read c a) ACCESS_READ
 
 -- What ACCESS tells: the node, and which of the rights that were asked for the caller has
 pub record Access : Type 0 where

@@ -7,11 +7,11 @@ use Rattle.journal_tree.specs.declared.name.NameKind.TheVariants.{Dot, DotDot, N
 use Rattle.journal_tree.specs.declared.reply.Handle.{Handle}
 use Rattle.journal_tree.specs.declared.reply.Told.{Told}
 use Rattle.journal_tree.specs.declared.reply.Kind.{Kind}
-use Rattle.journal_tree.specs.declared.reply.Kind.TheVariants.{Directory, File}
+use Rattle.journal_tree.specs.declared.reply.Kind.TheVariants.{Directory, File, Link}
 use Rattle.journal_tree.specs.declared.status.Status.{Status}
 use Rattle.journal_tree.specs.declared.status.Status.TheVariants.{NoAccess, NotDirectory, Invalid, NameTooLong, Stale}
 use Rattle.journal_tree.specs.Trees.{Body, Node, Tree, is_directory, find}
-use Rattle.journal_tree.specs.Trees.Body.{directory, file}
+use Rattle.journal_tree.specs.Trees.Body.{directory, file, link}
 use Rattle.journal_tree.specs.declared.caller.Caller.{Caller}
 use Rattle.journal_tree.specs.Rights.{may_search}
 
@@ -28,11 +28,13 @@ refused status T = (Err status, T)
 abbrev pub kind_of : Body → Kind
 kind_of (directory places) = Directory
 kind_of (file bytes) = File
+kind_of (link text) = Link
 
 -- the size of a directory is that of its blocks
 abbrev pub size_of : Body → ℕ
 size_of (directory places) = ENTRY_BYTES * places
 size_of (file bytes) = length bytes
+size_of (link text) = length text
 
 abbrev pub told : ℕ → Node → Told
 told n x = record { number = n; kind = kind_of x.body; size = size_of x.body; attributes = x.attributes }

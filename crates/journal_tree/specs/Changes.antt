@@ -1,10 +1,10 @@
 -- The tree after a change.
-use Rattle.std.specs.Prelude.{ℕ, ◌+◌, ◌*◌, ◌/◌, nat_lt, if◌then◌else◌, List, Option, Some, None, option_map}
+use Rattle.std.specs.Prelude.{ℕ, ◌+◌, ◌*◌, ◌/◌, nat_lt, if◌then◌else◌, Some, None, option_map}
 use Rattle.journal_tree.specs.declared.limits.TheConstants.{BLOCK_PLACES}
 use Rattle.journal_tree.specs.declared.time.Time.{Time}
 use Rattle.journal_tree.specs.declared.reply.Attributes.{Attributes}
 use Rattle.journal_tree.specs.Trees.{Body, Node, Tree, with_slot, with_node}
-use Rattle.journal_tree.specs.Trees.Body.{directory, file}
+use Rattle.journal_tree.specs.Trees.Body.{directory, file, link}
 use Rattle.journal_tree.specs.Times.{time_of_names}
 
 -- both times are this one
@@ -25,6 +25,7 @@ grown place places = if nat_lt place places then places else BLOCK_PLACES * (pla
 abbrev pub grown_body : ℕ → Body → Body
 grown_body place (directory places) = directory (grown place places)
 grown_body place (file bytes) = file bytes
+grown_body place (link text) = link text
 
 -- a directory in which a name is put at a place
 abbrev pub opened : ℕ → Time → Node → Node

@@ -7,7 +7,7 @@ use Rattle.journal_tree.specs.declared.reply.Told.{Told}
 use Rattle.journal_tree.specs.declared.reply.Changed.{Changed}
 use Rattle.journal_tree.specs.declared.status.Status.TheVariants.{Invalid, TooBig, NoSpace}
 use Rattle.journal_tree.specs.Trees.{Body, Node, Tree}
-use Rattle.journal_tree.specs.Trees.Body.{directory, file}
+use Rattle.journal_tree.specs.Trees.Body.{directory, file, link}
 use Rattle.journal_tree.specs.Times.{time_of_change}
 use Rattle.journal_tree.specs.declared.caller.Caller.{Caller}
 use Rattle.journal_tree.specs.Callers.{is_root}
@@ -28,6 +28,7 @@ portion offset count n x bytes =
 
 abbrev pub read_body : Caller → ℕ → ℕ → Tree → ℕ → Node → Body → Outcome Portion
 read_body c offset count T n x (directory places) = refused Invalid T
+read_body c offset count T n x (link text) = refused Invalid T
 read_body c offset count T n x (file bytes) = allowed T (may_fetch c x.attributes) (Ok (portion offset count n x bytes), T)
 
 abbrev pub read_case : Caller → ℕ → ℕ → Tree → Target → Outcome Portion
@@ -56,6 +57,7 @@ written c x bytes now = record { attributes = written_attributes c x.attributes 
 -- `room`: the blocks that are needed are handed out
 abbrev pub write_body : Caller → Bool → ℕ → ℕ → List ℕ → Time → Tree → ℕ → Node → Body → Outcome Changed
 write_body c room offset count bs now T n x (directory places) = refused Invalid T
+write_body c room offset count bs now T n x (link text) = refused Invalid T
 write_body c room offset count bs now T n x (file bytes) =
     if not (count == length bs) then refused Invalid T
     else allowed T (may_store c x.attributes) (
@@ -70,6 +72,7 @@ write_case c room offset count bs now T t = on_node T t (λ n x. write_body c ro
 -- COMMIT asks for no right, because it changes nothing
 abbrev pub commit_body : Tree → ℕ → Node → Body → Outcome Changed
 commit_body T n x (directory places) = refused Invalid T
+commit_body T n x (link text) = refused Invalid T
 commit_body T n x (file bytes) = unchanged T n x
 
 abbrev pub commit_case : Tree → Target → Outcome Changed

@@ -37,9 +37,9 @@ pub record Facts : Type 0 where
   pub step_nanos : ℕ
   pub properties : ℕ
 
--- all nodes have the same facts of PATHCONF, and a client may set times
+-- there are symbolic links, all nodes have the same facts of PATHCONF, and a client may set times
 abbrev pub PROPERTIES : ℕ
-PROPERTIES = 24
+PROPERTIES = 26
 
 abbrev pub fsinfo_case : Tree → Target → Outcome Facts
 fsinfo_case T t = on_node T t (λ n x. (

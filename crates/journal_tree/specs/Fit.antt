@@ -1,29 +1,29 @@
 -- What each node keeps within bounds: those of its fields on a disk.
 use Rattle.std.specs.Prelude.{ℕ, ◌≡◌, ◌<◌, ◌≤◌, ◌*◌, ◌⊎◌, length, Option, Some, None}
-use Rattle.journal_tree.specs.declared.limits.TheConstants.{MOST_BYTES, MOST_PLACES, BLOCK_PLACES, MODES, LAST_GENERATION}
-use Rattle.journal_tree.specs.declared.time.Time.{Time}
+use Rattle.journal_tree.specs.declared.limits.TheConstants.{MOST_BYTES, MOST_LINK, MOST_PLACES, BLOCK_PLACES, MODES, LAST_GENERATION}
 use Rattle.journal_tree.specs.declared.settings.NewTime.{NewTime}
 use Rattle.journal_tree.specs.declared.settings.NewTime.TheVariants.{Leave, Server, Client}
 use Rattle.journal_tree.specs.declared.settings.Settings.{Settings}
 use Rattle.journal_tree.specs.declared.settings.CreateMode.{CreateMode}
 use Rattle.journal_tree.specs.declared.settings.CreateMode.TheVariants.{Unchecked, Guarded, Exclusive}
 use Rattle.journal_tree.specs.Trees.{Home, Body, Node, Tree}
-use Rattle.journal_tree.specs.Trees.Body.{directory, file}
+use Rattle.journal_tree.specs.Trees.Body.{directory, file, link}
 use Rattle.journal_tree.specs.Times.{IsTime}
 use Rattle.journal_tree.specs.declared.caller.Caller.{Caller}
 use Rattle.journal_tree.specs.Calls.{name_kind}
 use Rattle.journal_tree.specs.declared.name.NameKind.TheVariants.{Name}
 use Rattle.journal_tree.specs.Op.{Call}
-use Rattle.journal_tree.specs.Op.Call.{setattr, create, mkdir}
+use Rattle.journal_tree.specs.Op.Call.{setattr, create, mkdir, symlink}
 
 -- a number of 32 bits
 abbrev pub IsWord : ℕ → Type 0
 IsWord n = n < 4294967296
 
--- a file is not too long, and a directory has whole blocks
+-- a file and a link are not too long, and a directory has whole blocks
 abbrev pub IsFitBody : Body → Type 0
 IsFitBody (directory places) = (places ≤ MOST_PLACES) × ((blocks : ℕ) × (places ≡ BLOCK_PLACES * blocks))
 IsFitBody (file bytes) = length bytes ≤ MOST_BYTES
+IsFitBody (link text) = length text ≤ MOST_LINK
 
 -- the root has no name
 abbrev pub IsFitHome : Home → Type 0
@@ -73,6 +73,7 @@ abbrev pub IsCallable : Call → Type 0
 IsCallable (setattr h s guard) = IsAsked s
 IsCallable (create h name how) = IsAskedMode how
 IsCallable (mkdir h name s) = IsAsked s
+IsCallable (symlink h name s text) = IsAsked s
 IsCallable _ = Unit {0}
 
 -- and a caller

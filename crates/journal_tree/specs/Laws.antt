@@ -21,7 +21,7 @@ use Rattle.journal_tree.specs.Calls.{target, told}
 use Rattle.journal_tree.specs.Contents.{read_case, write_case}
 use Rattle.journal_tree.specs.Listing.{IsPage, last_cookie, readdir_case, readdirplus_case, Item, Page, Listed, ListedPlus, Stands, IsIn, Ascends, Step, IsChain, all_told, EachStep, SomeStep}
 use Rattle.journal_tree.specs.Renames.{with_ctime}
-use Rattle.journal_tree.specs.Op.Call.{setattr, lookup, write, create, mkdir, remove, rmdir, rename}
+use Rattle.journal_tree.specs.Op.Call.{setattr, lookup, write, create, mkdir, symlink, remove, rmdir, rename}
 use Rattle.journal_tree.specs.Op.Reply.{set, found, wrote, made, removed, renamed}
 use Rattle.journal_tree.specs.Op.{Call, Reply, Op, is_refusal}
 use Rattle.journal_tree.specs.Runs.{Run, IsOneNode, HasSameNames}
@@ -148,6 +148,7 @@ TellsTruly (lookup h name) (found (Ok r)) T T2 = IsTrueFound T2 h.number r
 TellsTruly (write h offset count bs) (wrote (Ok r)) T T2 = IsTrueChange T T2 h.number r
 TellsTruly (create h name how) (made (Ok r)) T T2 = IsTrueMade T T2 h.number r
 TellsTruly (mkdir h name s) (made (Ok r)) T T2 = IsTrueMade T T2 h.number r
+TellsTruly (symlink h name s text) (made (Ok r)) T T2 = IsTrueMade T T2 h.number r
 TellsTruly (remove h name) (removed (Ok r)) T T2 = IsTrueChange T T2 h.number r
 TellsTruly (rmdir h name) (removed (Ok r)) T T2 = IsTrueChange T T2 h.number r
 TellsTruly (rename h name k new_name) (renamed (Ok r)) T T2 = IsTrueChange T T2 h.number r.source × IsTrueChange T T2 k.number r.goal

@@ -4,7 +4,7 @@ use Rattle.journal_tree.specs.declared.limits.TheConstants.{HANDLE_BYTES}
 use Rattle.journal_tree.specs.declared.reply.Told.{Told}
 use Rattle.journal_tree.specs.declared.status.Status.TheVariants.{TooSmall}
 use Rattle.journal_tree.specs.Trees.{Body, Node, Tree, find_place, is_directory}
-use Rattle.journal_tree.specs.Trees.Body.{directory, file}
+use Rattle.journal_tree.specs.Trees.Body.{directory, file, link}
 use Rattle.journal_tree.specs.declared.caller.Caller.{Caller}
 use Rattle.journal_tree.specs.Rights.{may_read}
 use Rattle.journal_tree.specs.Calls.{DOT, Outcome, refused, Target, told, in_directory, allowed}
@@ -46,6 +46,7 @@ dot_dot_item d x = record { cookie = 2; name = DOT ∷ DOT ∷ []; number = pare
 abbrev pub all_places : Body → ℕ
 all_places (directory places) = places
 all_places (file bytes) = 0
+all_places (link text) = 0
 
 -- the lines after a cookie, in the order of their cookies
 abbrev pub items_above : Tree → ℕ → Node → ℕ → List Item

@@ -1,22 +1,23 @@
--- LOOKUP, CREATE, MKDIR, REMOVE and RMDIR, and READLINK, SYMLINK, MKNOD and LINK, which this tree
+-- LOOKUP, CREATE, MKDIR, SYMLINK, READLINK, REMOVE and RMDIR, and MKNOD and LINK, which this tree
 -- does not have: of each the cases in their order, the first that holds is answered.
-use Rattle.std.specs.Prelude.{ℕ, ◌+◌, ◌%◌, Bool, false, not, ◌&&◌, ◌==◌, if◌then◌else◌, List, [], Option, Some, None, is_some, is_none, unwrap_or, Ok}
-use Rattle.journal_tree.specs.declared.limits.TheConstants.{ROOT, MODES, FILE_MODE, DIRECTORY_MODE}
+use Rattle.std.specs.Prelude.{ℕ, ◌+◌, ◌%◌, Bool, false, not, ◌&&◌, ◌||◌, ◌==◌, if◌then◌else◌, List, [], length, nat_lt, Option, Some, None, is_some, is_none, unwrap_or, Ok}
+use Rattle.journal_tree.specs.declared.limits.TheConstants.{ROOT, MODES, FILE_MODE, DIRECTORY_MODE, LINK_MODE, MOST_LINK}
 use Rattle.journal_tree.specs.declared.time.Time.{Time}
 use Rattle.journal_tree.specs.declared.reply.Attributes.{Attributes}
 use Rattle.journal_tree.specs.declared.reply.Kind.{Kind}
-use Rattle.journal_tree.specs.declared.reply.Kind.TheVariants.{Directory, File}
+use Rattle.journal_tree.specs.declared.reply.Kind.TheVariants.{Directory, File, Link}
 use Rattle.journal_tree.specs.declared.reply.Changed.{Changed}
 use Rattle.journal_tree.specs.declared.reply.Found.{Found}
 use Rattle.journal_tree.specs.declared.reply.Made.{Made}
+use Rattle.journal_tree.specs.declared.reply.Told.{Told}
 use Rattle.journal_tree.specs.declared.reply.Room.{Room}
 use Rattle.journal_tree.specs.declared.settings.NewTime.TheVariants.{Leave}
 use Rattle.journal_tree.specs.declared.settings.Settings.{Settings}
 use Rattle.journal_tree.specs.declared.settings.CreateMode.{CreateMode}
 use Rattle.journal_tree.specs.declared.settings.CreateMode.TheVariants.{Unchecked, Guarded, Exclusive}
 use Rattle.journal_tree.specs.declared.status.Status.TheVariants.{NoEntry, Exists, NotDirectory, IsDirectory, Invalid, TooBig, NoSpace, NameTooLong, NotEmpty, NotSupported}
-use Rattle.journal_tree.specs.Trees.{Body, Node, Tree, is_directory, with_node, find, find_any}
-use Rattle.journal_tree.specs.Trees.Body.{directory, file}
+use Rattle.journal_tree.specs.Trees.{Body, Node, Tree, is_directory, is_file, with_node, find, find_any}
+use Rattle.journal_tree.specs.Trees.Body.{directory, file, link}
 use Rattle.journal_tree.specs.declared.caller.Caller.{Caller}
 use Rattle.journal_tree.specs.Callers.{is_root}
 use Rattle.journal_tree.specs.Rights.{SET_GROUP_BIT, has_bit, with_bit, may_store, may_rename, may_take}
@@ -62,6 +63,7 @@ new_group c s d = if is_root c then unwrap_or s.group (group_within c d) else gr
 abbrev pub mode_within : Attributes → Kind → ℕ → ℕ
 mode_within d Directory mode = if has_bit d.mode SET_GROUP_BIT then with_bit mode SET_GROUP_BIT else mode
 mode_within d File mode = mode
+mode_within d Link mode = mode
 
 abbrev pub new_mode : Caller → Settings → Attributes → Kind → ℕ → ℕ
 new_mode c s d kind mode = mode_within d kind (group_mode c (new_group c s d) (unwrap_or s.mode mode % MODES))
@@ -101,7 +103,7 @@ size_alone size = record { mode = None; owner = None; group = None; size = size;
 -- the name is there already: of a file the size is set, if one is asked for
 abbrev pub create_over : Caller → Settings → Time → Tree → ℕ → Node → ℕ → Node → Outcome Made
 create_over c s now T d x n y =
-    if is_directory y.body then refused Exists T
+    if not (is_file y.body) then refused Exists T
     else if is_none s.size then made_before T d x n y
     else allowed T (may_store c y.attributes) (
     if is_too_big s.size then refused TooBig T
@@ -151,12 +153,35 @@ rmdir_case c name now T t = named c name Invalid Exists T t (λ d x. refused NoE
     else if is_some (find_any T n) then refused NotEmpty T
     else removed T d x n now))
 
+-- ── SYMLINK and READLINK: a link has a text of at least one byte, of any bytes ──
+
+abbrev pub symlink_new : Caller → List ℕ → Settings → List ℕ → Option Room → Time → Tree → ℕ → Node → Outcome Made
+symlink_new c name s text room now T d x =
+    allowed T (may_rename c x.attributes) (
+    if is_no_time s.mtime || length text == 0 then refused Invalid T
+    else if nat_lt MOST_LINK (length text) then refused NameTooLong T
+    else born T d x name room (new_attributes c s x.attributes Link LINK_MODE now) (link text) now)
+
+abbrev pub symlink_case : Caller → List ℕ → Settings → List ℕ → Option Room → Time → Tree → Target → Outcome Made
+symlink_case c name s text room now T t = named c name Exists Exists T t (symlink_new c name s text room now T) (λ d x n y. refused Exists T)
+
+-- The reply of READLINK: the link, and its text
+pub record LinkText : Type 0 where
+  pub node : Told
+  pub text : List ℕ
+
+abbrev pub text_of : Tree → ℕ → Node → Body → Outcome LinkText
+text_of T n x (directory places) = refused Invalid T
+text_of T n x (file bytes) = refused Invalid T
+text_of T n x (link text) = (Ok (record { node = told n x; text = text }), T)
+
+-- it asks for no right
+abbrev pub readlink_case : Tree → Target → Outcome LinkText
+readlink_case T t = on_node T t (λ n x. text_of T n x x.body)
+
 -- ── calls that the tree does not have: their checks, and then NOTSUPP. They are never answered OK ──
 
-abbrev pub readlink_case : Tree → Target → Outcome ⊥
-readlink_case T t = on_node T t (λ n x. refused NotSupported T)
-
--- SYMLINK and MKNOD
+-- MKNOD
 abbrev pub make_other_case : Caller → List ℕ → Tree → Target → Outcome ⊥
 make_other_case c name T t =
     named c name Exists Exists T t (λ d x. allowed T (may_rename c x.attributes) (refused NotSupported T)) (λ d x n y. refused Exists T)

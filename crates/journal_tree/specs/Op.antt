@@ -20,7 +20,7 @@ use Rattle.journal_tree.specs.declared.caller.Caller.{Caller}
 use Rattle.journal_tree.specs.Calls.{target}
 use Rattle.journal_tree.specs.Attributes.{Access, getattr_case, setattr_case, access_case}
 use Rattle.journal_tree.specs.Contents.{Portion, read_case, write_case, commit_case}
-use Rattle.journal_tree.specs.Names.{lookup_case, create_case, mkdir_case, remove_case, rmdir_case, readlink_case, make_other_case, link_case}
+use Rattle.journal_tree.specs.Names.{lookup_case, create_case, mkdir_case, remove_case, rmdir_case, symlink_case, LinkText, readlink_case, make_other_case, link_case}
 use Rattle.journal_tree.specs.Renames.{rename_case}
 use Rattle.journal_tree.specs.Listing.{Listed, ListedPlus, readdir_case, readdirplus_case}
 use Rattle.journal_tree.specs.Facts.{IsFree, Facts, NameFacts, fsstat_case, fsinfo_case, pathconf_case}
@@ -59,7 +59,7 @@ pub data Call : Type 0 where
   write : Handle → ℕ → ℕ → List ℕ → Call
   create : Handle → List ℕ → CreateMode → Call
   mkdir : Handle → List ℕ → Settings → Call
-  symlink : Handle → List ℕ → Call
+  symlink : Handle → List ℕ → Settings → List ℕ → Call
   mknod : Handle → List ℕ → Call
   remove : Handle → List ℕ → Call
   rmdir : Handle → List ℕ → Call
@@ -78,6 +78,7 @@ pub data Reply : Type 0 where
   set : Result Changed Status → Reply
   found : Result Found Status → Reply
   accessed : Result Access Status → Reply
+  link_read : Result LinkText Status → Reply
   bytes_read : Result Portion Status → Reply
   wrote : Result Changed Status → Reply
   made : Result Made Status → Reply
@@ -100,7 +101,7 @@ pub data Op : Call → Caller → Time → Tree → Reply → Tree → Type 0 wh
       → (r, T2) ≡ lookup_case c name T (target T h) → Op (lookup h name) c now T (found r) T2
   answers_access : (h : Handle) (asked : ℕ) (c : Caller) (now : Time) (T T2 : Tree) (r : Result Access Status)
       → (r, T2) ≡ access_case c asked T (target T h) → Op (access h asked) c now T (accessed r) T2
-  answers_readlink : (h : Handle) (c : Caller) (now : Time) (T T2 : Tree) (r : Result ⊥ Status) → (r, T2) ≡ readlink_case T (target T h) → Op (readlink h) c now T (not_done r) T2
+  answers_readlink : (h : Handle) (c : Caller) (now : Time) (T T2 : Tree) (r : Result LinkText Status) → (r, T2) ≡ readlink_case T (target T h) → Op (readlink h) c now T (link_read r) T2
   answers_read : (h : Handle) (offset count : ℕ) (c : Caller) (now : Time) (T T2 : Tree) (r : Result Portion Status)
       → (r, T2) ≡ read_case c offset count T (target T h) → Op (read h offset count) c now T (bytes_read r) T2
   answers_write : (h : Handle) (offset count : ℕ) (bs : List ℕ) (room : Bool) (c : Caller) (now : Time) (T T2 : Tree) (r : Result Changed Status)
@@ -109,8 +110,8 @@ pub data Op : Call → Caller → Time → Tree → Reply → Tree → Type 0 wh
       → MayTake T h.number room → (r, T2) ≡ create_case c name how room now T (target T h) → Op (create h name how) c now T (made r) T2
   answers_mkdir : (h : Handle) (name : List ℕ) (s : Settings) (room : Option Room) (c : Caller) (now : Time) (T T2 : Tree) (r : Result Made Status)
       → MayTake T h.number room → (r, T2) ≡ mkdir_case c name s room now T (target T h) → Op (mkdir h name s) c now T (made r) T2
-  answers_symlink : (h : Handle) (name : List ℕ) (c : Caller) (now : Time) (T T2 : Tree) (r : Result ⊥ Status)
-      → (r, T2) ≡ make_other_case c name T (target T h) → Op (symlink h name) c now T (not_done r) T2
+  answers_symlink : (h : Handle) (name : List ℕ) (s : Settings) (text : List ℕ) (room : Option Room) (c : Caller) (now : Time) (T T2 : Tree) (r : Result Made Status)
+      → MayTake T h.number room → (r, T2) ≡ symlink_case c name s text room now T (target T h) → Op (symlink h name s text) c now T (made r) T2
   answers_mknod : (h : Handle) (name : List ℕ) (c : Caller) (now : Time) (T T2 : Tree) (r : Result ⊥ Status)
       → (r, T2) ≡ make_other_case c name T (target T h) → Op (mknod h name) c now T (not_done r) T2
   answers_remove : (h : Handle) (name : List ℕ) (c : Caller) (now : Time) (T T2 : Tree) (r : Result Changed Status)
@@ -138,6 +139,7 @@ is_refusal (got r) = is_err r
 is_refusal (set r) = is_err r
 is_refusal (found r) = is_err r
 is_refusal (accessed r) = is_err r
+is_refusal (link_read r) = is_err r
 is_refusal (bytes_read r) = is_err r
 is_refusal (wrote r) = is_err r
 is_refusal (made r) = is_err r

@@ -1,7 +1,6 @@
 -- A tree of directories and files. Each node says where it hangs: in which directory, at which
 -- place and under which name.
-use Rattle.std.specs.Prelude.{is_some, ℕ, zero, suc, ◌==◌, Bool, false, ◌&&◌, if◌then◌else◌, List, [], Option, Some, None, bytes_eq}
-use Rattle.journal_tree.specs.declared.limits.TheConstants.{ROOT}
+use Rattle.std.specs.Prelude.{is_some, ℕ, zero, suc, ◌==◌, Bool, true, false, ◌&&◌, if◌then◌else◌, List, [], Option, Some, None, bytes_eq}
 use Rattle.journal_tree.specs.declared.reply.Attributes.{Attributes}
 
 -- Where a node hangs: the number of its directory, the place of its entry there, and its name. The
@@ -11,10 +10,12 @@ pub record Home : Type 0 where
   pub place : ℕ
   pub name : List ℕ
 
--- What a node is: a directory of so many places, or a file of these bytes
+-- What a node is: a directory of this number of places, a file of these bytes, or a symbolic link
+-- with this text
 pub data Body : Type 0 where
   directory : ℕ → Body
   file : List ℕ → Body
+  link : List ℕ → Body
 
 -- A node of the tree
 pub record Node : Type 0 where
@@ -41,9 +42,15 @@ root_home = record { directory = 0; place = 0; name = [] }
 abbrev pub places_of : Body → Option ℕ
 places_of (directory places) = Some places
 places_of (file bytes) = None
+places_of (link text) = None
 
 abbrev pub is_directory : Body → Bool
 is_directory body = is_some (places_of body)
+
+abbrev pub is_file : Body → Bool
+is_file (directory places) = false
+is_file (file bytes) = true
+is_file (link text) = false
 
 -- the tree with what one number has replaced
 abbrev pub with_slot : Tree → ℕ → Slot → Tree

@@ -71,8 +71,8 @@ pub fn refusals_change_nothing()
     ensures { RefusalsChangeNothing }
 {}
 
-/// What the replies of SETATTR, WRITE, LOOKUP, CREATE, MKDIR, REMOVE, RMDIR and RENAME tell of a
-/// node before and after the call is so in the tree before and after it.
+/// What the replies of SETATTR, WRITE, LOOKUP, CREATE, MKDIR, SYMLINK, REMOVE, RMDIR and RENAME tell
+/// of a node before and after the call is so in the tree before and after it.
 pub fn replies_are_true()
     ensures { RepliesAreTrue }
 {}

@@ -1,5 +1,6 @@
-//! What a tree of directories and files is, and what each call of NFS version 3 does to it: the
-//! definitions that a file system over the journal is to be proved by, and what holds of them.
+//! What a tree of directories, files and symbolic links is, and what each call of NFS version 3 does
+//! to it: the definitions that a file system over the journal is to be proved by, and what holds of
+//! them.
 //!
 //! A `Tree` has numbers, and each number a generation and at most one `Node`. A node has attributes,
 //! a body, and a `Home`: the directory in which it hangs, the place of its entry there, and its
@@ -14,8 +15,10 @@
 //! `Renames`, `Listing` and `Facts`, and the first that holds is answered. What is free for the
 //! code to choose is an argument with a premise: the number and the place of a new node, the place
 //! of a node that goes to another directory, whether blocks were handed out, and how many are told
-//! as free. SYMLINK, READLINK, LINK, MKNOD and an exclusive CREATE are answered `NotSupported`
-//! after their checks.
+//! as free. LINK, MKNOD and an exclusive CREATE are answered `NotSupported` after their checks.
+//!
+//! A symbolic link has a text of 1 to 4095 bytes, of any bytes: READLINK tells it, and no call
+//! changes it or follows it.
 //!
 //! RENAME gives a node another home. Within its directory the node keeps its place. In another it
 //! has the place of what it replaces, or else the one that was handed out. A file replaces a file,
@@ -54,8 +57,8 @@ pub use law::{
 };
 pub use limits::{
     BLOCK_BYTES, BLOCK_PLACES, DIRECTORY_MODE, ENTRY_BYTES, FILE_MODE, HANDLE_BYTES,
-    LAST_GENERATION, MODES, MOST_BLOCKS, MOST_BYTES, MOST_NAME, MOST_PLACES, NOBODY, ROOT,
-    TRANSFER_BYTES,
+    LAST_GENERATION, LINK_MODE, MODES, MOST_BLOCKS, MOST_BYTES, MOST_LINK, MOST_NAME, MOST_PLACES,
+    NOBODY, ROOT, TRANSFER_BYTES,
 };
 pub use name::NameKind;
 pub use reply::{Attributes, Changed, Found, Free, Handle, Kind, Made, Renamed, Room, Space, Told};

@@ -15,6 +15,9 @@ pub const MOST_BLOCKS: u64 = 48;
 /// The most bytes of a file.
 pub const MOST_BYTES: u64 = 196608;
 
+/// The most bytes of the text of a symbolic link.
+pub const MOST_LINK: u64 = 4095;
+
 /// The most bytes that one READ answers, and the most that one WRITE takes.
 pub const TRANSFER_BYTES: u32 = 65536;
 
@@ -41,6 +44,9 @@ pub const FILE_MODE: u32 = 420;
 
 /// The mode of a directory for which none is asked, and of the first root: 0755.
 pub const DIRECTORY_MODE: u32 = 493;
+
+/// The mode of a symbolic link for which none is asked: 0777.
+pub const LINK_MODE: u32 = 511;
 
 /// The user and the group of a caller who says nothing of himself, and of root where it is
 /// squashed.

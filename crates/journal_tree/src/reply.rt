@@ -21,6 +21,8 @@ pub struct Attributes {
 pub enum Kind {
     Directory,
     File,
+    /// A symbolic link.
+    Link,
 }
 
 /// What a handle names: a number, and which of its nodes.
@@ -35,7 +37,7 @@ pub struct Handle {
 pub struct Told {
     pub number: u32,
     pub kind: Kind,
-    /// Its size in bytes: of a directory, that of its blocks.
+    /// Its size in bytes: of a directory, that of its blocks; of a link, that of its text.
     pub size: u64,
     pub attributes: Attributes,
 }

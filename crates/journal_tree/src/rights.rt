@@ -276,7 +276,7 @@ fn becomes_plain(caller: &Caller, settings: &Settings, kind: Kind) -> bool
     ensures { result ≡ becomes_plain caller.now settings.now kind }
 {
     match kind {
-        Kind::Directory => false,
+        Kind::Directory | Kind::Link => false,
         Kind::File => settings.owner.is_some()
             || settings.group.is_some()
             || settings.size.is_some() && !caller.is_root(),
