@@ -5,7 +5,7 @@ use Rattle.std.proofs.lemmas.List.{length-replicate}
 use Rattle.journal_tree.specs.declared.time.Time.{Time}
 use Rattle.journal_tree.specs.declared.reply.Handle.{Handle}
 use Rattle.journal_tree.specs.declared.reply.Kind.{Kind}
-use Rattle.journal_tree.specs.declared.reply.Kind.TheVariants.{Directory, File}
+use Rattle.journal_tree.specs.declared.reply.Kind.TheVariants.{Directory, File, Link}
 use Rattle.journal_tree.specs.declared.reply.Made.{Made}
 use Rattle.journal_tree.specs.declared.reply.Room.{Room}
 use Rattle.journal_tree.specs.declared.reply.Told.{Told}
@@ -57,6 +57,7 @@ told-born n s name new d place f plain = by new.kind refl
     by : (k : Kind) → new.kind ≡ k → told n (spot_node s name new.attributes new.kind new.size) ≡ told_of n (new_head d f place new)
     by Directory is = λ i. record { number = n; kind = (ap (λ k. kind_of (new_body k new.size)) is ∙ sym is) i; size = (ap (λ k. size_of (new_body k new.size)) is ∙ sym (plain is)) i; attributes = new.attributes }
     by File is = λ i. record { number = n; kind = (ap (λ k. kind_of (new_body k new.size)) is ∙ sym is) i; size = (ap (λ k. size_of (new_body k new.size)) is ∙ length-replicate {A = ℕ} new.size 0) i; attributes = new.attributes }
+    by Link is = λ i. record { number = n; kind = (ap (λ k. kind_of (new_body k new.size)) is ∙ sym is) i; size = (ap (λ k. size_of (new_body k new.size)) is ∙ length-replicate {A = ℕ} new.size 0) i; attributes = new.attributes }
 
 -- ── at a place that the directory has ──
 

@@ -5,7 +5,7 @@ use Rattle.std.proofs.lemmas.Bool.{cases_eq, eq-eqb, ne_eqb}
 use Rattle.std.proofs.lemmas.List.{length-take-le}
 use Rattle.journal_tree.specs.declared.reply.Handle.{Handle}
 use Rattle.journal_tree.specs.declared.reply.Kind.{Kind}
-use Rattle.journal_tree.specs.declared.reply.Kind.TheVariants.{Directory, File}
+use Rattle.journal_tree.specs.declared.reply.Kind.TheVariants.{Directory, File, Link}
 use Rattle.journal_tree.specs.declared.caller.Caller.{Caller}
 use Rattle.journal_tree.specs.declared.status.Status.{Status}
 use Rattle.journal_tree.specs.declared.status.Status.TheVariants.{NoAccess, NotDirectory, Stale}
@@ -78,6 +78,12 @@ told-is V n x s = by x.kind refl
       size = (ap (λ k. size_of (body_of V k x)) is ∙ length-content V n x s) i;
       attributes = x.attributes;
     }
+    by Link is = λ i. record {
+      number = n;
+      kind = (ap (λ k. kind_of (body_of V k x)) is ∙ sym is) i;
+      size = (ap (λ k. size_of (body_of V k x)) is ∙ length-content V n x s) i;
+      attributes = x.attributes;
+    }
 
 pub node-told : (V : View) (h : Handle) (r : Record) → IsSoundView V → (n : IsNode V h r) → told h.number (node_of V (held r)) ≡ told_of h.number r.head
 node-told V h r sound n = told-is V h.number (held r) (sound.inodes h.number (held r) n.is)
@@ -106,5 +112,10 @@ module _ {A : Type 0} (V : View) (h : Handle) (f : ℕ → Node → Outcome A) (
 
   pub at-unsearched : (status : Status) → IsUnsearched V c h status → in_searched c (tree_of V) (target (tree_of V) h) f ≡ refused status (tree_of V)
   at-unsearched status (stale is) = ap (λ t. in_searched c (tree_of V) t f) is
-  at-unsearched status (other_kind r n is) = at-kind r n File is
+  at-unsearched status (other_kind r n other) = at-kind r n r.head.kind refl ∙ by r.head.kind other
+    where
+      by : (kind : Kind) → kind ≢ Directory → cond (is_directory (body_of V kind (held r))) (cond (may_search c r.head.attributes) (f h.number (node_of V (held r))) (refused NoAccess (tree_of V))) (refused NotDirectory (tree_of V)) ≡ refused NotDirectory (tree_of V)
+      by Directory other = absurd (other refl)
+      by File other = refl
+      by Link other = refl
   at-unsearched status (no_right r n is may) = at-kind r n Directory is ∙ ap (λ b. cond b (f h.number (node_of V (held r))) (refused NoAccess (tree_of V))) may

@@ -5,7 +5,7 @@ use Rattle.journal_tree.specs.declared.time.Time.{Time}
 use Rattle.journal_tree.specs.declared.reply.Changed.{Changed}
 use Rattle.journal_tree.specs.declared.reply.Handle.{Handle}
 use Rattle.journal_tree.specs.declared.reply.Kind.{Kind}
-use Rattle.journal_tree.specs.declared.reply.Kind.TheVariants.{Directory, File}
+use Rattle.journal_tree.specs.declared.reply.Kind.TheVariants.{Directory, File, Link}
 use Rattle.journal_tree.specs.declared.caller.Caller.{Caller}
 use Rattle.journal_tree.specs.declared.status.Status.{Status}
 use Rattle.journal_tree.specs.declared.status.Status.TheVariants.{Exists, Invalid, NoAccess, NoEntry, NotDirectory, NotEmpty}
@@ -53,6 +53,7 @@ module _ (V : View) (h : Handle) (c : Caller) (name : List ℕ) (now : Time) whe
       kind-is : (x : Held) (k : Kind) → is_directory (body_of V k x) ≡ is_directory_kind k
       kind-is x Directory = refl
       kind-is x File = refl
+      kind-is x Link = refl
 
       found : rmdir_case c name now (tree_of V) (target (tree_of V) h) ≡ outcome (may_rename c d.attributes && may_take c d.attributes hit.head.attributes) (is_directory_kind hit.head.kind) (is_some (find_any (tree_of V) hit.number))
       found =
@@ -79,6 +80,7 @@ module _ (V : View) (h : Handle) (c : Caller) (name : List ℕ) (now : Time) whe
             by : (k : Kind) → is_directory_kind k ≡ true → k ≡ Directory
             by Directory is = refl
             by File is = absurd (cc (is))
+            by Link is = absurd (cc (is))
 
         found-on : (any : Bool) → is_some (find_any (tree_of V) hit.number) ≡ any → rmdir_case c name now (tree_of V) (target (tree_of V) h) ≡ outcome true true any
         found-on any any_is =

@@ -4,7 +4,7 @@ use Rattle.std.specs.Prelude.{Result, Decides, is_some, is_none, ◌&&◌, ◌||
 use Rattle.std.proofs.lemmas.Bool.{eqb-true, eqb-false, eq-eqb, ne_eqb, or_cases, false≢true}
 use Rattle.journal_tree.specs.declared.time.Time.{Time}
 use Rattle.journal_tree.specs.declared.reply.Kind.{Kind}
-use Rattle.journal_tree.specs.declared.reply.Kind.TheVariants.{Directory, File}
+use Rattle.journal_tree.specs.declared.reply.Kind.TheVariants.{Directory, File, Link}
 use Rattle.journal_tree.specs.declared.reply.Renamed.{Renamed}
 use Rattle.journal_tree.specs.declared.caller.Caller.{Caller}
 use Rattle.journal_tree.specs.declared.status.Status.{Status}
@@ -51,12 +51,18 @@ bare-if V over kind None none false is = absurd (cc (is))
 bare-if V over kind (Some m) entry true is = absurd (cc (is))
 bare-if V over kind (Some m) entry false is = full m kind entry
 
-pub replaces-file : (V : View) (node over : Head) (b : Bool) → node.kind ≡ File → b ≡ is_directory_kind over.kind → MayReplace V node over (not b)
+pub directory-kind : (k : Kind) (b : Bool) → b ≡ is_directory_kind k → b ≡ true → k ≡ Directory
+directory-kind Directory b is true_is = refl
+directory-kind File b is true_is = absurd (cc (sym is ∙ true_is))
+directory-kind Link b is true_is = absurd (cc (sym is ∙ true_is))
+
+pub replaces-file : (V : View) (node over : Head) (b : Bool) → is_directory_kind node.kind ≡ false → b ≡ is_directory_kind over.kind → MayReplace V node over (not b)
 replaces-file V node over b kind is = subst (λ b. MayReplace V node over (not b)) (sym is) (of_file kind)
 
 kind-is : (V : View) (x : Held) (k : Kind) → is_directory (body_of V k x) ≡ is_directory_kind k
 kind-is V x Directory = refl
 kind-is V x File = refl
+kind-is V x Link = refl
 
 no-one : (o : Option ℕ) (b : Bool) → is_some o ≡ b → is_none o ≡ not b
 no-one None b is = ap not is
@@ -67,7 +73,7 @@ module _ (V : View) (sound : IsSoundView V) (node over : Head) (j : ℕ) (new_na
   bare-is _ (bare kind none) =
       ap (λ k. is_directory (body_of V k (held_of over new_name)) && is_none (find_any (tree_of V) j)) kind
       ∙ no-one (find_any (tree_of V) j) false (nothing-hangs V sound j (held_of over new_name) at (all-bare V sound j (held_of over new_name) at kind over.blocks (λ j. refl) none))
-  bare-is _ (plain kind) = ap (λ k. is_directory (body_of V k (held_of over new_name)) && is_none (find_any (tree_of V) j)) kind
+  bare-is _ (plain kind) = ap (λ b. b && is_none (find_any (tree_of V) j)) (kind-is V (held_of over new_name) over.kind ∙ kind)
   bare-is _ (full m kind entry) =
       ap (λ k. is_directory (body_of V k (held_of over new_name)) && is_none (find_any (tree_of V) j)) kind
       ∙ no-one (find_any (tree_of V) j) true (one-hangs V sound j (held_of over new_name) at kind over.blocks (λ j. refl) m entry)
@@ -75,7 +81,7 @@ module _ (V : View) (sound : IsSoundView V) (node over : Head) (j : ℕ) (new_na
   -- by the definition
   pub replaces-is : (name : List ℕ) (b : Bool) → MayReplace V node over b → may_replace (tree_of V) (node_of V (held_of node name)) j (node_of V (held_of over new_name)) ≡ b
   replaces-is name _ (of_file kind) =
-      ap (λ k. cond (is_directory (body_of V k (held_of node name))) (is_directory (body_of V over.kind (held_of over new_name)) && is_none (find_any (tree_of V) j)) (not (is_directory (body_of V over.kind (held_of over new_name))))) kind
+      ap (λ b. cond b (is_directory (body_of V over.kind (held_of over new_name)) && is_none (find_any (tree_of V) j)) (not (is_directory (body_of V over.kind (held_of over new_name))))) (kind-is V (held_of node name) node.kind ∙ kind)
       ∙ ap not (kind-is V (held_of over new_name) over.kind)
   replaces-is name _ (of_directory b kind is) =
       ap (λ k. cond (is_directory (body_of V k (held_of node name))) (is_directory (body_of V over.kind (held_of over new_name)) && is_none (find_any (tree_of V) j)) (not (is_directory (body_of V over.kind (held_of over new_name))))) kind
@@ -85,6 +91,7 @@ module _ (V : View) (sound : IsSoundView V) (node over : Head) (j : ℕ) (new_na
   file-blank : (k : Kind) → not (is_directory_kind k) ≡ true → (place : ℕ) → entry_by V k (held_of over new_name) place ≡ no_entry
   file-blank Directory is place = absurd (cc (is))
   file-blank File is place = refl
+  file-blank Link is place = refl
 
   bare-blank : (b : Bool) → IsBareIf V over b → b ≡ true → (place : ℕ) → entry_of V (used (held_of over new_name)) place ≡ no_entry
   bare-blank _ (bare kind none) is place = all-blank V sound j (held_of over new_name) at kind over.blocks (λ j. refl) none place
@@ -100,6 +107,7 @@ module _ (V : View) (sound : IsSoundView V) (node over : Head) (j : ℕ) (new_na
 no-places : (V : View) (k : Kind) (x : Held) → is_directory_kind k ≡ false → places_of (body_of V k x) ≡ None
 no-places V Directory x is = absurd (cc (is))
 no-places V File x is = refl
+no-places V Link x is = refl
 
 -- what keeps its directory, and what is none
 pub nothing-below : (V : View) (w : Way) (hit : Hit) → IsSoundView V → (is_within w || not (is_directory_kind hit.head.kind)) ≡ true → TellsBelowGoal V w hit false

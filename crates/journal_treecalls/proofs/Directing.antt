@@ -6,7 +6,7 @@ use Rattle.std.proofs.lemmas.List.{length-take-le}
 use Rattle.journal_tree.specs.declared.time.Time.{Time}
 use Rattle.journal_tree.specs.declared.reply.Handle.{Handle}
 use Rattle.journal_tree.specs.declared.reply.Kind.{Kind}
-use Rattle.journal_tree.specs.declared.reply.Kind.TheVariants.{Directory, File}
+use Rattle.journal_tree.specs.declared.reply.Kind.TheVariants.{Directory, File, Link}
 use Rattle.journal_tree.specs.declared.reply.Told.{Told}
 use Rattle.journal_tree.specs.declared.caller.Caller.{Caller}
 use Rattle.journal_tree.specs.declared.status.Status.{Status}
@@ -160,6 +160,7 @@ module _ (V : View) (h : Handle) (c : Caller) (cookie : ℕ) (now : Time) where
       where
         by : (k : Kind) (may : Bool) → listing_by k may ≡ Some status → cond (is_directory (body_of V k (held r))) (cond may (f h.number (node_of V (held r))) (refused NoAccess (tree_of V))) (refused NotDirectory (tree_of V)) ≡ refused status (tree_of V)
         by File may w = ap (λ s. refused s (tree_of V)) (cc)
+        by Link may w = ap (λ s. refused s (tree_of V)) (cc)
         by Directory true w = absurd (cc (w))
         by Directory false w = ap (λ s. refused s (tree_of V)) (cc)
 
@@ -169,6 +170,7 @@ module _ (V : View) (h : Handle) (c : Caller) (cookie : ℕ) (now : Time) where
         where
           by : (k : Kind) (may : Bool) → listing_by k may ≡ None → (k ≡ Directory) × (may ≡ true)
           by File may w = absurd (cc (w))
+          by Link may w = absurd (cc (w))
           by Directory true w = (refl, refl)
           by Directory false w = absurd (cc (w))
 

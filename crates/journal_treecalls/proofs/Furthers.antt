@@ -12,7 +12,7 @@ use Rattle.journal_tree.specs.declared.reply.Told.{Told}
 use Rattle.journal_tree.specs.declared.caller.Caller.{Caller}
 use Rattle.journal_tree.specs.Times.{IsTime, time_of_names}
 use Rattle.journal_tree.specs.Trees.{Body, Node, Slot, Tree}
-use Rattle.journal_tree.specs.Trees.Body.{directory, file}
+use Rattle.journal_tree.specs.Trees.Body.{directory, file, link}
 use Rattle.journal_tree.specs.Changes.{with_times, opened, grown, grown_body, touch_place, planted}
 use Rattle.journal_tree.specs.Calls.{told, kind_of, size_of}
 use Rattle.journal_tree.specs.Names.{born}
@@ -58,6 +58,7 @@ grown-again place places = by (nat_lt place places) refl
 body-again : (place : ℕ) (b : Body) → grown_body place (grown_body place b) ≡ grown_body place b
 body-again place (directory places) = ap directory (grown-again place places)
 body-again place (file bytes) = refl
+body-again place (link text) = refl
 
 node-again : (place : ℕ) (now : Time) (o : Option Node) → option_map (opened place now) (option_map (widened place) o) ≡ option_map (opened place now) o
 node-again place now None = refl

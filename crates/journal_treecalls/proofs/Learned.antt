@@ -7,7 +7,7 @@ use Rattle.journal_tree.specs.declared.reply.Found.{Found}
 use Rattle.journal_tree.specs.declared.reply.Handle.{Handle}
 use Rattle.journal_tree.specs.declared.reply.Told.{Told}
 use Rattle.journal_tree.specs.declared.reply.Kind.{Kind}
-use Rattle.journal_tree.specs.declared.reply.Kind.TheVariants.{Directory, File}
+use Rattle.journal_tree.specs.declared.reply.Kind.TheVariants.{Directory, File, Link}
 use Rattle.journal_tree.specs.declared.caller.Caller.{Caller}
 use Rattle.journal_tree.specs.declared.name.NameKind.{NameKind}
 use Rattle.journal_tree.specs.declared.name.NameKind.TheVariants.{Dot, DotDot, NoName, LongName, Name}
@@ -83,7 +83,8 @@ module _ (old new : View → Type 0) where
   -- ── a directory that is searched ──
 
   pub directory-for : (V : View) (c : Caller) (h : Handle) (r : Record) → IsNode V h r → (k : Kind) (b : Bool) → r.head.kind ≡ k → may_search c r.head.attributes ≡ b → IsDirectoryFor V c h (directory_by k b r)
-  directory-for V c h r n File b kind may = other_kind r n kind
+  directory-for V c h r n File b kind may = other_kind r n (λ e. absurd (cc (sym kind ∙ e)))
+  directory-for V c h r n Link b kind may = other_kind r n (λ e. absurd (cc (sym kind ∙ e)))
   directory-for V c h r n Directory true kind may = record { node = n; kind = kind; may = may }
   directory-for V c h r n Directory false kind may = no_right r n kind may
 

@@ -28,6 +28,8 @@ pub mod Taking
 pub mod Laying
 pub mod Overlaying
 pub mod Writes
+pub mod Texts
+pub mod Linked
 pub mod Takeovers
 pub mod Upward
 pub mod Going

@@ -4,8 +4,6 @@ use Rattle.std.specs.Prelude.{Result, nat_lt, ◌==◌}
 use Rattle.std.proofs.lemmas.Bool.{ltb-true, cases_lt, lt-ltb, eq-eqb, and_from, false≢true}
 use Rattle.std.proofs.lemmas.List.{get_or_past}
 use Rattle.journal_tree.specs.declared.limits.TheConstants.{LAST_GENERATION, MOST_BLOCKS}
-use Rattle.journal_tree.specs.declared.reply.Kind.{Kind}
-use Rattle.journal_tree.specs.declared.reply.Kind.TheVariants.{Directory, File}
 use Rattle.journal_tree.specs.declared.time.Time.{Time}
 use Rattle.journal_tree.specs.declared.reply.Handle.{Handle}
 use Rattle.journal_tree.specs.declared.reply.Made.{Made}
@@ -44,6 +42,8 @@ use Rattle.journal_treecalls.specs.declared.room.NewPlace.{NewPlace}
 use Rattle.journal_treecalls.specs.declared.room.NewPlace.TheVariants.{Here, Further}
 use Rattle.journal_treecalls.specs.declared.room.FreeRoom.{FreeRoom}
 use Rattle.journal_treecalls.specs.declared.creation.NewNode.{NewNode}
+use Rattle.journal_treecalls.specs.declared.creation.Making.{Making}
+use Rattle.journal_treecalls.specs.declared.creation.Making.TheVariants.{Mkdir, Create}
 use Rattle.journal_treecalls.specs.declared.creation.Plan.{Plan}
 use Rattle.journal_treecalls.specs.Disks.{Write, inode_seen, written, Learns, Does}
 use Rattle.journal_treecalls.specs.Disks.Write.{inode_write, owner_write, block_write}
@@ -295,11 +295,11 @@ module _ (first old new : View → Type 0) (sound : AreSound new) (ws : List Wri
 
 module _ (first old new : View → Type 0) (sound : AreSound new) (ws : List Write) (h : Handle) (name : List ℕ) (c : Caller) (s : Settings) (now : Time) (found : Result Named Status)
     (l : Learns first old (λ V. IsNameFor V c h name Exists Exists found)) where
-  pub make-err : (kind : Kind) (status : Status) → ws ≡ [] → found ≡ Err status → ((V : View) → new V → old V) → Does new ws (making_call kind h name s) c now (made_reply (Err status))
-  make-err Directory status none is same = mkdir-err first old new sound ws h name c s now found l status none is same
-  make-err File status none is same = create-err first old new sound ws h name c s now found l status none is same
+  pub make-err : (by : Making) (status : Status) → ws ≡ [] → found ≡ Err status → ((V : View) → new V → old V) → Does new ws (making_call by h name s) c now (made_reply (Err status))
+  make-err Mkdir status none is same = mkdir-err first old new sound ws h name c s now found l status none is same
+  make-err Create status none is same = create-err first old new sound ws h name c s now found l status none is same
 
-  pub make-ok : (kind : Kind) (n : Named) → found ≡ Ok n → IsAsked s → IsCaller c → IsTime now → (plan : Plan) (reply : Result Made Status) → Makes old new ws h.number n name plan now reply
-      → plan ≡ plan_for kind c s n.directory.head.attributes now → Does new ws (making_call kind h name s) c now (made_reply reply)
-  make-ok Directory n is asked caller time plan reply making planned = mkdir-ok first old new sound ws h name c s now found l n is asked caller time plan reply making planned
-  make-ok File n is asked caller time plan reply making planned = create-ok first old new sound ws h name c s now found l n is asked caller time plan reply making planned
+  pub make-ok : (by : Making) (n : Named) → found ≡ Ok n → IsAsked s → IsCaller c → IsTime now → (plan : Plan) (reply : Result Made Status) → Makes old new ws h.number n name plan now reply
+      → plan ≡ plan_for by c s n.directory.head.attributes now → Does new ws (making_call by h name s) c now (made_reply reply)
+  make-ok Mkdir n is asked caller time plan reply making planned = mkdir-ok first old new sound ws h name c s now found l n is asked caller time plan reply making planned
+  make-ok Create n is asked caller time plan reply making planned = create-ok first old new sound ws h name c s now found l n is asked caller time plan reply making planned

@@ -16,7 +16,7 @@ use Rattle.journal_treestore.specs.Views.Seen.{used}
 use Rattle.journal_treestore.specs.Sound.{IsSoundInode, IsSoundView}
 use Rattle.journal_treestore.proofs.Viewing.{inode-node}
 use Rattle.journal_treestore.proofs.Changing.{one_owner, inode-same, inode-other}
-use Rattle.journal_treestore.proofs.Growing.{nobody_has}
+use Rattle.journal_treestore.proofs.Spare.{nobody_has}
 use Rattle.journal_treecalls.specs.declared.node.Record.{Record}
 use Rattle.journal_treecalls.specs.declared.setting.Tail.{Tail}
 use Rattle.journal_treecalls.specs.Targets.{held}

@@ -6,7 +6,7 @@ use Rattle.std.proofs.lemmas.List.{ext_get_or, nil_from_length}
 use Rattle.journal_tree.specs.declared.time.Time.{Time}
 use Rattle.journal_tree.specs.declared.reply.Handle.{Handle}
 use Rattle.journal_tree.specs.declared.reply.Kind.{Kind}
-use Rattle.journal_tree.specs.declared.reply.Kind.TheVariants.{Directory, File}
+use Rattle.journal_tree.specs.declared.reply.Kind.TheVariants.{Directory, File, Link}
 use Rattle.journal_tree.specs.declared.caller.Caller.{Caller}
 use Rattle.journal_tree.specs.declared.status.Status.{Status}
 use Rattle.journal_tree.specs.declared.status.Status.TheVariants.{NoAccess, Stale}
@@ -94,6 +94,7 @@ module _ (V : View) (h : Handle) (c : Caller) (offset count : ℕ) (now : Time) 
       where
         by : (k : Kind) (may : Bool) → may_fetch c r.head.attributes ≡ may → reading_by k may ≡ Some status → read_body c offset count (tree_of V) h.number (node_of V (held r)) (body_of V k (held r)) ≡ refused status (tree_of V)
         by Directory may m is = ap (λ s. refused s (tree_of V)) (cc)
+        by Link may m is = ap (λ s. refused s (tree_of V)) (cc)
         by File true m is = absurd (cc (is))
         by File false m is =
             ap (λ b. cond b (Ok (portion offset count h.number (node_of V (held r)) (content V (held r))), tree_of V) (refused NoAccess (tree_of V))) m
@@ -102,6 +103,7 @@ module _ (V : View) (h : Handle) (c : Caller) (offset count : ℕ) (now : Time) 
     module _ (on : reading_status c r.head ≡ None) where
       passes : (k : Kind) (may : Bool) → reading_by k may ≡ None → (k ≡ File) × (may ≡ true)
       passes Directory may is = absurd (cc (is))
+      passes Link may is = absurd (cc (is))
       passes File true is = (refl, refl)
       passes File false is = absurd (cc (is))
 

@@ -5,7 +5,7 @@ use Rattle.journal_tree.specs.declared.time.Time.{Time}
 use Rattle.journal_tree.specs.declared.reply.Handle.{Handle}
 use Rattle.journal_tree.specs.declared.reply.Found.{Found}
 use Rattle.journal_tree.specs.declared.reply.Kind.{Kind}
-use Rattle.journal_tree.specs.declared.reply.Kind.TheVariants.{Directory, File}
+use Rattle.journal_tree.specs.declared.reply.Kind.TheVariants.{Directory, File, Link}
 use Rattle.journal_tree.specs.declared.caller.Caller.{Caller}
 use Rattle.journal_tree.specs.declared.status.Status.{Status}
 use Rattle.journal_tree.specs.declared.status.Status.TheVariants.{Stale}
@@ -40,6 +40,7 @@ module _ (V : View) (h : Handle) (c : Caller) (now : Time) where
   granted-is : (x : Held) (kind : Kind) → granted c x.attributes (body_of V kind x) ≡ granted_to c x.attributes kind
   granted-is x Directory = refl
   granted-is x File = refl
+  granted-is x Link = refl
 
   pub access-node : (asked : ℕ) (r : Record) → IsSoundView V → IsNode V h r
       → Op (access h asked) c now (tree_of V) (accessed (Ok (record { node = told_of h.number r.head; rights = bit_and asked (granted_to c r.head.attributes r.head.kind) }))) (tree_of V)

@@ -5,7 +5,7 @@ use Rattle.journal_tree.specs.declared.time.Time.{Time}
 use Rattle.journal_tree.specs.declared.reply.Changed.{Changed}
 use Rattle.journal_tree.specs.declared.reply.Handle.{Handle}
 use Rattle.journal_tree.specs.declared.reply.Kind.{Kind}
-use Rattle.journal_tree.specs.declared.reply.Kind.TheVariants.{Directory, File}
+use Rattle.journal_tree.specs.declared.reply.Kind.TheVariants.{Directory, File, Link}
 use Rattle.journal_tree.specs.declared.caller.Caller.{Caller}
 use Rattle.journal_tree.specs.declared.status.Status.{Status}
 use Rattle.journal_tree.specs.declared.status.Status.TheVariants.{NoAccess, NoEntry, IsDirectory}
@@ -52,6 +52,7 @@ module _ (V : View) (h : Handle) (c : Caller) (name : List ℕ) (now : Time) whe
       kind-is : (x : Held) (k : Kind) → is_directory (body_of V k x) ≡ is_directory_kind k
       kind-is x Directory = refl
       kind-is x File = refl
+      kind-is x Link = refl
 
       found : case ≡ cond (may_rename c d.attributes && may_take c d.attributes hit.head.attributes) (cond (is_directory_kind hit.head.kind) (refused IsDirectory (tree_of V)) (removed (tree_of V) h.number (node_of V (held n.directory)) hit.number now)) (refused NoAccess (tree_of V))
       found =
@@ -77,12 +78,8 @@ module _ (V : View) (h : Handle) (c : Caller) (name : List ℕ) (now : Time) whe
         passes true true is = absurd (cc (is))
         passes true false is = (refl, refl)
 
-        a_file : hit.head.kind ≡ File
-        a_file = by hit.head.kind ((passes (may_rename c d.attributes && may_take c d.attributes hit.head.attributes) (is_directory_kind hit.head.kind) allowed_is).1)
-          where
-            by : (k : Kind) → is_directory_kind k ≡ false → k ≡ File
-            by Directory is = absurd (cc (is))
-            by File is = refl
+        no_directory : is_directory_kind hit.head.kind ≡ false
+        no_directory = (passes (may_rename c d.attributes && may_take c d.attributes hit.head.attributes) (is_directory_kind hit.head.kind) allowed_is).1
 
         is_removed : case ≡ removed (tree_of V) h.number (node_of V (held n.directory)) hit.number now
         is_removed =
@@ -93,14 +90,15 @@ module _ (V : View) (h : Handle) (c : Caller) (name : List ℕ) (now : Time) whe
         hits : IsHit V d.blocks name hit
         hits = subst (λ o. Hits V n.directory.head.blocks name o) here is.hits
 
-        no_entries : (k : Kind) → k ≡ File → (place : ℕ) → entry_by V k (held_of hit.head name) place ≡ no_entry
+        no_entries : (k : Kind) → is_directory_kind k ≡ false → (place : ℕ) → entry_by V k (held_of hit.head name) place ≡ no_entry
         no_entries Directory is place = absurd (cc (is))
         no_entries File is place = refl
+        no_entries Link is place = refl
 
         module _ (W : View) (goes : W ≡ without_hit V h.number n.directory hit now) where
           pub remove-done : Op (remove h name) c now (tree_of V) (removed_reply (Ok (changed_of h.number n.directory.head now))) (tree_of W)
           remove-done = answers_remove h name c now (tree_of V) (tree_of W) (Ok (changed_of h.number n.directory.head now))
-              (cut-outcome V h name now n.directory hit sound is.searched.node is.searched.kind hits (no_entries hit.head.kind a_file) W goes ∙ sym is_removed)
+              (cut-outcome V h name now n.directory hit sound is.searched.node is.searched.kind hits (no_entries hit.head.kind no_directory) W goes ∙ sym is_removed)
 
           pub remove-sound : IsCaller c → IsTime now → IsSoundView W
-          remove-sound caller time = cut-sound V h name now n.directory hit sound is.searched.node is.searched.kind hits (no_entries hit.head.kind a_file) W goes (remove h name) c tt caller time remove-done
+          remove-sound caller time = cut-sound V h name now n.directory hit sound is.searched.node is.searched.kind hits (no_entries hit.head.kind no_directory) W goes (remove h name) c tt caller time remove-done

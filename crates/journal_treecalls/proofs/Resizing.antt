@@ -5,11 +5,11 @@ use Rattle.std.proofs.lemmas.Bool.{cases_eq, cases_lt, eq-eqb, ne_eqb, eqb-true,
 use Rattle.std.proofs.lemmas.List.{length-take-le, length-replicate, get_or_append_left, get_or-append-add, get_or-take, get_or-replicate, ext_get_or}
 use Rattle.journal_tree.specs.declared.time.Time.{Time}
 use Rattle.journal_tree.specs.declared.reply.Kind.{Kind}
-use Rattle.journal_tree.specs.declared.reply.Kind.TheVariants.{Directory, File}
+use Rattle.journal_tree.specs.declared.reply.Kind.TheVariants.{Directory, File, Link}
 use Rattle.journal_tree.specs.declared.settings.Settings.{Settings}
 use Rattle.journal_tree.specs.declared.caller.Caller.{Caller}
 use Rattle.journal_tree.specs.Times.{IsTime}
-use Rattle.journal_tree.specs.Trees.Body.{directory, file}
+use Rattle.journal_tree.specs.Trees.Body.{directory, file, link}
 use Rattle.journal_tree.specs.Fit.{IsFitBody}
 use Rattle.journal_tree.specs.Attributes.{resized, resized_body, set_attributes, with_settings}
 use Rattle.journal_tree.specs.Calls.{kind_of}
@@ -97,7 +97,7 @@ tail-inside h size o t tail is = let e = (is-tail h size t (sym tail ∙ is)).2 
 
 -- ── the step ──
 
-module _ (V : View) (n : ℕ) (r : Record) (k : Head) (c : Caller) (s : Settings) (now : Time) (sound : IsSoundView V) (is : V.inode n ≡ used (held r)) (set : IsSetHead c s now r.head k) (undirected : r.head.kind ≡ Directory → s.size ≡ None) where
+module _ (V : View) (n : ℕ) (r : Record) (k : Head) (c : Caller) (s : Settings) (now : Time) (sound : IsSoundView V) (is : V.inode n ≡ used (held r)) (set : IsSetHead c s now r.head k) (unsized : r.head.kind ≢ File → s.size ≡ None) where
   abbrev H : Held
   H = held r
 
@@ -110,8 +110,12 @@ module _ (V : View) (n : ℕ) (r : Record) (k : Head) (c : Caller) (s : Settings
   ctime : IsTime r.head.attributes.ctime
   ctime = (sound.fit.nodes n (node_of V (held r)) (inode-node V n (held r) is)).ctime
 
-  same-size : r.head.kind ≡ Directory → k.size ≡ r.head.size
-  same-size d = set.size ∙ ap (λ o. unwrap_or o r.head.size) (undirected d)
+  -- what is no file keeps its size
+  same-size : r.head.kind ≢ File → k.size ≡ r.head.size
+  same-size other = set.size ∙ ap (λ o. unwrap_or o r.head.size) (unsized other)
+
+  not-file : (kind : Kind) → r.head.kind ≡ kind → kind ≢ File → r.head.kind ≢ File
+  not-file kind is other e = other (sym is ∙ e)
 
   small : r.head.kind ≡ File → r.head.size ≤ 196608
   small f = subst (λ l. l ≤ 196608) (length-content V n (held r) old) (subst IsFitBody (ap (λ kind. body_of V kind (held r)) f) (sound.fit.nodes n (node_of V (held r)) (inode-node V n (held r) is)).body)
@@ -141,7 +145,7 @@ module _ (V : View) (n : ℕ) (r : Record) (k : Head) (c : Caller) (s : Settings
   home-is = λ z. record { directory = set.directory z; place = set.place z; name = name_from r.bytes }
 
   whole-is : k.kind ≡ Directory → (blocks : ℕ) × (k.size ≡ 4096 * blocks)
-  whole-is d = let e = sym set.kind ∙ d in let w = old.whole e in (w.0, same-size e ∙ w.1)
+  whole-is d = let e = sym set.kind ∙ d in let w = old.whole e in (w.0, same-size (not-file Directory e (λ n. absurd (cc (n)))) ∙ w.1)
 
   -- a directory's blocks are all kept
   same-blocks : r.head.kind ≡ Directory → (j : ℕ) → get_or k.blocks j 0 ≡ get_or r.head.blocks j 0
@@ -149,7 +153,7 @@ module _ (V : View) (n : ℕ) (r : Record) (k : Head) (c : Caller) (s : Settings
     where
       by : (4096 * j < k.size) ⊎ (k.size ≤ 4096 * j) → get_or k.blocks j 0 ≡ get_or r.head.blocks j 0
       by (inl before) = kept-before j before
-      by (inr far) = cut-off j far ∙ sym (old.after j (let e = same-size d in omega (arith, far, e)))
+      by (inr far) = cut-off j far ∙ sym (old.after j (let e = same-size (not-file Directory d (λ n. absurd (cc (n)))) in omega (arith, far, e)))
 
   -- what is held is what was asked for, where each byte is
   module _ (W : View) (sound_is : IsSoundInode W n K) (front : (i : ℕ) → i < k.size → i < r.head.size → byte_at W K i ≡ byte_at V H i) (back : (i : ℕ) → i < k.size → r.head.size ≤ i → byte_at W K i ≡ 0) where
@@ -177,12 +181,14 @@ module _ (V : View) (n : ℕ) (r : Record) (k : Head) (c : Caller) (s : Settings
             ∙ sym (resized-back (content V H) s.size i (below i low) (let l = was-long in omega (arith, l, past)))
 
     body-is : (kind : Kind) → r.head.kind ≡ kind → body_of W kind K ≡ resized_body (body_of V kind H) s.size
-    body-is Directory d = ap (λ m. directory (m / 8)) (same-size d)
+    body-is Directory d = ap (λ m. directory (m / 8)) (same-size (not-file Directory d (λ n. absurd (cc (n)))))
     body-is File f = ap file bytes-are
+    body-is Link l = ap link (bytes-are ∙ ap (resized (content V H)) (unsized (not-file Link l (λ n. absurd (cc (n))))))
 
     kind-is : (kind : Kind) → kind_of (body_of V kind H) ≡ kind
     kind-is Directory = refl
     kind-is File = refl
+    kind-is Link = refl
 
     pub node-set : node_of W K ≡ with_settings c s (node_of V H) now
     node-set = λ z. record {
@@ -209,6 +215,7 @@ module _ (V : View) (n : ℕ) (r : Record) (k : Head) (c : Caller) (s : Settings
     entries-plain : (kind : Kind) → r.head.kind ≡ kind → (place : ℕ) → entry_by V kind K place ≡ entry_by V kind H place
     entries-plain Directory d place = ap (λ b. entry_in V b (place % 512)) (same-blocks d (place / 512))
     entries-plain File f place = refl
+    entries-plain Link l place = refl
 
     pub step-plain : IsNodeStep V (with_head V n r k) n H K
     step-plain = record {
@@ -233,6 +240,7 @@ module _ (V : View) (n : ℕ) (r : Record) (k : Head) (c : Caller) (s : Settings
                 same : (kind : Kind) → entry_by (with_head V n r k) kind K place ≡ entry_by V kind K place
                 same Directory = refl
                 same File = refl
+                same Link = refl
 
     -- the block in which the file ends is none, where it grows
     pub node-plain : node_of (with_head V n r k) K ≡ with_settings c s (node_of V H) now
@@ -254,7 +262,8 @@ module _ (V : View) (n : ℕ) (r : Record) (k : Head) (c : Caller) (s : Settings
                 hole i (ap (λ j. get_or r.head.blocks j 0) same ∙ no-tail r.head k.size (small f) none (omega (arith, low, far)) (omega (arith, before, far)))
 
         by : (kind : Kind) → r.head.kind ≡ kind → node_of (with_head V n r k) K ≡ with_settings c s (node_of V H) now
-        by Directory d = node-set (with_head V n r k) sound-plain (λ i low inside. first i low) (λ i low far. absurd (let e = same-size d in omega (arith, e, low, far)))
+        by Directory d = node-set (with_head V n r k) sound-plain (λ i low inside. first i low) (λ i low far. absurd (let e = same-size (not-file Directory d (λ n. absurd (cc (n)))) in omega (arith, e, low, far)))
+        by Link l = node-set (with_head V n r k) sound-plain (λ i low inside. first i low) (λ i low far. absurd (let e = same-size (not-file Link l (λ n. absurd (cc (n)))) in omega (arith, e, low, far)))
         by File f = node-set (with_head V n r k) sound-plain (λ i low inside. first i low) (λ i low far. first i low ∙ past f i low far)
 
   -- ── the block in which it ends is cleared ──
@@ -276,7 +285,8 @@ module _ (V : View) (n : ℕ) (r : Record) (k : Head) (c : Caller) (s : Settings
     a_file = by r.head.kind refl
       where
         by : (kind : Kind) → r.head.kind ≡ kind → kind ≡ File
-        by Directory d = absurd (let e = same-size d in let g = grows in omega (arith, e, g))
+        by Directory d = absurd (let e = same-size (not-file Directory d (λ n. absurd (cc (n)))) in let g = grows in omega (arith, e, g))
+        by Link l = absurd (let e = same-size (not-file Link l (λ n. absurd (cc (n)))) in let g = grows in omega (arith, e, g))
         by File f = refl
 
     long : length v ≡ 4096

@@ -1,18 +1,18 @@
 -- SETATTR.
-use Rattle.std.proofs.Common.{◌≡◌, ℕ, Bool, true, false, not, cond, List, [], ◌∷◌, Option, Some, None, Ok, Err, refl, sym, ap, subst, ◌∙◌}
+use Rattle.std.proofs.Common.{◌≡◌, ◌≢◌, ℕ, Bool, true, false, not, cond, List, [], ◌∷◌, Option, Some, None, Ok, Err, refl, sym, ap, subst, ◌∙◌}
 use Rattle.std.specs.Prelude.{◌&&◌, is_some, Result}
 use Rattle.journal_tree.specs.declared.time.Time.{Time}
 use Rattle.journal_tree.specs.declared.reply.Changed.{Changed}
 use Rattle.journal_tree.specs.declared.reply.Handle.{Handle}
 use Rattle.journal_tree.specs.declared.reply.Kind.{Kind}
-use Rattle.journal_tree.specs.declared.reply.Kind.TheVariants.{Directory, File}
+use Rattle.journal_tree.specs.declared.reply.Kind.TheVariants.{Directory, File, Link}
 use Rattle.journal_tree.specs.declared.reply.Told.{Told}
 use Rattle.journal_tree.specs.declared.settings.Settings.{Settings}
 use Rattle.journal_tree.specs.declared.caller.Caller.{Caller}
 use Rattle.journal_tree.specs.declared.status.Status.{Status}
 use Rattle.journal_tree.specs.declared.status.Status.TheVariants.{Invalid, NoAccess, NotOwner, NotSync, Stale, TooBig}
 use Rattle.journal_tree.specs.Times.{IsTime}
-use Rattle.journal_tree.specs.Trees.{is_directory, with_node}
+use Rattle.journal_tree.specs.Trees.{is_file, with_node}
 use Rattle.journal_tree.specs.Fit.{IsAsked, IsCaller}
 use Rattle.journal_tree.specs.Attributes.{setattr_case, with_settings, is_other_time, is_no_time, is_too_big, asks_nothing, may_set, may_set_bytes, changed, unchanged}
 use Rattle.journal_tree.specs.Calls.{Outcome, refused, target, told, allowed}
@@ -30,7 +30,7 @@ use Rattle.journal_treecalls.specs.declared.setting.Tail.{Tail}
 use Rattle.journal_treecalls.specs.Disks.{Write, inode_seen, written, Learns, Does}
 use Rattle.journal_treecalls.specs.Disks.Write.{inode_write, block_write}
 use Rattle.journal_treecalls.specs.Targets.{held, IsNode, IsTarget, told_of}
-use Rattle.journal_treecalls.specs.Names.{is_directory_kind}
+use Rattle.journal_treecalls.specs.Names.{is_file_kind}
 use Rattle.journal_treecalls.specs.Sizes.{setting_status, IsSetHead, tail_of, cleared, changed_told, with_head, with_cleared, with_set, PutsPlain, PutsCleared, SetsHead, SetsAllowed, IsSetting, SetsNode}
 use Rattle.journal_treecalls.specs.Sizes.IsSet.{stays, sets}
 use Rattle.journal_treecalls.specs.Sizes.IsSetting.{kept, done}
@@ -76,30 +76,36 @@ module _ (V : View) (h : Handle) (c : Caller) (s : Settings) (guard : Option Tim
     abbrev rest : Outcome Changed
     rest = cond (asks_nothing s) (unchanged (tree_of V) h.number (node_of V (held r))) (changed (tree_of V) h.number (node_of V (held r)) (with_settings c s (node_of V (held r)) now))
 
-    kind-is : (k : Kind) → is_directory (body_of V k (held r)) ≡ is_directory_kind k
+    kind-is : (k : Kind) → is_file (body_of V k (held r)) ≡ is_file_kind k
     kind-is Directory = refl
     kind-is File = refl
+    kind-is Link = refl
 
     found : setattr_case c s guard now (tree_of V) (target (tree_of V) h)
-        ≡ chain (is_some s.size && is_directory_kind r.head.kind) (is_no_time s.mtime) (may_set c s r.head.attributes) (may_set_bytes c s r.head.attributes) (is_other_time guard r.head.attributes.ctime) (is_too_big s.size) rest
+        ≡ chain (is_some s.size && not (is_file_kind r.head.kind)) (is_no_time s.mtime) (may_set c s r.head.attributes) (may_set_bytes c s r.head.attributes) (is_other_time guard r.head.attributes.ctime) (is_too_big s.size) rest
     found =
-        at-node V h (λ n x. cond (is_some s.size && is_directory x.body) (refused Invalid (tree_of V)) (cond (is_no_time s.mtime) (refused Invalid (tree_of V)) (
+        at-node V h (λ n x. cond (is_some s.size && not (is_file x.body)) (refused Invalid (tree_of V)) (cond (is_no_time s.mtime) (refused Invalid (tree_of V)) (
         cond (not (may_set c s x.attributes)) (refused NotOwner (tree_of V)) (allowed (tree_of V) (may_set_bytes c s x.attributes) (
         cond (is_other_time guard x.attributes.ctime) (refused NotSync (tree_of V)) (cond (is_too_big s.size) (refused TooBig (tree_of V)) (
         cond (asks_nothing s) (unchanged (tree_of V) n x) (changed (tree_of V) n x (with_settings c s x now))))))))) r node
-        ∙ ap (λ d. chain (is_some s.size && d) (is_no_time s.mtime) (may_set c s r.head.attributes) (may_set_bytes c s r.head.attributes) (is_other_time guard r.head.attributes.ctime) (is_too_big s.size) rest) (kind-is r.head.kind)
+        ∙ ap (λ b. chain (is_some s.size && not b) (is_no_time s.mtime) (may_set c s r.head.attributes) (may_set_bytes c s r.head.attributes) (is_other_time guard r.head.attributes.ctime) (is_too_big s.size) rest) (kind-is r.head.kind)
 
     pub set-refused : (status : Status) → setting_status c s guard r.head ≡ Some status → Op (setattr h s guard) c now (tree_of V) (set_reply (Err status)) (tree_of V)
     set-refused status why = answers_setattr h s guard c now (tree_of V) (tree_of V) (Err status) (sym (found
-        ∙ refuses (is_some s.size && is_directory_kind r.head.kind) (is_no_time s.mtime) (may_set c s r.head.attributes) (may_set_bytes c s r.head.attributes) (is_other_time guard r.head.attributes.ctime) (is_too_big s.size) status rest why))
+        ∙ refuses (is_some s.size && not (is_file_kind r.head.kind)) (is_no_time s.mtime) (may_set c s r.head.attributes) (may_set_bytes c s r.head.attributes) (is_other_time guard r.head.attributes.ctime) (is_too_big s.size) status rest why))
 
     module _ (on : setting_status c s guard r.head ≡ None) where
-      all : (is_some s.size && is_directory_kind r.head.kind ≡ false) × (setattr_case c s guard now (tree_of V) (target (tree_of V) h) ≡ rest)
-      all = let p = passes (is_some s.size && is_directory_kind r.head.kind) (is_no_time s.mtime) (may_set c s r.head.attributes) (may_set_bytes c s r.head.attributes) (is_other_time guard r.head.attributes.ctime) (is_too_big s.size) rest on in (p.0, found ∙ p.1)
+      all : (is_some s.size && not (is_file_kind r.head.kind) ≡ false) × (setattr_case c s guard now (tree_of V) (target (tree_of V) h) ≡ rest)
+      all = let p = passes (is_some s.size && not (is_file_kind r.head.kind)) (is_no_time s.mtime) (may_set c s r.head.attributes) (may_set_bytes c s r.head.attributes) (is_other_time guard r.head.attributes.ctime) (is_too_big s.size) rest on in (p.0, found ∙ p.1)
 
-      undirected : r.head.kind ≡ Directory → s.size ≡ None
-      undirected d = by s.size (sym (ap (λ k. is_some s.size && is_directory_kind k) d) ∙ all.0)
+      unsized : r.head.kind ≢ File → s.size ≡ None
+      unsized other = by s.size (sym (ap (λ b. is_some s.size && not b) (no_file r.head.kind other)) ∙ all.0)
         where
+          no_file : (k : Kind) → k ≢ File → is_file_kind k ≡ false
+          no_file Directory other = refl
+          no_file File other = absurd (other refl)
+          no_file Link other = refl
+
           by : (o : Option ℕ) → (is_some o && true) ≡ false → o ≡ None
           by None is = refl
           by (Some m) is = absurd (cc (is))
@@ -118,7 +124,7 @@ module _ (V : View) (h : Handle) (c : Caller) (s : Settings) (guard : Option Tim
 
         both : IsNodeStep V W h.number (held r) K × (node_of W K ≡ with_settings c s (node_of V (held r)) now)
         both = subst (λ W. IsNodeStep V W h.number (held r) (held_of k (name_from r.bytes)) × (node_of W (held_of k (name_from r.bytes)) ≡ with_settings c s (node_of V (held r)) now)) (sym writes)
-            (set-step V h.number r k c s now sound node.is set undirected)
+            (set-step V h.number r k c s now sound node.is set unsized)
 
         told-after : told h.number (with_settings c s (node_of V (held r)) now) ≡ told_of h.number k
         told-after = ap (told h.number) (sym both.1) ∙ told-is W h.number (held_of k (name_from r.bytes)) both.0.sound

@@ -2,14 +2,14 @@
 use Rattle.std.proofs.Common.{◌≡◌, ◌≢◌, ℕ, zero, suc, ◌+◌, ◌/◌, ◌%◌, ◌<◌, ◌≤◌, cond, eqb, ◌++◌, length, take, Some, refl, sym, ap, subst, ◌⊎◌, inl, inr, ◌∙◌}
 use Rattle.std.proofs.lemmas.Bool.{cases_eq, eq-eqb, ne_eqb}
 use Rattle.journal_tree.specs.declared.reply.Kind.{Kind}
-use Rattle.journal_tree.specs.declared.reply.Kind.TheVariants.{Directory, File}
+use Rattle.journal_tree.specs.declared.reply.Kind.TheVariants.{Directory, File, Link}
 use Rattle.journal_tree.specs.declared.time.Time.{Time}
 use Rattle.journal_tree.specs.declared.caller.Caller.{Caller}
 use Rattle.journal_tree.specs.Times.{IsTime}
 use Rattle.journal_tree.specs.Fit.{IsCaller, IsCallable}
 use Rattle.journal_tree.specs.Op.{Call, Reply, Op}
 use Rattle.journal_tree.specs.Trees.{with_node}
-use Rattle.journal_tree.specs.Trees.Body.{file}
+use Rattle.journal_tree.specs.Trees.Body.{file, link}
 use Rattle.journal_treestore.specs.Entries.{no_entry, entry_from}
 use Rattle.journal_treestore.specs.Views.{Held, Seen, View, zero_block, bytes_in, bytes_of, body_of, node_of, slot_of, tree_of, entry_in, entry_by, entry_of, entry_at, home_in, homes}
 use Rattle.journal_treestore.specs.Views.Seen.{free, used}
@@ -53,6 +53,7 @@ module _ (V W : View) (n : ℕ) (h k : Held) (sound : IsSoundView V) (step : IsN
       body : (kind : Kind) → body_of W kind g ≡ body_of V kind g
       body Directory = refl
       body File = ap (λ v. file (take g.size v)) (bytes_of-kept i g other at ((g.size + 4095) / 4096))
+      body Link = ap (λ v. link (take g.size v)) (bytes_of-kept i g other at ((g.size + 4095) / 4096))
 
   entry-kept : (i : ℕ) → i ≢ n → (x : Seen) → V.inode i ≡ x → (place : ℕ) → entry_of W x place ≡ entry_of V x place
   entry-kept i other (free g) at place = refl
@@ -65,6 +66,7 @@ module _ (V W : View) (n : ℕ) (h k : Held) (sound : IsSoundView V) (step : IsN
       by : (kind : Kind) → entry_by W kind g place ≡ entry_by V kind g place
       by Directory = in_block (cases_eq (g.blocks (place / 512)) 0)
       by File = refl
+      by Link = refl
 
   -- the tree has the node
   pub tree-step : tree_of W ≡ with_node (tree_of V) n (Some (node_of W k))

@@ -5,7 +5,7 @@ use Rattle.std.proofs.lemmas.Bool.{eq-eqb}
 use Rattle.journal_tree.specs.declared.time.Time.{Time}
 use Rattle.journal_tree.specs.declared.reply.Handle.{Handle}
 use Rattle.journal_tree.specs.declared.reply.Kind.{Kind}
-use Rattle.journal_tree.specs.declared.reply.Kind.TheVariants.{Directory, File}
+use Rattle.journal_tree.specs.declared.reply.Kind.TheVariants.{Directory, File, Link}
 use Rattle.journal_tree.specs.declared.reply.Made.{Made}
 use Rattle.journal_tree.specs.declared.reply.Told.{Told}
 use Rattle.journal_tree.specs.declared.settings.CreateMode.TheVariants.{Unchecked, Guarded}
@@ -14,7 +14,7 @@ use Rattle.journal_tree.specs.declared.caller.Caller.{Caller}
 use Rattle.journal_tree.specs.declared.status.Status.{Status}
 use Rattle.journal_tree.specs.declared.status.Status.TheVariants.{Exists, NoAccess, NoSpace, TooBig}
 use Rattle.journal_tree.specs.Times.{IsTime}
-use Rattle.journal_tree.specs.Trees.{Node, Slot, Tree, is_directory, with_node}
+use Rattle.journal_tree.specs.Trees.{Node, Slot, Tree, is_file, with_node}
 use Rattle.journal_tree.specs.Fit.{IsAsked, IsCaller}
 use Rattle.journal_tree.specs.Rights.{may_store}
 use Rattle.journal_tree.specs.Attributes.{is_too_big, with_settings}
@@ -38,7 +38,7 @@ use Rattle.journal_treecalls.specs.declared.named.Named.{Named}
 use Rattle.journal_treecalls.specs.declared.creation.Plan.{Plan}
 use Rattle.journal_treecalls.specs.Disks.{Write, written, Learns, Does}
 use Rattle.journal_treecalls.specs.Targets.{held, told_of, Hits, IsHit}
-use Rattle.journal_treecalls.specs.Names.{is_directory_kind, IsNamed, IsNameFor}
+use Rattle.journal_treecalls.specs.Names.{is_file_kind, IsNamed, IsNameFor}
 use Rattle.journal_treecalls.specs.Sizes.{IsSetHead, tail_of, with_set, SetsHead}
 use Rattle.journal_treecalls.specs.Rooms.{create_plan, IsMakingPlanned, MakesPlanned}
 use Rattle.journal_treecalls.specs.Rooms.IsMakingNode.{full, makes}
@@ -86,9 +86,10 @@ module _ (V : View) (h : Handle) (c : Caller) (name : List ℕ) (s : Settings) (
       at : V.inode hit.number ≡ used (held_of hit.head name)
       at = hits.is.inside.is.inode
 
-      kind-is : (x : Held) (k : Kind) → is_directory (body_of V k x) ≡ is_directory_kind k
+      kind-is : (x : Held) (k : Kind) → is_file (body_of V k x) ≡ is_file_kind k
       kind-is x Directory = refl
       kind-is x File = refl
+      kind-is x Link = refl
 
       abbrev same : Outcome Made
       same = made_before (tree_of V) h.number (node_of V (held n.directory)) hit.number (node_of V (held_of hit.head name))
@@ -100,12 +101,12 @@ module _ (V : View) (h : Handle) (c : Caller) (name : List ℕ) (s : Settings) (
       set_over = made_before (with_node (tree_of V) hit.number (Some (with_settings c (size_alone s.size) (node_of V (held_of hit.head name)) now))) h.number (node_of V (held n.directory)) hit.number (with_settings c (size_alone s.size) (node_of V (held_of hit.head name)) now)
 
       abbrev outcome : Bool → Bool → Bool → Bool → Outcome Made
-      outcome dir none may big = cond dir (refused Exists (tree_of V)) (cond none same (cond may (cond big (refused TooBig (tree_of V)) set_over) (refused NoAccess (tree_of V))))
+      outcome other_kind none may big = cond other_kind (refused Exists (tree_of V)) (cond none same (cond may (cond big (refused TooBig (tree_of V)) set_over) (refused NoAccess (tree_of V))))
 
-      found : create_case c name (Unchecked s) None now (tree_of V) (target (tree_of V) h) ≡ outcome (is_directory_kind hit.head.kind) (is_none s.size) (may_store c hit.head.attributes) (is_too_big s.size)
+      found : create_case c name (Unchecked s) None now (tree_of V) (target (tree_of V) h) ≡ outcome (not (is_file_kind hit.head.kind)) (is_none s.size) (may_store c hit.head.attributes) (is_too_big s.size)
       found =
           at-hit V h c name Exists Exists (create_new c name s None now (tree_of V)) (create_over c s now (tree_of V)) n hit sound is here
-          ∙ ap (λ b. outcome b (is_none s.size) (may_store c hit.head.attributes) (is_too_big s.size)) (kind-is (held_of hit.head name) hit.head.kind)
+          ∙ ap (λ b. outcome (not b) (is_none s.size) (may_store c hit.head.attributes) (is_too_big s.size)) (kind-is (held_of hit.head name) hit.head.kind)
 
       pub over-refused : (status : Status) → taking_status c hit.head s.size ≡ Some status → Op (create h name (Unchecked s)) c now (tree_of V) (made_reply (Err status)) (tree_of V)
       over-refused status why = answers_create h name (Unchecked s) None c now (tree_of V) (tree_of V) (Err status) tt (sym (found ∙ by hit.head.kind why))
@@ -116,8 +117,9 @@ module _ (V : View) (h : Handle) (c : Caller) (name : List ℕ) (s : Settings) (
           chained false true true w = ap (λ s. refused s (tree_of V)) (cc)
           chained false true false w = absurd (cc (w))
 
-          by : (k : Kind) → taking_by k (may_store c hit.head.attributes) s.size ≡ Some status → outcome (is_directory_kind k) (is_none s.size) (may_store c hit.head.attributes) (is_too_big s.size) ≡ refused status (tree_of V)
+          by : (k : Kind) → taking_by k (may_store c hit.head.attributes) s.size ≡ Some status → outcome (not (is_file_kind k)) (is_none s.size) (may_store c hit.head.attributes) (is_too_big s.size) ≡ refused status (tree_of V)
           by Directory w = ap (λ s. refused s (tree_of V)) (cc)
+          by Link w = ap (λ s. refused s (tree_of V)) (cc)
           by File w = chained (is_none s.size) (may_store c hit.head.attributes) (is_too_big s.size) w
 
       module _ (on : taking_status c hit.head s.size ≡ None) where
@@ -126,6 +128,7 @@ module _ (V : View) (h : Handle) (c : Caller) (name : List ℕ) (s : Settings) (
           where
             by : (k : Kind) → taking_by k (may_store c hit.head.attributes) s.size ≡ None → k ≡ File
             by Directory w = absurd (cc (w))
+            by Link w = absurd (cc (w))
             by File w = refl
 
         told-directory : told h.number (node_of V (held n.directory)) ≡ told_of h.number n.directory.head
@@ -135,7 +138,7 @@ module _ (V : View) (h : Handle) (c : Caller) (name : List ℕ) (s : Settings) (
         generation-is = ap (λ (y : Seen). (slot_of V y).generation) at
 
         found-file : (none may big : Bool) → is_none s.size ≡ none → may_store c hit.head.attributes ≡ may → is_too_big s.size ≡ big → create_case c name (Unchecked s) None now (tree_of V) (target (tree_of V) h) ≡ outcome false none may big
-        found-file none may big a b d = found ∙ (λ i. outcome (ap is_directory_kind a_file i) (a i) (b i) (d i))
+        found-file none may big a b d = found ∙ (λ i. outcome (ap (λ k. not (is_file_kind k)) a_file i) (a i) (b i) (d i))
 
         -- no size is asked for
         pub over-stays : s.size ≡ None → Op (create h name (Unchecked s)) c now (tree_of V) (made_reply (Ok (taken_made (told_of h.number n.directory.head) hit hit.head))) (tree_of V)
@@ -166,7 +169,7 @@ module _ (V : View) (h : Handle) (c : Caller) (name : List ℕ) (s : Settings) (
           both : IsNodeStep V W hit.number (held sized.record_is) (held_of k (name_from sized.record_is.bytes)) × (node_of W (held_of k (name_from sized.record_is.bytes)) ≡ with_settings c (size_alone (Some size)) (node_of V (held sized.record_is)) now)
           both = subst (λ W. IsNodeStep V W hit.number (held sized.record_is) (held_of k (name_from sized.record_is.bytes)) × (node_of W (held_of k (name_from sized.record_is.bytes)) ≡ with_settings c (size_alone (Some size)) (node_of V (held sized.record_is)) now))
               (sym view-is)
-              (set-step V hit.number sized.record_is k c (size_alone (Some size)) now sound inode-is set-is (λ d. absurd (cc (sym d ∙ ap (λ (h : Head). h.kind) sized.is.head ∙ a_file))))
+              (set-step V hit.number sized.record_is k c (size_alone (Some size)) now sound inode-is set-is (λ other. absurd (other (ap (λ (h : Head). h.kind) sized.is.head ∙ a_file))))
 
           node-is : node_of W (held_of k (name_from sized.record_is.bytes)) ≡ with_settings c (size_alone s.size) (node_of V (held_of hit.head name)) now
           node-is = both.1 ∙ (λ i. with_settings c (size_alone (sym asked i)) (node_of V (held-is i)) now)

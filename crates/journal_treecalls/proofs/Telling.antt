@@ -8,20 +8,20 @@ use Rattle.journal_tree.specs.declared.reply.Changed.{Changed}
 use Rattle.journal_tree.specs.declared.reply.Free.{Free}
 use Rattle.journal_tree.specs.declared.reply.Handle.{Handle}
 use Rattle.journal_tree.specs.declared.reply.Kind.{Kind}
-use Rattle.journal_tree.specs.declared.reply.Kind.TheVariants.{Directory, File}
+use Rattle.journal_tree.specs.declared.reply.Kind.TheVariants.{Directory, File, Link}
 use Rattle.journal_tree.specs.declared.reply.Space.{Space}
 use Rattle.journal_tree.specs.declared.reply.Told.{Told}
 use Rattle.journal_tree.specs.declared.caller.Caller.{Caller}
 use Rattle.journal_tree.specs.declared.status.Status.{Status}
-use Rattle.journal_tree.specs.declared.status.Status.TheVariants.{Stale, NotSupported}
-use Rattle.journal_tree.specs.Calls.{target, told, refused}
+use Rattle.journal_tree.specs.declared.status.Status.TheVariants.{Stale}
+use Rattle.journal_tree.specs.Calls.{target, told}
 use Rattle.journal_tree.specs.Calls.Target.{gone}
 use Rattle.journal_tree.specs.Contents.{commit_body}
 use Rattle.journal_tree.specs.Facts.{IsFree, Facts, NameFacts, PROPERTIES}
 use Rattle.journal_tree.specs.Op.{Call, Reply, Op}
-use Rattle.journal_tree.specs.Op.Call.{readlink, fsstat, fsinfo, pathconf, commit}
-use Rattle.journal_tree.specs.Op.Reply.{not_done, space, facts, name_facts, committed}
-use Rattle.journal_tree.specs.Op.Op.{answers_readlink, answers_fsstat, answers_fsinfo, answers_pathconf, answers_commit}
+use Rattle.journal_tree.specs.Op.Call.{fsstat, fsinfo, pathconf, commit}
+use Rattle.journal_tree.specs.Op.Reply.{space, facts, name_facts, committed}
+use Rattle.journal_tree.specs.Op.Op.{answers_fsstat, answers_fsinfo, answers_pathconf, answers_commit}
 use Rattle.journal_treestore.specs.Views.{View, body_of, node_of, tree_of}
 use Rattle.journal_treecalls.specs.declared.node.Record.{Record}
 use Rattle.journal_treecalls.specs.declared.facts.FactsReply.{FactsReply}
@@ -101,10 +101,5 @@ module _ (old new : View → Type 0) (h : Handle) (found : Option Record) (l : L
     where
       by : (V : View) → new V → IsNode V h r → (k : Kind) → commit_body (tree_of V) h.number (node_of V (held r)) (body_of V k (held r)) ≡ (committed_by k h.number r.head, tree_of V)
       by V m n Directory = refl
+      by V m n Link = refl
       by V m n File = ap (λ (t : Told). (Ok (record { before = t; after = t }), tree_of V)) (node-told V h r (sound V m) n)
-
-  pub readlink-none : found ≡ None → Does new ws (readlink h) c now (not_done (Err Stale))
-  readlink-none is = told-none (readlink h) (not_done (Err Stale)) (λ V g. answers_readlink h c now (tree_of V) (tree_of V) (Err Stale) (sym (at-gone V h _ g))) is
-
-  pub readlink-some : (r : Record) → found ≡ Some r → Does new ws (readlink h) c now (not_done (Err NotSupported))
-  readlink-some r is = told-some (readlink h) (not_done (Err NotSupported)) r (λ V m n. answers_readlink h c now (tree_of V) (tree_of V) (Err NotSupported) (sym (at-node V h (λ n x. refused NotSupported (tree_of V)) r n))) is

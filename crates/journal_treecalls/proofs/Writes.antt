@@ -7,7 +7,7 @@ use Rattle.journal_tree.specs.declared.time.Time.{Time}
 use Rattle.journal_tree.specs.declared.reply.Changed.{Changed}
 use Rattle.journal_tree.specs.declared.reply.Handle.{Handle}
 use Rattle.journal_tree.specs.declared.reply.Kind.{Kind}
-use Rattle.journal_tree.specs.declared.reply.Kind.TheVariants.{Directory, File}
+use Rattle.journal_tree.specs.declared.reply.Kind.TheVariants.{Directory, File, Link}
 use Rattle.journal_tree.specs.declared.reply.Told.{Told}
 use Rattle.journal_tree.specs.declared.caller.Caller.{Caller}
 use Rattle.journal_tree.specs.declared.status.Status.{Status}
@@ -55,6 +55,7 @@ use Rattle.journal_treecalls.proofs.Overlaying.{step-written, node-written}
 -- where nothing is against it, the node is a file, and the bytes end within the greatest one
 passes : (k : Kind) (may : Bool) (offset count long : ℕ) → writing_by k may offset count long ≡ None → (k ≡ File) × (count ≡ long) × (may ≡ true) × ((count ≡ 0) ⊎ ((count ≢ 0) × (nat_lt MOST_BYTES (offset + count) ≡ false)))
 passes Directory may offset count long is = absurd (cc (is))
+passes Link may offset count long is = absurd (cc (is))
 passes File may offset count long is = by (count == long) may (count == 0) (nat_lt MOST_BYTES (offset + count)) refl refl refl refl is
   where
     by : (a b d e : Bool) → (count == long) ≡ a → may ≡ b → (count == 0) ≡ d → nat_lt MOST_BYTES (offset + count) ≡ e → cond (not a) (Some Invalid) (cond (not b) (Some NoAccess) (cond d None (cond e (Some TooBig) None))) ≡ None
@@ -114,6 +115,7 @@ module _ (V : View) (h : Handle) (c : Caller) (offset count : ℕ) (bs : List �
 
         by : (k : Kind) → writing_by k (may_store c r.head.attributes) offset count (length bs) ≡ Some status → write_body c false offset count bs now (tree_of V) h.number (node_of V (held r)) (body_of V k (held r)) ≡ refused status (tree_of V)
         by Directory is = ap (λ s. refused s (tree_of V)) (cc)
+        by Link is = ap (λ s. refused s (tree_of V)) (cc)
         by File is = chained (count == length bs) (may_store c r.head.attributes) (count == 0) (nat_lt MOST_BYTES (offset + count))
             (changed (tree_of V) h.number (node_of V (held r)) (written_node c (node_of V (held r)) (overlaid (content V (held r)) offset bs) now)) is
 

@@ -4,7 +4,7 @@ use Rattle.journal_tree.specs.declared.limits.TheConstants.{BLOCK_BYTES, MOST_BY
 use Rattle.journal_tree.specs.declared.reply.Changed.{Changed}
 use Rattle.journal_tree.specs.declared.reply.Free.{Free}
 use Rattle.journal_tree.specs.declared.reply.Kind.{Kind}
-use Rattle.journal_tree.specs.declared.reply.Kind.TheVariants.{Directory, File}
+use Rattle.journal_tree.specs.declared.reply.Kind.TheVariants.{Directory, File, Link}
 use Rattle.journal_tree.specs.declared.reply.Space.{Space}
 use Rattle.journal_tree.specs.declared.reply.Told.{Told}
 use Rattle.journal_tree.specs.declared.status.Status.{Status}
@@ -80,6 +80,7 @@ name_facts_told (Err status) = Err status
 -- COMMIT's, by the kind of the node
 abbrev pub committed_by : Kind → ℕ → Head → Result Changed Status
 committed_by Directory n head = Err Invalid
+committed_by Link n head = Err Invalid
 committed_by File n head = Ok (record { before = told_of n head; after = told_of n head })
 
 abbrev pub committed_of : ℕ → Head → Result Changed Status

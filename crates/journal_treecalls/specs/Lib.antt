@@ -11,6 +11,7 @@ pub mod Fetches
 pub mod Portions
 pub mod Overlays
 pub mod Takings
+pub mod Symlinks
 pub mod Renamings
 pub mod Moves
 pub mod Lines

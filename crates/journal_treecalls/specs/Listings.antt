@@ -2,7 +2,7 @@
 use Rattle.std.specs.Prelude.{ℕ, ◌≡◌, ◌≢◌, ◌-◌, ◌++◌, Bool, ◌==◌, nat_lt, false, if◌then◌else◌, List, [], ◌∷◌, map, is_some, Option, Some, None, Result, Ok, Err}
 use Rattle.journal_tree.specs.declared.reply.Handle.{Handle}
 use Rattle.journal_tree.specs.declared.reply.Kind.{Kind}
-use Rattle.journal_tree.specs.declared.reply.Kind.TheVariants.{Directory, File}
+use Rattle.journal_tree.specs.declared.reply.Kind.TheVariants.{Directory, File, Link}
 use Rattle.journal_tree.specs.declared.reply.Told.{Told}
 use Rattle.journal_tree.specs.declared.caller.Caller.{Caller}
 use Rattle.journal_tree.specs.declared.status.Status.{Status}
@@ -29,6 +29,7 @@ use Rattle.journal_treecalls.specs.Walks.{all_items}
 -- why a node is not listed
 abbrev pub listing_by : Kind → Bool → Option Status
 listing_by File may = Some NotDirectory
+listing_by Link may = Some NotDirectory
 listing_by Directory may = if may then None else Some NoAccess
 
 abbrev pub listing_status : Caller → Head → Option Status

@@ -4,7 +4,7 @@ use Rattle.journal_tree.specs.declared.time.Time.{Time}
 use Rattle.journal_tree.specs.declared.reply.Handle.{Handle}
 use Rattle.journal_tree.specs.declared.reply.Changed.{Changed}
 use Rattle.journal_tree.specs.declared.reply.Kind.{Kind}
-use Rattle.journal_tree.specs.declared.reply.Kind.TheVariants.{Directory, File}
+use Rattle.journal_tree.specs.declared.reply.Kind.TheVariants.{Directory, File, Link}
 use Rattle.journal_tree.specs.declared.name.NameKind.{NameKind}
 use Rattle.journal_tree.specs.declared.name.NameKind.TheVariants.{Dot, DotDot, NoName, LongName, Name}
 use Rattle.journal_tree.specs.declared.caller.Caller.{Caller}
@@ -77,6 +77,12 @@ HasInside (Err status) = Unit {0}
 abbrev pub is_directory_kind : Kind → Bool
 is_directory_kind Directory = true
 is_directory_kind File = false
+is_directory_kind Link = false
+
+abbrev pub is_file_kind : Kind → Bool
+is_file_kind Directory = false
+is_file_kind File = true
+is_file_kind Link = false
 
 -- why a file is not removed
 abbrev pub removal_status : Caller → Head → Head → Option Status

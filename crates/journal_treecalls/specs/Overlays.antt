@@ -5,7 +5,7 @@ use Rattle.journal_tree.specs.declared.limits.TheConstants.{MOST_BYTES}
 use Rattle.journal_tree.specs.declared.time.Time.{Time}
 use Rattle.journal_tree.specs.declared.reply.Changed.{Changed}
 use Rattle.journal_tree.specs.declared.reply.Kind.{Kind}
-use Rattle.journal_tree.specs.declared.reply.Kind.TheVariants.{Directory, File}
+use Rattle.journal_tree.specs.declared.reply.Kind.TheVariants.{Directory, File, Link}
 use Rattle.journal_tree.specs.declared.caller.Caller.{Caller}
 use Rattle.journal_tree.specs.declared.status.Status.{Status}
 use Rattle.journal_tree.specs.declared.status.Status.TheVariants.{Invalid, NoAccess, NoSpace, TooBig}
@@ -37,6 +37,7 @@ status_of_writing may offset count long =
 abbrev pub writing_by : Kind → Bool → ℕ → ℕ → ℕ → Option Status
 writing_by Directory may offset count long = Some Invalid
 writing_by File may offset count long = status_of_writing may offset count long
+writing_by Link may offset count long = Some Invalid
 
 abbrev pub writing_status : Caller → Head → ℕ → ℕ → ℕ → Option Status
 writing_status c h offset count long = writing_by h.kind (may_store c h.attributes) offset count long

@@ -2,7 +2,7 @@
 use Rattle.std.specs.Prelude.{ℕ, ◌≡◌, ◌+◌, ◌-◌, max, min, Bool, nat_le, if◌then◌else◌, length, Option, Some, None, Result, Ok, Err}
 use Rattle.journal_tree.specs.declared.limits.TheConstants.{TRANSFER_BYTES}
 use Rattle.journal_tree.specs.declared.reply.Kind.{Kind}
-use Rattle.journal_tree.specs.declared.reply.Kind.TheVariants.{Directory, File}
+use Rattle.journal_tree.specs.declared.reply.Kind.TheVariants.{Directory, File, Link}
 use Rattle.journal_tree.specs.declared.caller.Caller.{Caller}
 use Rattle.journal_tree.specs.declared.status.Status.{Status}
 use Rattle.journal_tree.specs.declared.status.Status.TheVariants.{Invalid, NoAccess}
@@ -21,6 +21,7 @@ use Rattle.journal_treecalls.specs.Fetches.{IsFetched}
 abbrev pub reading_by : Kind → Bool → Option Status
 reading_by Directory may = Some Invalid
 reading_by File may = if may then None else Some NoAccess
+reading_by Link may = Some Invalid
 
 abbrev pub reading_status : Caller → Head → Option Status
 reading_status c h = reading_by h.kind (may_fetch c h.attributes)

@@ -2,7 +2,7 @@
 use Rattle.std.specs.Prelude.{ℕ, ◌≡◌, ◌≢◌, ◌<◌, Bool, true, false, not, ◌&&◌, ◌||◌, ◌==◌, if◌then◌else◌, List, length, Option, Some, None, Result, Ok, Err, Decides}
 use Rattle.journal_tree.specs.declared.time.Time.{Time}
 use Rattle.journal_tree.specs.declared.reply.Handle.{Handle}
-use Rattle.journal_tree.specs.declared.reply.Kind.TheVariants.{Directory, File}
+use Rattle.journal_tree.specs.declared.reply.Kind.TheVariants.{Directory}
 use Rattle.journal_tree.specs.declared.reply.Renamed.{Renamed}
 use Rattle.journal_tree.specs.declared.caller.Caller.{Caller}
 use Rattle.journal_tree.specs.declared.status.Status.{Status}
@@ -111,12 +111,12 @@ TellsBelowGoal V w hit below = (name : List ℕ) → HasNode V w name hit → De
 -- A node is a directory without entries, or it is not
 pub data IsBareIf (V : View) (over : Head) : Bool → Type 0 where
   bare : over.kind ≡ Directory → HasNoneInBlocks V over.blocks (length over.blocks) → IsBareIf V over true
-  plain : over.kind ≡ File → IsBareIf V over false
+  plain : is_directory_kind over.kind ≡ false → IsBareIf V over false
   full : (m : ℕ) → over.kind ≡ Directory → HasEntry V over.blocks m → IsBareIf V over false
 
 -- A node may replace another, or not
 pub data MayReplace (V : View) (node over : Head) : Bool → Type 0 where
-  of_file : node.kind ≡ File → MayReplace V node over (not (is_directory_kind over.kind))
+  of_file : is_directory_kind node.kind ≡ false → MayReplace V node over (not (is_directory_kind over.kind))
   of_directory : (may : Bool) → node.kind ≡ Directory → IsBareIf V over may → MayReplace V node over may
 
 -- ── where it goes ──

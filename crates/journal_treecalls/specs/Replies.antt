@@ -4,7 +4,7 @@ use Rattle.journal_tree.specs.declared.limits.TheConstants.{ROOT}
 use Rattle.journal_tree.specs.declared.reply.Attributes.{Attributes}
 use Rattle.journal_tree.specs.declared.reply.Found.{Found}
 use Rattle.journal_tree.specs.declared.reply.Kind.{Kind}
-use Rattle.journal_tree.specs.declared.reply.Kind.TheVariants.{Directory, File}
+use Rattle.journal_tree.specs.declared.reply.Kind.TheVariants.{Directory, File, Link}
 use Rattle.journal_tree.specs.declared.caller.Caller.{Caller}
 use Rattle.journal_tree.specs.declared.status.Status.{Status}
 use Rattle.journal_tree.specs.declared.status.Status.TheVariants.{NoEntry}
@@ -27,6 +27,7 @@ granted_to c a Directory =
     + where_true (may_write c a && may_search c a) (ACCESS_WRITE + ACCESS_DELETE)
 granted_to c a File =
     where_true (may_read c a) ACCESS_READ + where_true (may_write c a) ACCESS_WRITE + where_true (may_run c a) ACCESS_EXECUTE
+granted_to c a Link = where_true (may_read c a) ACCESS_READ
 
 abbrev pub access_of : Caller → ℕ → Head → ℕ → AccessReply
 access_of c n head asked = record { node = told_of n head; rights = bit_and asked (granted_to c head.attributes head.kind) }

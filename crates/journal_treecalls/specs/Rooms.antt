@@ -4,7 +4,6 @@ use Rattle.journal_tree.specs.declared.limits.TheConstants.{LAST_GENERATION, MOS
 use Rattle.journal_tree.specs.declared.time.Time.{Time}
 use Rattle.journal_tree.specs.declared.reply.Attributes.{Attributes}
 use Rattle.journal_tree.specs.declared.reply.Handle.{Handle}
-use Rattle.journal_tree.specs.declared.reply.Kind.{Kind}
 use Rattle.journal_tree.specs.declared.reply.Kind.TheVariants.{Directory, File}
 use Rattle.journal_tree.specs.declared.reply.Made.{Made}
 use Rattle.journal_tree.specs.declared.settings.CreateMode.TheVariants.{Guarded}
@@ -28,6 +27,8 @@ use Rattle.journal_treestore.specs.Views.Seen.{free, used}
 use Rattle.journal_treestore.specs.Steps.{with_moment, IsUnowned}
 use Rattle.journal_treecalls.specs.declared.node.Record.{Record}
 use Rattle.journal_treecalls.specs.declared.creation.NewNode.{NewNode}
+use Rattle.journal_treecalls.specs.declared.creation.Making.{Making}
+use Rattle.journal_treecalls.specs.declared.creation.Making.TheVariants.{Mkdir, Create}
 use Rattle.journal_treecalls.specs.declared.creation.Plan.{Plan}
 use Rattle.journal_treecalls.specs.declared.named.Named.{Named}
 use Rattle.journal_treecalls.specs.declared.search.Hit.{Hit}
@@ -166,9 +167,9 @@ making_status c s size d =
     else None
 
 -- MKDIR, and CREATE in the mode GUARDED
-abbrev pub making_call : Kind → Handle → List ℕ → Settings → Call
-making_call Directory h name s = mkdir h name s
-making_call File h name s = create h name (Guarded s)
+abbrev pub making_call : Making → Handle → List ℕ → Settings → Call
+making_call Mkdir h name s = mkdir h name s
+making_call Create h name s = create h name (Guarded s)
 
 abbrev pub no_blocks : List ℕ
 no_blocks = replicate 48 0
@@ -260,9 +261,9 @@ mkdir_plan c s d now = record { refusal = making_status c s None d; node = recor
 abbrev pub create_plan : Caller → Settings → Attributes → Time → Plan
 create_plan c s d now = record { refusal = making_status c s s.size d; node = record { attributes = new_attributes c s d File FILE_MODE now; kind = File; size = unwrap_or s.size 0 } }
 
-abbrev pub plan_for : Kind → Caller → Settings → Attributes → Time → Plan
-plan_for Directory c s d now = mkdir_plan c s d now
-plan_for File c s d now = create_plan c s d now
+abbrev pub plan_for : Making → Caller → Settings → Attributes → Time → Plan
+plan_for Mkdir c s d now = mkdir_plan c s d now
+plan_for Create c s d now = create_plan c s d now
 
 -- A node is put at its place: its objects are written, and the reply has it
 pub record Plants (old new : View → Type 0) (ws : List Write) (d : ℕ) (r : Record) (name : List ℕ) (node : NewNode) (f : FreeNumber) (p : NewPlace) (now : Time) (made : Made) : Type 0 where

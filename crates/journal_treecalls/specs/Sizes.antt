@@ -17,12 +17,12 @@ use Rattle.journal_treecalls.specs.declared.node.Record.{Record}
 use Rattle.journal_treecalls.specs.declared.setting.Tail.{Tail}
 use Rattle.journal_treecalls.specs.Disks.{Write, written}
 use Rattle.journal_treecalls.specs.Targets.{told_of}
-use Rattle.journal_treecalls.specs.Names.{is_directory_kind}
+use Rattle.journal_treecalls.specs.Names.{is_file_kind}
 
 -- why a node is not set
 abbrev pub setting_status : Caller → Settings → Option Time → Head → Option Status
 setting_status c s guard h =
-    if is_some s.size && is_directory_kind h.kind then Some Invalid
+    if is_some s.size && not (is_file_kind h.kind) then Some Invalid
     else if is_no_time s.mtime then Some Invalid
     else if not (may_set c s h.attributes) then Some NotOwner
     else if not (may_set_bytes c s h.attributes) then Some NoAccess

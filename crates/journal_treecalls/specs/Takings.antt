@@ -2,7 +2,7 @@
 use Rattle.std.specs.Prelude.{ℕ, ◌≡◌, Bool, not, is_none, if◌then◌else◌, List, Option, Some, None, Result, Ok, Err}
 use Rattle.journal_tree.specs.declared.time.Time.{Time}
 use Rattle.journal_tree.specs.declared.reply.Kind.{Kind}
-use Rattle.journal_tree.specs.declared.reply.Kind.TheVariants.{Directory, File}
+use Rattle.journal_tree.specs.declared.reply.Kind.TheVariants.{Directory, File, Link}
 use Rattle.journal_tree.specs.declared.reply.Made.{Made}
 use Rattle.journal_tree.specs.declared.reply.Told.{Told}
 use Rattle.journal_tree.specs.declared.caller.Caller.{Caller}
@@ -36,6 +36,7 @@ is_sized may size =
 abbrev pub taking_by : Kind → Bool → Option ℕ → Option Status
 taking_by Directory may size = Some Exists
 taking_by File may size = is_sized may size
+taking_by Link may size = Some Exists
 
 abbrev pub taking_status : Caller → Head → Option ℕ → Option Status
 taking_status c h size = taking_by h.kind (may_store c h.attributes) size

@@ -3,7 +3,7 @@ use Rattle.std.specs.Prelude.{ℕ, ◌≡◌, ◌≢◌, ◌<◌, ◌==◌, Bool
 use Rattle.journal_tree.specs.declared.reply.Handle.{Handle}
 use Rattle.journal_tree.specs.declared.reply.Told.{Told}
 use Rattle.journal_tree.specs.declared.reply.Kind.{Kind}
-use Rattle.journal_tree.specs.declared.reply.Kind.TheVariants.{Directory, File}
+use Rattle.journal_tree.specs.declared.reply.Kind.TheVariants.{Directory, File, Link}
 use Rattle.journal_tree.specs.declared.caller.Caller.{Caller}
 use Rattle.journal_tree.specs.declared.status.Status.{Status}
 use Rattle.journal_tree.specs.declared.status.Status.TheVariants.{NoAccess, NotDirectory, Stale}
@@ -56,7 +56,7 @@ pub record IsSearched (V : View) (c : Caller) (h : Handle) (r : Record) : Type 0
 -- or why it does not
 pub data IsUnsearched (V : View) (c : Caller) (h : Handle) : Status → Type 0 where
   stale : target (tree_of V) h ≡ gone → IsUnsearched V c h Stale
-  other_kind : (r : Record) → IsNode V h r → r.head.kind ≡ File → IsUnsearched V c h NotDirectory
+  other_kind : (r : Record) → IsNode V h r → r.head.kind ≢ Directory → IsUnsearched V c h NotDirectory
   no_right : (r : Record) → IsNode V h r → r.head.kind ≡ Directory → may_search c r.head.attributes ≡ false → IsUnsearched V c h NoAccess
 
 abbrev pub IsDirectoryFor : View → Caller → Handle → Result Record Status → Type 0
@@ -66,6 +66,7 @@ IsDirectoryFor V c h (Err status) = IsUnsearched V c h status
 -- the inode, if it is a directory's and the caller may search it
 abbrev pub directory_by : Kind → Bool → Record → Result Record Status
 directory_by File may r = Err NotDirectory
+directory_by Link may r = Err NotDirectory
 directory_by Directory may r = if may then Ok r else Err NoAccess
 
 abbrev pub directory_of : Caller → Record → Result Record Status

@@ -99,6 +99,7 @@ fn granted(caller: &Caller, attributes: &Attributes, kind: Kind) -> u32
             let run = where_true(caller.may_run(attributes), EXECUTE);
             read + where_true(may_write, WRITE) + run
         }
+        Kind::Link => read,
     }
 }
 

@@ -58,7 +58,7 @@ fn is_fresh(blocks: &[u32; DIRECT_BLOCKS], span: Span, j: usize) -> bool
 }
 
 // The first of the spare blocks that nobody has, and that is none of these.
-fn other_of<T: TreeDisk>(
+pub(crate) fn other_of<T: TreeDisk>(
     disk: &mut T,
     blocks: &[u32; DIRECT_BLOCKS],
     spare: &[u32],

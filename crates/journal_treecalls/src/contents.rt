@@ -40,7 +40,7 @@ fn committed_of(number: u32, head: &Head) -> Result<Changed, Status>
 {
     let node = told(number, head);
     match head.kind {
-        Kind::Directory => Err(Status::Invalid),
+        Kind::Directory | Kind::Link => Err(Status::Invalid),
         Kind::File => Ok(Changed {
             before: node,
             after: node,

@@ -32,10 +32,18 @@ pub(crate) struct NewNode {
     pub(crate) size: u64,
 }
 
-// Which kind of node is asked for, and with which attributes.
+// Which call makes a node.
+#[derive(Clone, Copy)]
+enum Making {
+    Mkdir,
+    // In the mode GUARDED.
+    Create,
+}
+
+// By which call a node is asked for, and with which attributes.
 #[derive(Clone, Copy)]
 struct Wanted {
-    kind: Kind,
+    by: Making,
     settings: Settings,
 }
 
@@ -77,13 +85,13 @@ pub fn mkdir<T: TreeDisk>(
     requires time { IsTime now }
     ensures { IfOk result (λ reply. Does (T.may_be disk.new) (T.writes disk.new) (mkdir_call directory name.now settings) caller.now now (made reply)) }
 {
-    let kind = Kind::Directory;
+    let by = Making::Mkdir;
     make(
         disk,
         caller,
         directory,
         name,
-        Wanted { kind, settings },
+        Wanted { by, settings },
         spare,
         now,
     )
@@ -110,19 +118,19 @@ pub fn create_guarded<T: TreeDisk>(
     requires time { IsTime now }
     ensures { IfOk result (λ reply. Does (T.may_be disk.new) (T.writes disk.new) (create_call directory name.now (Guarded settings)) caller.now now (made reply)) }
 {
-    let kind = Kind::File;
+    let by = Making::Create;
     make(
         disk,
         caller,
         directory,
         name,
-        Wanted { kind, settings },
+        Wanted { by, settings },
         spare,
         now,
     )
 }
 
-// MKDIR, or CREATE in the mode GUARDED, by the kind.
+// MKDIR, or CREATE in the mode GUARDED.
 fn make<T: TreeDisk>(
     disk: &mut T,
     caller: &Caller,
@@ -134,7 +142,7 @@ fn make<T: TreeDisk>(
 ) -> Result<Result<Made, Status>, T::Fault>
     requires first { T.writes disk.old ≡ [] }
     requires time { IsTime now }
-    ensures { IfOk result (λ reply. Does (T.may_be disk.new) (T.writes disk.new) (making_call wanted.kind directory name.now wanted.settings) caller.now now (made reply)) }
+    ensures { IfOk result (λ reply. Does (T.may_be disk.new) (T.writes disk.new) (making_call wanted.by directory name.now wanted.settings) caller.now now (made reply)) }
 {
     are_words(*caller);
     are_asked(wanted.settings);
@@ -142,7 +150,7 @@ fn make<T: TreeDisk>(
     match find_name(disk, caller, directory, name, taken, taken)? {
         Ok(found) => {
             let within = &found.directory.head.attributes;
-            let plan = plan_for(caller, wanted.kind, &wanted.settings, within, now);
+            let plan = plan_for(caller, wanted.by, &wanted.settings, within, now);
             make_found(disk, directory.number, &found, name, &plan, spare, now)
         }
         Err(status) => Ok(Err(status)),
@@ -180,16 +188,16 @@ fn is_asked_time(mtime: NewTime)
 // The node that is made within a directory of these attributes.
 fn plan_for(
     caller: &Caller,
-    kind: Kind,
+    by: Making,
     settings: &Settings,
     within: &Attributes,
     now: Time,
 ) -> Plan
-    ensures { result ≡ plan_for kind caller.now settings.now within.now now }
+    ensures { result ≡ plan_for by caller.now settings.now within.now now }
 {
-    match kind {
-        Kind::Directory => mkdir_plan(caller, settings, within, now),
-        Kind::File => create_plan(caller, settings, within, now),
+    match by {
+        Making::Mkdir => mkdir_plan(caller, settings, within, now),
+        Making::Create => create_plan(caller, settings, within, now),
     }
 }
 
@@ -335,7 +343,7 @@ fn make_node<T: TreeDisk>(
 }
 
 // A node is put into a directory, under a number that is free.
-fn put_node<T: TreeDisk>(
+pub(crate) fn put_node<T: TreeDisk>(
     disk: &mut T,
     number: u32,
     directory: &Record,
@@ -441,7 +449,7 @@ pub(crate) fn first_place(j: u64) -> u32
 }
 
 // The inode of a new node.
-fn new_head(directory: u32, free: FreeNumber, place: u32, node: &NewNode) -> Head
+pub(crate) fn new_head(directory: u32, free: FreeNumber, place: u32, node: &NewNode) -> Head
     requires { free.generation < LAST_GENERATION }
     ensures { result ≡ new_head directory free place node.now }
 {

@@ -104,7 +104,7 @@ fn rmdir_status(caller: &Caller, directory: &Head, node: &Head) -> Option<Status
     }
     match node.kind {
         Kind::Directory => None,
-        Kind::File => Some(Status::NotDirectory),
+        Kind::File | Kind::Link => Some(Status::NotDirectory),
     }
 }
 

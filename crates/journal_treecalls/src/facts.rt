@@ -15,8 +15,8 @@ use journal_tree::{
 };
 use journal_treestore::Head;
 
-// All nodes have the same facts of PATHCONF, and a client may set times.
-const PROPERTIES: u32 = 24;
+// There are symbolic links, all nodes have the same facts of PATHCONF, and a client may set times.
+const PROPERTIES: u32 = 26;
 
 /// The answer of FSINFO.
 #[derive(Clone, Copy, Debug, PartialEq, Eq)]

@@ -3,6 +3,7 @@ ghost use Rattle.std.specs.Prelude.{◌≡◌, ◌<◌, slice_set};
 ghost use Rattle.journal_tree.specs.declared.limits.TheConstants.{MOST_BLOCKS};
 ghost use Rattle.journal_treestore.specs.Owners.{owner_from};
 ghost use Rattle.journal_treecalls.specs.Rooms.{owner_of, with_further};
+ghost use Rattle.journal_treecalls.specs.Symlinks.{with_first};
 
 use journal_tree::BLOCK_BYTES;
 use journal_treestore::{DIRECT_BLOCKS, Head, OWNER_BYTES, Owner};
@@ -27,6 +28,17 @@ pub(crate) fn with_further(directory: &Head, j: u64, block: u32) -> Head
         size: BLOCK_BYTES * (j + 1),
         blocks: with_block(head.blocks, j as usize, block),
         ..head
+    }
+}
+
+// A node with this as its first block.
+pub(crate) fn with_first(head: &Head, block: u32) -> Head
+    ensures { result ≡ with_first head.now block }
+{
+    let old = *head;
+    Head {
+        blocks: with_block(old.blocks, 0, block),
+        ..old
     }
 }
 

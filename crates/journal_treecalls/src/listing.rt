@@ -132,7 +132,7 @@ fn listing_status(caller: &Caller, head: &Head) -> Option<Status>
 {
     let may = caller.may_read(&head.attributes);
     match head.kind {
-        Kind::File => Some(Status::NotDirectory),
+        Kind::File | Kind::Link => Some(Status::NotDirectory),
         Kind::Directory => { if may { None } else { Some(Status::NoAccess) } }
     }
 }

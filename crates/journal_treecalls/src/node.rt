@@ -75,7 +75,7 @@ pub(crate) fn directory_for(caller: &Caller, found: Record) -> Result<Record, St
 {
     let may = caller.may_search(&found.head.attributes);
     match found.head.kind {
-        Kind::File => Err(Status::NotDirectory),
+        Kind::File | Kind::Link => Err(Status::NotDirectory),
         Kind::Directory => {
             if may {
                 Ok(found)

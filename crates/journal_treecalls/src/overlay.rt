@@ -97,7 +97,7 @@ fn writing_status(
 {
     let may = caller.may_store(&head.attributes);
     match head.kind {
-        Kind::Directory => Some(Status::Invalid),
+        Kind::Directory | Kind::Link => Some(Status::Invalid),
         Kind::File => status_of_writing(may, offset, count, bytes),
     }
 }

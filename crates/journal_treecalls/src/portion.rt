@@ -80,13 +80,13 @@ fn reading_status(caller: &Caller, head: &Head) -> Option<Status>
 {
     let may = caller.may_fetch(&head.attributes);
     match head.kind {
-        Kind::Directory => Some(Status::Invalid),
+        Kind::Directory | Kind::Link => Some(Status::Invalid),
         Kind::File => { if may { None } else { Some(Status::NoAccess) } }
     }
 }
 
-// Bytes of a file.
-fn read_file<T: TreeDisk>(
+// Bytes of a file, or of a link's text.
+pub(crate) fn read_file<T: TreeDisk>(
     disk: &mut T,
     number: u32,
     head: &Head,

@@ -1,9 +1,8 @@
 // Calls that the tree does not have: they are refused after their checks.
 ghost use Rattle.std.specs.Prelude.{◌≡◌, [], IfOk, Err};
 ghost use Rattle.journal_tree.specs.declared.time.Time.{Time};
-ghost use Rattle.journal_tree.specs.declared.caller.Caller.{Caller};
 ghost use Rattle.journal_tree.specs.declared.settings.CreateMode.TheVariants.{Exclusive};
-ghost use Rattle.journal_tree.specs.Op.Call.{readlink as readlink_call, create as create_call, symlink as symlink_call, mknod as mknod_call, link as link_call};
+ghost use Rattle.journal_tree.specs.Op.Call.{create as create_call, mknod as mknod_call, link as link_call};
 ghost use Rattle.journal_tree.specs.Op.Reply.{made, not_done};
 ghost use Rattle.journal_treecalls.specs.Disks.{Learns, Does};
 ghost use Rattle.journal_treecalls.specs.Refusals.{status_of_making, IsRefused};
@@ -12,24 +11,6 @@ use crate::TreeDisk;
 use crate::named::{Named, find_name};
 use crate::node::node;
 use journal_tree::{Caller, Handle, Status};
-
-/// READLINK (RFC 1813, 3.3.5): no node is a symbolic link.
-///
-/// # Errors
-/// - The call is given up.
-///
-/// The answers. The first that holds:
-/// - `Stale`: the handle's node was removed.
-/// - `NotSupported`.
-pub fn readlink<T: TreeDisk>(disk: &mut T, handle: Handle) -> Result<Status, T::Fault>
-    requires first { T.writes disk.old ≡ [] }
-    ensures { IfOk result (λ status. (caller : Caller) (now : Time) → Does (T.may_be disk.new) (T.writes disk.new) (readlink_call handle) caller now (not_done (Err status))) }
-{
-    match node(disk, handle)? {
-        None => Ok(Status::Stale),
-        Some(_target) => Ok(Status::NotSupported),
-    }
-}
 
 /// CREATE in the mode EXCLUSIVE (RFC 1813, 3.3.8).
 ///
@@ -54,22 +35,6 @@ pub fn create_exclusive<T: TreeDisk>(
 ) -> Result<Status, T::Fault>
     requires first { T.writes disk.old ≡ [] }
     ensures { IfOk result (λ status. (now : Time) → Does (T.may_be disk.new) (T.writes disk.new) (create_call directory name.now Exclusive) caller.now now (made (Err status))) }
-{
-    refuse_making(disk, caller, directory, name)
-}
-
-/// SYMLINK (RFC 1813, 3.3.10). Its answers are those of `create_exclusive`.
-///
-/// # Errors
-/// - The call is given up.
-pub fn symlink<T: TreeDisk>(
-    disk: &mut T,
-    caller: &Caller,
-    directory: Handle,
-    name: &[u8],
-) -> Result<Status, T::Fault>
-    requires first { T.writes disk.old ≡ [] }
-    ensures { IfOk result (λ status. (now : Time) → Does (T.may_be disk.new) (T.writes disk.new) (symlink_call directory name.now) caller.now now (not_done (Err status))) }
 {
     refuse_making(disk, caller, directory, name)
 }

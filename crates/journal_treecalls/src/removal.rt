@@ -111,7 +111,7 @@ fn removal_status(caller: &Caller, directory: &Head, node: &Head) -> Option<Stat
     }
     match node.kind {
         Kind::Directory => Some(Status::IsDirectory),
-        Kind::File => None,
+        Kind::File | Kind::Link => None,
     }
 }
 

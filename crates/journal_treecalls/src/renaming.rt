@@ -19,11 +19,11 @@ use crate::removal::are_words;
 use crate::room::{NewPlace, Spare, find_place};
 use crate::search::{Hit, find};
 use crate::setting::{changed, is_directory_kind};
-use journal_tree::{Caller, Handle, Kind, Renamed, Status, Time};
+use journal_tree::{Caller, Handle, Renamed, Status, Time};
 use journal_treestore::{Head, PLACES};
 
 /// A name in a directory.
-#[derive(Clone, Copy)]
+#[derive(Clone, Copy, Debug)]
 pub struct NameIn<'a> {
     pub directory: Handle,
     pub name: &'a [u8],
@@ -397,16 +397,17 @@ fn decide_over<T: TreeDisk>(
     Ok(Ok(Decision::Goes(*hit, onto(way, over))))
 }
 
-// True if a node may replace another: a file replaces a file, and a directory one without entries.
+// True if a node may replace another: a directory replaces one without entries, and what is none
+// replaces what is none.
 fn may_replace<T: TreeDisk>(disk: &mut T, node: &Head, over: &Head) -> Result<bool, T::Fault>
     requires first { T.writes disk.old ≡ [] }
     ensures learns { IfOk result (λ may. Learns (T.may_be disk.old) (T.may_be disk.new) (λ V. MayReplace V node.now over.now may)) }
     ensures first { T.writes disk.new ≡ [] }
 {
-    match node.kind {
-        Kind::File => Ok(!is_directory_kind(over.kind)),
-        Kind::Directory => is_bare(disk, over),
+    if is_directory_kind(node.kind) {
+        return is_bare(disk, over);
     }
+    Ok(!is_directory_kind(over.kind))
 }
 
 // True if a node is a directory without entries.
@@ -415,13 +416,11 @@ fn is_bare<T: TreeDisk>(disk: &mut T, over: &Head) -> Result<bool, T::Fault>
     ensures learns { IfOk result (λ is. Learns (T.may_be disk.old) (T.may_be disk.new) (λ V. IsBareIf V over.now is)) }
     ensures first { T.writes disk.new ≡ [] }
 {
-    match over.kind {
-        Kind::File => Ok(false),
-        Kind::Directory => {
-            let entry = find_entry(disk, &over.blocks)?;
-            Ok(entry.is_none())
-        }
+    if !is_directory_kind(over.kind) {
+        return Ok(false);
     }
+    let entry = find_entry(disk, &over.blocks)?;
+    Ok(entry.is_none())
 }
 
 // Where a node goes that replaces another.

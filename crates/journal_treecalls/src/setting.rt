@@ -5,7 +5,7 @@ ghost use Rattle.journal_tree.specs.Times.{IsTime};
 ghost use Rattle.journal_tree.specs.Op.Call.{setattr as setattr_call};
 ghost use Rattle.journal_tree.specs.Op.Reply.{set};
 ghost use Rattle.journal_treecalls.specs.Disks.{Does};
-ghost use Rattle.journal_treecalls.specs.Names.{is_directory_kind};
+ghost use Rattle.journal_treecalls.specs.Names.{is_directory_kind, is_file_kind};
 ghost use Rattle.journal_treecalls.specs.Sizes.{setting_status, cut_one, IsCutAt, IsSetHead, tail_of, cleared, changed_told, PutsPlain, PutsCleared, SetsHead, SetsAllowed, SetsNode};
 
 use crate::TreeDisk;
@@ -93,7 +93,7 @@ fn setting_status(
 ) -> Option<Status>
     ensures { result ≡ setting_status caller.now settings.now guard head.now }
 {
-    if settings.size.is_some() && is_directory_kind(head.kind) {
+    if settings.size.is_some() && !is_file_kind(head.kind) {
         return Some(Status::Invalid);
     }
     if is_no_time(settings.mtime) {
@@ -114,12 +114,23 @@ fn setting_status(
     None
 }
 
+// True if it is the kind of a file.
+fn is_file_kind(kind: Kind) -> bool
+    ensures { result ≡ is_file_kind kind }
+{
+    match kind {
+        Kind::File => true,
+        Kind::Directory | Kind::Link => false,
+    }
+}
+
+// True if it is the kind of a directory.
 pub(crate) fn is_directory_kind(kind: Kind) -> bool
     ensures { result ≡ is_directory_kind kind }
 {
     match kind {
         Kind::Directory => true,
-        Kind::File => false,
+        Kind::File | Kind::Link => false,
     }
 }
 

@@ -139,7 +139,7 @@ fn taking_status(caller: &Caller, head: &Head, size: Option<u64>) -> Option<Stat
 {
     let may = caller.may_store(&head.attributes);
     match head.kind {
-        Kind::Directory => Some(Status::Exists),
+        Kind::Directory | Kind::Link => Some(Status::Exists),
         Kind::File => status_of_size(may, size),
     }
 }

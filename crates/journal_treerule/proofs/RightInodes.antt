@@ -3,9 +3,9 @@ use Rattle.std.proofs.Common.{ℕ, zero, suc, ◌≡◌, ◌≢◌, ◌<◌, ◌
 use Rattle.std.specs.Prelude.{option_map}
 use Rattle.std.proofs.lemmas.Bool.{cases_eq, cases_lt, eq-eqb, ne_eqb}
 use Rattle.std.proofs.lemmas.List.{length-take-le}
-use Rattle.journal_tree.specs.declared.limits.TheConstants.{ROOT, MOST_BYTES}
+use Rattle.journal_tree.specs.declared.limits.TheConstants.{ROOT, MOST_BYTES, MOST_LINK}
 use Rattle.journal_tree.specs.declared.reply.Kind.{Kind}
-use Rattle.journal_tree.specs.declared.reply.Kind.TheVariants.{Directory, File}
+use Rattle.journal_tree.specs.declared.reply.Kind.TheVariants.{Directory, File, Link}
 use Rattle.journal_tree.specs.Trees.{Home, Body, Node, root_home, places_of}
 use Rattle.journal_tree.specs.Rule.{Stem, stem_of, stems}
 use Rattle.journal_tree.specs.Fit.{IsFit, IsFitBody}
@@ -16,7 +16,7 @@ use Rattle.journal_treestore.specs.Views.Seen.{free, used}
 use Rattle.journal_treestore.specs.Sound.{IsSoundInode, IsSoundView}
 use Rattle.journal_treestore.proofs.Recording.{zero-long}
 use Rattle.journal_treestore.proofs.Viewing.{inode-node, used_some}
-use Rattle.journal_treerule.specs.Parts.{IsRootHome, IsInPlace, IsWholeSize, IsWithinBounds, IsSoundBlock, AreBlocksSound, IsNode, IsRightInode, AreInodesRight}
+use Rattle.journal_treerule.specs.Parts.{IsRootHome, IsInPlace, IsSizeOf, IsWithinBounds, IsSoundBlock, AreBlocksSound, IsNode, IsRightInode, AreInodesRight}
 use Rattle.journal_treerule.proofs.Disks.{IsDisk}
 
 -- ── how many bytes a file has ──
@@ -46,15 +46,18 @@ few-places size blocks is few = omega (arith, is, few)
 few-bytes : (V : View) (n : ℕ) (h : Held) (kind : Kind) → IsSoundInode V n h → (kind ≡ Directory → (blocks : ℕ) × (h.size ≡ 4096 * blocks)) → IsFitBody (body_of V kind h) → h.size ≤ MOST_BYTES
 few-bytes V n h Directory s whole fit = let w = whole refl in few-places h.size w.0 w.1 fit.0
 few-bytes V n h File s whole fit = subst (λ (k : ℕ). k ≤ MOST_BYTES) (length-content V n h s) fit
+few-bytes V n h Link s whole fit = let few = subst (λ (k : ℕ). k ≤ MOST_LINK) (length-content V n h s) fit in omega (arith, few)
 
-is-whole : (kind : Kind) (size : ℕ) → (kind ≡ Directory → (blocks : ℕ) × (size ≡ 4096 * blocks)) → IsWholeSize kind size
-is-whole Directory size whole = let w = whole refl in whole-size size w.0 w.1
-is-whole File size whole = tt
+size-of : (V : View) (n : ℕ) (h : Held) (kind : Kind) → IsSoundInode V n h → (kind ≡ Directory → (blocks : ℕ) × (h.size ≡ 4096 * blocks)) → IsFitBody (body_of V kind h) → IsSizeOf kind h.size
+size-of V n h Directory s whole fit = let w = whole refl in whole-size h.size w.0 w.1
+size-of V n h File s whole fit = tt
+size-of V n h Link s whole fit = subst (λ (k : ℕ). k ≤ MOST_LINK) (length-content V n h s) fit
 
 -- what has places is a directory
 pub kind_of_places : (V : View) (h : Held) (kind : Kind) (p : ℕ) → places_of (body_of V kind h) ≡ Some p → kind ≡ Directory
 kind_of_places V h Directory p is = refl
 kind_of_places V h File p is = absurd (let e : None ≡ Some p = is in cc)
+kind_of_places V h Link p is = absurd (let e : None ≡ Some p = is in cc)
 
 block-inside : (size j : ℕ) → (size ≤ 4096 * j) ⊎ (4096 * j < size) → (size ≤ 4096 * j → ⊥) → 4096 * j < size
 block-inside size j (inl after) not = absurd (not after)
@@ -101,7 +104,7 @@ module _ (V : View) (sound : IsSoundView V) where
       home = fit.home;
       place = fit.place;
       size = few-bytes V n h h.kind s s.whole fit.body;
-      whole = is-whole h.kind h.size s.whole;
+      sized = size-of V n h h.kind s s.whole fit.body;
       attributes = record { mode = fit.mode; owner = fit.owner; group = fit.group; mtime = fit.mtime; ctime = fit.ctime };
       born = let b = sound.fit.born n (node_of V h) node in omega (arith, b, generation);
       young = let y = sound.fit.young n in omega (arith, y, generation);
@@ -143,9 +146,10 @@ module _ (V : View) (disk : IsDisk V) (n : ℕ) (h : Held) (right : IsNode V n h
   after j far (inl none) = none
   after j far (inr some) = absurd (let low = (right.blocks j some).inside in omega (arith, low, far))
 
-  whole : (kind : Kind) (size : ℕ) → IsWholeSize kind size → kind ≡ Directory → (blocks : ℕ) × (size ≡ 4096 * blocks)
+  whole : (kind : Kind) (size : ℕ) → IsSizeOf kind size → kind ≡ Directory → (blocks : ℕ) × (size ≡ 4096 * blocks)
   whole Directory size is e = (size / 4096, omega (arith, is))
   whole File size is e = absurd (cc e)
+  whole Link size is e = absurd (cc e)
 
   pub sound-inode : IsSoundInode V n h
   sound-inode = record {
@@ -153,7 +157,7 @@ module _ (V : View) (disk : IsDisk V) (n : ℕ) (h : Held) (right : IsNode V n h
     there = λ j some. ((right.blocks j some).first, (right.blocks j some).last);
     after = λ j far. after j far (cases_eq (h.blocks j) 0);
     sized = λ j some. disk.sized (h.blocks j) (right.blocks j some).first (right.blocks j some).last;
-    whole = whole h.kind h.size right.within.whole;
+    whole = whole h.kind h.size right.within.sized;
   }
 
   few_of_bytes : (size : ℕ) → size ≤ 196608 → size / 8 ≤ 24576
@@ -163,8 +167,9 @@ module _ (V : View) (disk : IsDisk V) (n : ℕ) (h : Held) (right : IsNode V n h
   places size blocks is = omega (arith, is)
 
   body : (kind : Kind) → kind ≡ h.kind → IsFitBody (body_of V kind h)
-  body Directory is = let w = whole h.kind h.size right.within.whole (sym is) in (few_of_bytes h.size right.within.size, (w.0, places h.size w.0 w.1))
+  body Directory is = let w = whole h.kind h.size right.within.sized (sym is) in (few_of_bytes h.size right.within.size, (w.0, places h.size w.0 w.1))
   body File is = subst (λ (k : ℕ). k ≤ MOST_BYTES) (sym (length-content V n h sound-inode)) right.within.size
+  body Link is = let few : h.size ≤ MOST_LINK = subst (λ kind. IsSizeOf kind h.size) (sym is) right.within.sized in subst (λ (k : ℕ). k ≤ MOST_LINK) (sym (length-content V n h sound-inode)) few
 
   pub fit-node : IsFit (node_of V h)
   fit-node = record {

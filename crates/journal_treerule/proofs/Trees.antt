@@ -5,7 +5,7 @@ use Rattle.std.specs.Prelude.{option_map}
 use Rattle.std.proofs.lemmas.Bool.{cases_eq, cases_lt, eq-eqb, ne_eqb}
 use Rattle.journal_tree.specs.declared.limits.TheConstants.{ROOT, MOST_PLACES}
 use Rattle.journal_tree.specs.declared.reply.Kind.{Kind}
-use Rattle.journal_tree.specs.declared.reply.Kind.TheVariants.{Directory, File}
+use Rattle.journal_tree.specs.declared.reply.Kind.TheVariants.{Directory, File, Link}
 use Rattle.journal_tree.specs.Trees.{Home, Node, root_home, places_of}
 use Rattle.journal_tree.specs.Rule.{Stem, stem_of, stems, HasTree, IsBelow}
 use Rattle.journal_tree.specs.Fit.{IsFit, HasFit}
@@ -57,6 +57,7 @@ used-is V n is = by (V.inode n) refl
 pub directory-is : (kind : Kind) → is_of_directory kind ≡ true → kind ≡ Directory
 directory-is Directory is = refl
 directory-is File is = absurd (let e : false ≡ true = is in cc)
+directory-is Link is = absurd (let e : false ≡ true = is in cc)
 
 pub is-directory : (V : View) (d : ℕ) (h : Held) → V.inode d ≡ used h → h.kind ≡ Directory → is_directory (V.inode d) ≡ true
 is-directory V d h is kind = ap is_directory is ∙ ap is_of_directory kind
@@ -74,6 +75,7 @@ entry-of-directory V d place = by (V.inode d) refl
     by_kind : (h : Held) → V.inode d ≡ used h → (kind : Kind) → h.kind ≡ kind → IsDirectoryAt V d ⊎ (entry_at V d place ≡ no_entry)
     by_kind h at Directory kind = inl (record { held = h; is = at; kind = kind })
     by_kind h at File kind = inr (ap (λ x. entry_of V x place) at ∙ ap (λ k. entry_by V k h place) kind)
+    by_kind h at Link kind = inr (ap (λ x. entry_of V x place) at ∙ ap (λ k. entry_by V k h place) kind)
 
     by : (x : Seen) → V.inode d ≡ x → IsDirectoryAt V d ⊎ (entry_at V d place ≡ no_entry)
     by (free g) at = inr (ap (λ x. entry_of V x place) at)

@@ -2,7 +2,7 @@
 use Rattle.std.specs.Prelude.{ℕ, ◌≡◌, ◌≢◌, ◌<◌, ◌≤◌, ◌+◌, ◌/◌, ◌%◌, ◌↔◌, Bool, true, false, List, Option, Some, All, Contains, get_or, bytes_eq}
 use Rattle.std.specs.List.{list_any}
 use Rattle.journal_tree.specs.declared.reply.Kind.{Kind}
-use Rattle.journal_tree.specs.declared.reply.Kind.TheVariants.{Directory, File}
+use Rattle.journal_tree.specs.declared.reply.Kind.TheVariants.{Directory, File, Link}
 use Rattle.journal_tree.specs.Trees.{Home}
 use Rattle.journal_treestore.specs.declared.entry.Entry.{Entry}
 use Rattle.journal_treestore.specs.declared.entry.TheConstants.{PLACES}
@@ -42,6 +42,7 @@ pub record AreEntriesSound (V : View) (d to : ℕ) : Type 0 where
 abbrev pub is_of_directory : Kind → Bool
 is_of_directory Directory = true
 is_of_directory File = false
+is_of_directory Link = false
 
 abbrev pub is_directory : Seen → Bool
 is_directory (free g) = false

@@ -2,10 +2,10 @@
 -- each inode alone.
 use Rattle.std.specs.Prelude.{ℕ, ◌≡◌, ◌≢◌, ◌<◌, ◌≤◌, ◌+◌, ◌*◌, ◌%◌, ◌^◌, ◌==◌, ◌&&◌, Bool, true, false, List, [], ◌∷◌, length, get_or, IsTrue}
 use Rattle.journal_world.specs.Maps.{Map}
-use Rattle.journal_tree.specs.declared.limits.TheConstants.{ROOT, MOST_BYTES, MOST_PLACES, MODES, LAST_GENERATION}
+use Rattle.journal_tree.specs.declared.limits.TheConstants.{ROOT, MOST_BYTES, MOST_LINK, MOST_PLACES, MODES, LAST_GENERATION}
 use Rattle.journal_tree.specs.declared.reply.Attributes.{Attributes}
 use Rattle.journal_tree.specs.declared.reply.Kind.{Kind}
-use Rattle.journal_tree.specs.declared.reply.Kind.TheVariants.{Directory, File}
+use Rattle.journal_tree.specs.declared.reply.Kind.TheVariants.{Directory, File, Link}
 use Rattle.journal_tree.specs.Trees.{Home}
 use Rattle.journal_tree.specs.Times.{IsTime}
 use Rattle.journal_tree.specs.Fit.{IsWord, IsFitHome}
@@ -39,10 +39,11 @@ pub record IsInPlace (n : ℕ) (h : Held) : Type 0 where
   pub kind : n ≡ ROOT → h.kind ≡ Directory
   pub home : n ≡ ROOT → IsRootHome h.home
 
--- A directory has whole blocks
-abbrev pub IsWholeSize : Kind → ℕ → Type 0
-IsWholeSize Directory size = size % 4096 ≡ 0
-IsWholeSize File size = Unit {0}
+-- A directory has whole blocks, and the text of a link is not too long
+abbrev pub IsSizeOf : Kind → ℕ → Type 0
+IsSizeOf Directory size = size % 4096 ≡ 0
+IsSizeOf File size = Unit {0}
+IsSizeOf Link size = size ≤ MOST_LINK
 
 -- Attributes are within their bounds
 pub record AreAttributesFit (a : Attributes) : Type 0 where
@@ -57,7 +58,7 @@ pub record IsWithinBounds (h : Held) : Type 0 where
   pub home : IsFitHome h.home
   pub place : h.home.place < MOST_PLACES
   pub size : h.size ≤ MOST_BYTES
-  pub whole : IsWholeSize h.kind h.size
+  pub sized : IsSizeOf h.kind h.size
   pub attributes : AreAttributesFit h.attributes
   pub born : 1 ≤ h.generation
   pub young : h.generation ≤ LAST_GENERATION

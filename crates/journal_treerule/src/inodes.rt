@@ -10,11 +10,11 @@ ghost use Rattle.journal_treestore.specs.Views.{held_of};
 ghost use Rattle.journal_treestore.specs.declared.inode.TheConstants.{DIRECT_BLOCKS};
 ghost use Rattle.journal_treeobjects.specs.Maps.{view_of};
 ghost use Rattle.journal_treerule.specs.Directories.{is_of_directory};
-ghost use Rattle.journal_treerule.specs.Parts.{IsNode, IsInPlace, IsWithinBounds, AreAttributesFit, IsWholeSize, is_dots, IsSoundBlock, AreBlocksSound, IsRightInode, AreInodesRight, is_used, AreInUse};
+ghost use Rattle.journal_treerule.specs.Parts.{IsNode, IsInPlace, IsWithinBounds, AreAttributesFit, IsSizeOf, is_dots, IsSoundBlock, AreBlocksSound, IsRightInode, AreInodesRight, is_used, AreInUse};
 
 use crate::reading::{read_inode, read_owner};
 use journal_tree::{
-    Attributes, Kind, MODES, MOST_BYTES, MOST_NAME, MOST_PLACES, NANOS, ROOT, Time,
+    Attributes, Kind, MODES, MOST_BYTES, MOST_LINK, MOST_NAME, MOST_PLACES, NANOS, ROOT, Time,
 };
 use journal_treestore::{Cut, DIRECT_BLOCKS, Head, Inode, Owner, name_in};
 use journal_world::{BLOCK_BYTES, ObjectReader, Refusal};
@@ -180,11 +180,12 @@ fn is_time(time: Time) -> bool
 
 // True if a node of the kind may have the size.
 fn has_size(kind: Kind, size: u64) -> bool
-    ensures { IsTrue result ↔ ((size ≤ MOST_BYTES) × IsWholeSize kind size) }
+    ensures { IsTrue result ↔ ((size ≤ MOST_BYTES) × IsSizeOf kind size) }
 {
     match kind {
         Kind::Directory => size <= MOST_BYTES && size % BLOCK == 0,
         Kind::File => size <= MOST_BYTES,
+        Kind::Link => size <= MOST_LINK,
     }
 }
 
@@ -194,7 +195,7 @@ pub(crate) fn is_directory(kind: Kind) -> bool
 {
     match kind {
         Kind::Directory => true,
-        Kind::File => false,
+        Kind::File | Kind::Link => false,
     }
 }
 

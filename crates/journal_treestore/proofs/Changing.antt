@@ -2,9 +2,9 @@
 use Rattle.std.proofs.Common.{◌≡◌, ◌≢◌, ℕ, zero, suc, ◌+◌, ◌*◌, ◌/◌, ◌%◌, ◌<◌, Bool, true, false, cond, eqb, List, ◌++◌, length, take, Some, refl, sym, ap, subst, ◌⊎◌, inl, inr, ◌∙◌, arith}
 use Rattle.std.proofs.lemmas.Bool.{cases_eq, eq-eqb, ne_eqb}
 use Rattle.journal_tree.specs.declared.reply.Kind.{Kind}
-use Rattle.journal_tree.specs.declared.reply.Kind.TheVariants.{Directory, File}
+use Rattle.journal_tree.specs.declared.reply.Kind.TheVariants.{Directory, File, Link}
 use Rattle.journal_tree.specs.Trees.{with_slot}
-use Rattle.journal_tree.specs.Trees.Body.{file}
+use Rattle.journal_tree.specs.Trees.Body.{file, link}
 use Rattle.journal_treestore.specs.declared.entry.Entry.{Entry}
 use Rattle.journal_treestore.specs.declared.owner.Owner.{Owner}
 use Rattle.journal_treestore.specs.Entries.{no_entry, entry_from, with_entry}
@@ -113,6 +113,7 @@ module _ (V : View) (d : ℕ) (h : Held) (j : ℕ) (heads : AreInodes V) (is : V
       body : (i : ℕ) (g : Held) → V.inode i ≡ used g → (kind_is : Kind) → g.kind ≡ kind_is → body_of (with_block V (h.blocks j) v) kind_is g ≡ body_of V kind_is g
       body i g at Directory of = refl
       body i g at File of = ap (λ w. file (take g.size w)) (bytes_of-other v i g at (λ e. absurd (cc (sym of ∙ e ∙ kind))) ((g.size + 4095) / 4096))
+      body i g at Link of = ap (λ w. link (take g.size w)) (bytes_of-other v i g at (λ e. absurd (cc (sym of ∙ e ∙ kind))) ((g.size + 4095) / 4096))
 
       by : (i : ℕ) (x : Seen) → V.inode i ≡ x → slot_of (with_block V (h.blocks j) v) x ≡ slot_of V x
       by i (free g) at = refl
@@ -161,6 +162,7 @@ module _ (V : View) (d : ℕ) (h : Held) (j : ℕ) (heads : AreInodes V) (is : V
       by_kind : (a p : ℕ) (g : Held) → V.inode a ≡ used g → ((a ≡ d) → (p ≡ 512 * j + q) → ⊥) → (kind_is : Kind)
           → entry_by (with_block V (h.blocks j) (with_entry (V.block (h.blocks j)) q e)) kind_is g p ≡ entry_by V kind_is g p
       by_kind a p g at apart File = refl
+      by_kind a p g at apart Link = refl
       by_kind a p g at apart Directory = in_block a p g at apart (cases_eq (g.blocks (p / 512)) 0) (cases_eq (g.blocks (p / 512)) (h.blocks j))
 
       others : (a p : ℕ) → ((a ≡ d) → (p ≡ 512 * j + q) → ⊥) → (x : Seen) → V.inode a ≡ x

@@ -7,7 +7,7 @@ use Rattle.std.proofs.lemmas.Nat.{from_le_bytes-to_le_bytes_2, from_le_bytes-to_
 use Rattle.journal_tree.specs.declared.time.Time.{Time}
 use Rattle.journal_tree.specs.declared.reply.Attributes.{Attributes}
 use Rattle.journal_tree.specs.declared.reply.Kind.{Kind}
-use Rattle.journal_tree.specs.declared.reply.Kind.TheVariants.{Directory, File}
+use Rattle.journal_tree.specs.declared.reply.Kind.TheVariants.{Directory, File, Link}
 use Rattle.journal_treestore.specs.declared.inode.TheConstants.{DIRECT_BLOCKS}
 use Rattle.journal_treestore.specs.declared.inode.Head.{Head}
 use Rattle.journal_treestore.specs.declared.inode.Inode.{Inode}
@@ -176,7 +176,7 @@ head_read h kind length name room = λ i. record {
 
 -- what the kind says of the rest
 abbrev inode_by : ℕ → List ℕ → Inode
-inode_by k v = cond (k == 1) (Used (head_from Directory v)) (cond (k == 2) (Used (head_from File v)) (Free (word_at v 4)))
+inode_by k v = cond (k == 1) (Used (head_from Directory v)) (cond (k == 2) (Used (head_from File v)) (cond (k == 3) (Used (head_from Link v)) (Free (word_at v 4))))
 
 by_kind : (k : ℕ) (v : List ℕ) → get_or v 0 0 ≡ k → inode_from v ≡ inode_by k v
 unfolding inode_from
@@ -198,6 +198,9 @@ inode_read (Used h) name room = by h.kind refl
         ∙ ap (λ k. Used (head_from k (inode_bytes (Used h) name))) (sym is) ∙ ap Used (head_read h (kind_byte h.kind) (length name) name room)
     by File is =
         by_kind 2 (inode_bytes (Used h) name) (byte 2 (ap kind_byte is))
+        ∙ ap (λ k. Used (head_from k (inode_bytes (Used h) name))) (sym is) ∙ ap Used (head_read h (kind_byte h.kind) (length name) name room)
+    by Link is =
+        by_kind 3 (inode_bytes (Used h) name) (byte 3 (ap kind_byte is))
         ∙ ap (λ k. Used (head_from k (inode_bytes (Used h) name))) (sym is) ∙ ap Used (head_read h (kind_byte h.kind) (length name) name room)
 
 -- what is read of the bytes that were written of an inode is that inode

@@ -6,7 +6,7 @@ use Rattle.std.proofs.lemmas.Bool.{eq-eqb, ne_eqb, lt-ltb}
 use Rattle.journal_tree.specs.declared.time.Time.{Time}
 use Rattle.journal_tree.specs.Times.{time_of_names}
 use Rattle.journal_tree.specs.Trees.{Body, Node, Slot, Tree, with_node}
-use Rattle.journal_tree.specs.Trees.Body.{directory, file}
+use Rattle.journal_tree.specs.Trees.Body.{directory, file, link}
 use Rattle.journal_tree.specs.Op.{MayTakePlace}
 use Rattle.journal_tree.specs.Changes.{with_times, grown, grown_body, touched, touch, opened, touch_place}
 use Rattle.journal_tree.specs.Renames.{Move, rehung, moved}
@@ -124,6 +124,7 @@ grown-again place places = by (nat_lt place places) refl
 body-again : (place : ℕ) (b : Body) → grown_body place (grown_body place b) ≡ grown_body place b
 body-again place (directory places) = ap directory (grown-again place places)
 body-again place (file bytes) = refl
+body-again place (link text) = refl
 
 node-again : (place : ℕ) (now : Time) (o : Option Node) → option_map (opened place now) (option_map (widened place) o) ≡ option_map (opened place now) o
 node-again place now None = refl

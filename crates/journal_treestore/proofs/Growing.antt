@@ -1,29 +1,20 @@
 -- A directory gets its next block.
-use Rattle.std.proofs.Common.{◌≡◌, ◌≢◌, ℕ, zero, suc, ◌+◌, ◌*◌, ◌/◌, ◌%◌, ◌<◌, ◌≤◌, cond, eqb, ◌++◌, length, take, Some, refl, sym, ap, subst, ◌⊎◌, inl, inr, ◌∙◌, arith}
+use Rattle.std.proofs.Common.{◌≡◌, ◌≢◌, ℕ, ◌+◌, ◌*◌, ◌/◌, ◌%◌, ◌<◌, ◌≤◌, cond, length, Some, refl, sym, ap, subst, ◌⊎◌, inl, inr, ◌∙◌, arith}
 use Rattle.std.specs.Prelude.{option_map}
 use Rattle.std.proofs.lemmas.Bool.{cases_eq, eq-eqb, ne_eqb, le-ltb}
-use Rattle.journal_tree.specs.declared.reply.Kind.{Kind}
-use Rattle.journal_tree.specs.declared.reply.Kind.TheVariants.{Directory, File}
 use Rattle.journal_tree.specs.Trees.{Body, with_slot}
-use Rattle.journal_tree.specs.Trees.Body.{directory, file}
+use Rattle.journal_tree.specs.Trees.Body.{directory}
 use Rattle.journal_tree.specs.Changes.{grown_body}
 use Rattle.journal_treestore.specs.declared.owner.Owner.{Owner}
 use Rattle.journal_treestore.specs.Entries.{no_entry, entry_from}
-use Rattle.journal_treestore.specs.Views.{Held, Seen, View, with_owner, with_block, zero_block, bytes_in, bytes_of, node_of, body_of, slot_of, tree_of, entry_in, entry_by, entry_of, entry_at, home_in, homes}
-use Rattle.journal_treestore.specs.Views.Seen.{free, used}
+use Rattle.journal_treestore.specs.Views.{Held, Seen, View, with_owner, with_block, zero_block, node_of, body_of, slot_of, tree_of, entry_in, entry_by, entry_of, entry_at, home_in, homes}
+use Rattle.journal_treestore.specs.Views.Seen.{used}
 use Rattle.journal_treestore.specs.Sound.{IsHung, IsSoundInode, IsSoundView}
-use Rattle.journal_treestore.specs.Steps.{IsUnowned, Growth, IsGrowth, grown_held, grown_view, widened, widen, GrowingShows}
+use Rattle.journal_treestore.specs.Steps.{Growth, IsGrowth, grown_held, grown_view, widened, widen, GrowingShows}
 use Rattle.journal_treestore.proofs.Recording.{zero-entries, zero-long}
 use Rattle.journal_treestore.proofs.Changing.{tree-inode, homes-inode, AreInodes, inode-same, inode-other}
 use Rattle.journal_treestore.proofs.Planting.{with_home-again}
-
--- a block of which the named owner says that it has it not is nobody's
-pub nobody_has : (V : View) (b : ℕ) → IsSoundView V → b ≢ 0 → IsUnowned V b → (n : ℕ) (h : Held) (j : ℕ) → V.inode n ≡ used h → h.blocks j ≢ b
-nobody_has V b sound some unowned n h j is has =
-    unowned.not_at h (ap V.inode (ap (λ (o : Owner). o.number) owner) ∙ is) (ap h.blocks (ap (λ (o : Owner). o.place) owner) ∙ has)
-  where
-    owner : V.owner b ≡ record { number = n; place = j }
-    owner = ap V.owner (sym has) ∙ (sound.inodes n h is).owned j (λ z. some (sym has ∙ z))
+use Rattle.journal_treestore.proofs.Spare.{nobody_has, spare-block, spare-block-here, spare-owner, spare-owner-here, inodes-spare, tree-spare, entry-spare, entries-spare}
 
 module _ (V : View) (sound : IsSoundView V) (g : Growth) (growth : IsGrowth V g) where
   abbrev V1 : View
@@ -35,17 +26,20 @@ module _ (V : View) (sound : IsSoundView V) (g : Growth) (growth : IsGrowth V g)
   apart : (n : ℕ) (h : Held) (j : ℕ) → V.inode n ≡ used h → h.blocks j ≢ g.b
   apart n h j is = nobody_has V g.b sound growth.some growth.unowned n h j is
 
+  abbrev owner : Owner
+  owner = record { number = g.d; place = g.j }
+
   block-other : (b : ℕ) → b ≢ g.b → V1.block b ≡ V.block b
-  block-other b other = ap (λ t. cond t (zero_block) (V.block b)) (ne_eqb b g.b other)
+  block-other b other = spare-block V sound g.b growth.some growth.unowned (zero_block) owner b other
 
   block-here : V1.block g.b ≡ zero_block
-  block-here = ap (λ t. cond t (zero_block) (V.block g.b)) (eq-eqb g.b g.b refl)
+  block-here = spare-block-here V sound g.b growth.some growth.unowned (zero_block) owner
 
   owner-other : (b : ℕ) → b ≢ g.b → V1.owner b ≡ V.owner b
-  owner-other b other = ap (λ t. cond t (record { number = g.d; place = g.j }) (V.owner b)) (ne_eqb b g.b other)
+  owner-other b other = spare-owner V sound g.b growth.some growth.unowned (zero_block) owner b other
 
   owner-here : V1.owner g.b ≡ record { number = g.d; place = g.j }
-  owner-here = ap (λ t. cond t (record { number = g.d; place = g.j }) (V.owner g.b)) (eq-eqb g.b g.b refl)
+  owner-here = spare-owner-here V sound g.b growth.some growth.unowned (zero_block) owner
 
   blocks-other : (l : ℕ) → l ≢ g.j → (grown_held g).blocks l ≡ g.h.blocks l
   blocks-other l other = ap (λ t. cond t g.b (g.h.blocks l)) (ne_eqb l g.j other)
@@ -54,16 +48,8 @@ module _ (V : View) (sound : IsSoundView V) (g : Growth) (growth : IsGrowth V g)
   blocks-here = ap (λ t. cond t g.b (g.h.blocks g.j)) (eq-eqb g.j g.j refl)
 
   -- the inodes are sound
-  others : (n : ℕ) (h : Held) → V.inode n ≡ used h → IsSoundInode V1 n h
-  others n h is =
-      let s = sound.inodes n h is in
-      record {
-        owned = λ j some. owner-other (h.blocks j) (apart n h j is) ∙ s.owned j some;
-        there = s.there;
-        after = s.after;
-        sized = λ j some. ap length (block-other (h.blocks j) (apart n h j is)) ∙ s.sized j some;
-        whole = s.whole;
-      }
+  others : AreInodes V1
+  others = inodes-spare V sound g.b growth.some growth.unowned (zero_block) owner
 
   grown : IsSoundInode V1 g.d (grown_held g)
   grown = record {
@@ -108,32 +94,11 @@ module _ (V : View) (sound : IsSoundView V) (g : Growth) (growth : IsGrowth V g)
           carry (subst (λ n. IsSoundInode V1 n h) (sym same) (subst (IsSoundInode V1 g.d) q grown))
       by (inr other) = carry (others n h (sym (inode-other V1 g.d n (used (grown_held g)) other) ∙ is))
 
-  -- what nodes hold stays
-  bytes-kept : (n : ℕ) (h : Held) → V.inode n ≡ used h → (l : ℕ) → bytes_in V1 (h.blocks l) ≡ bytes_in V (h.blocks l)
-  bytes-kept n h is l = ap (λ w. cond (eqb (h.blocks l) 0) (zero_block) w) (block-other (h.blocks l) (apart n h l is))
-
-  bytes_of-kept : (n : ℕ) (h : Held) → V.inode n ≡ used h → (l : ℕ) → bytes_of V1 h.blocks l ≡ bytes_of V h.blocks l
-  bytes_of-kept n h is zero = refl
-  bytes_of-kept n h is (suc l) =
-      ap (λ w. w ++ bytes_in V1 (h.blocks l)) (bytes_of-kept n h is l)
-      ∙ ap (λ w. bytes_of V h.blocks l ++ w) (bytes-kept n h is l)
-
-  tree1 : tree_of V1 ≡ tree_of V
-  tree1 = λ z. record { numbers = V.numbers; blocks = V.data_blocks; at = λ i. by i (V.inode i) refl z }
-    where
-      body : (i : ℕ) (h : Held) → V.inode i ≡ used h → (kind : Kind) → body_of V1 kind h ≡ body_of V kind h
-      body i h at Directory = refl
-      body i h at File = ap (λ w. file (take h.size w)) (bytes_of-kept i h at ((h.size + 4095) / 4096))
-
-      by : (i : ℕ) (x : Seen) → V.inode i ≡ x → slot_of V1 x ≡ slot_of V x
-      by i (free a) at = refl
-      by i (used h) at = λ z. record { generation = h.generation; node = Some (record { attributes = h.attributes; home = h.home; body = body i h at h.kind z }) }
-
   -- the tree's directory has the places
   pub tree-grown : (q : ℕ) → q < 512 → tree_of (grown_view V g) ≡ widen (tree_of V) g.d (512 * g.j + q)
   tree-grown q low =
       tree-inode V1 g.d (used (grown_held g))
-      ∙ ap (λ T. with_slot T g.d (slot_of V1 (used (grown_held g)))) tree1
+      ∙ ap (λ T. with_slot T g.d (slot_of V1 (used (grown_held g)))) (tree-spare V sound g.b growth.some growth.unowned (zero_block) owner)
       ∙ ap (λ x. with_slot (tree_of V) g.d (record { generation = g.h.generation; node = Some x })) (sym node)
       ∙ ap (λ (y : Seen). with_slot (tree_of V) g.d (record { generation = (slot_of V y).generation; node = option_map (widened (512 * g.j + q)) (slot_of V y).node })) (sym growth.is)
     where
@@ -157,17 +122,6 @@ module _ (V : View) (sound : IsSoundView V) (g : Growth) (growth : IsGrowth V g)
   pub entries-grown : entry_at (grown_view V g) ≡ entry_at V
   entries-grown = λ z. λ a. λ p. each a p (cases_eq a g.d) z
     where
-      in_old : (a p : ℕ) (h : Held) → V.inode a ≡ used h → entry_in V1 (h.blocks (p / 512)) (p % 512) ≡ entry_in V (h.blocks (p / 512)) (p % 512)
-      in_old a p h at = ap (λ w. cond (eqb (h.blocks (p / 512)) 0) no_entry (entry_from w (p % 512))) (block-other (h.blocks (p / 512)) (apart a h (p / 512) at))
-
-      other_inodes : (a p : ℕ) (x : Seen) → V.inode a ≡ x → entry_of V1 x p ≡ entry_of V x p
-      other_inodes a p (free f) at = refl
-      other_inodes a p (used h) at = by h.kind
-        where
-          by : (kind : Kind) → entry_by V1 kind h p ≡ entry_by V kind h p
-          by Directory = in_old a p h at
-          by File = refl
-
       new_block : (p : ℕ) → (p / 512 ≡ g.j) ⊎ (p / 512 ≡ g.j → ⊥) → entry_in V1 ((grown_held g).blocks (p / 512)) (p % 512) ≡ entry_in V (g.h.blocks (p / 512)) (p % 512)
       new_block p (inl same) =
           ap (λ b. entry_in V1 b (p % 512)) (ap (grown_held g).blocks same ∙ blocks-here)
@@ -175,7 +129,7 @@ module _ (V : View) (sound : IsSoundView V) (g : Growth) (growth : IsGrowth V g)
           ∙ ap (λ w. entry_from w (p % 512)) block-here
           ∙ zero-entries (p % 512) (omega arith)
           ∙ sym (ap (λ b. entry_in V b (p % 512)) (old.after (p / 512) (let e = growth.next in omega (arith, e, same))))
-      new_block p (inr other) = ap (λ b. entry_in V1 b (p % 512)) (blocks-other (p / 512) other) ∙ in_old g.d p g.h growth.is
+      new_block p (inr other) = ap (λ b. entry_in V1 b (p % 512)) (blocks-other (p / 512) other) ∙ entry-spare V sound g.b growth.some growth.unowned (zero_block) owner g.d p g.h growth.is
 
       each : (a p : ℕ) → (a ≡ g.d) ⊎ (a ≡ g.d → ⊥) → entry_at (grown_view V g) a p ≡ entry_at V a p
       each a p (inl same) =
@@ -184,7 +138,7 @@ module _ (V : View) (sound : IsSoundView V) (g : Growth) (growth : IsGrowth V g)
           ∙ ap (λ kind. entry_by V1 kind (grown_held g) p) growth.kind
           ∙ new_block p (cases_eq (p / 512) g.j)
           ∙ sym (ap (λ a. entry_at V a p) same ∙ ap (λ y. entry_of V y p) growth.is ∙ ap (λ kind. entry_by V kind g.h p) growth.kind)
-      each a p (inr other) = ap (λ y. entry_of V1 y p) (inode-other V1 g.d a (used (grown_held g)) other) ∙ other_inodes a p (V.inode a) refl
+      each a p (inr other) = ap (λ y. entry_of V1 y p) (inode-other V1 g.d a (used (grown_held g)) other) ∙ entries-spare V sound g.b growth.some growth.unowned (zero_block) owner a p (V.inode a) refl
 
   pub homes-grown : homes (grown_view V g) ≡ homes V
   homes-grown = homes-inode V1 g.d (used (grown_held g)) ∙ with_home-again (homes V) g.d (Some g.h.home) (ap home_in growth.is)

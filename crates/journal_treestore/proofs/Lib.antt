@@ -10,6 +10,8 @@ pub mod Looking
 pub mod Hanging
 pub mod Changing
 pub mod Planting
+pub mod Spare
+pub mod Filling
 pub mod Placed
 pub mod Removing
 pub mod Growing

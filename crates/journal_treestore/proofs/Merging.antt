@@ -11,7 +11,7 @@ use Rattle.journal_treestore.specs.Steps.{with_moment, Seat, IsSeat, Growth, IsG
 use Rattle.journal_treestore.specs.Moves.{with_put, dropped_view, IsPlaced, rehomed, goal_home, moved_view}
 use Rattle.journal_treestore.proofs.Recording.{with-twice}
 use Rattle.journal_treestore.proofs.Changing.{one_owner}
-use Rattle.journal_treestore.proofs.Growing.{nobody_has}
+use Rattle.journal_treestore.proofs.Spare.{nobody_has}
 use Rattle.journal_treestore.proofs.Following.{goal_of, further_goal}
 
 -- ── a block over which an entry is put twice ──

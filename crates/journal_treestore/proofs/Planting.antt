@@ -7,10 +7,10 @@ use Rattle.journal_tree.specs.declared.limits.TheConstants.{LAST_GENERATION, MOS
 use Rattle.journal_tree.specs.declared.time.Time.{Time}
 use Rattle.journal_tree.specs.declared.reply.Attributes.{Attributes}
 use Rattle.journal_tree.specs.declared.reply.Kind.{Kind}
-use Rattle.journal_tree.specs.declared.reply.Kind.TheVariants.{Directory, File}
+use Rattle.journal_tree.specs.declared.reply.Kind.TheVariants.{Directory, File, Link}
 use Rattle.journal_tree.specs.Times.{time_of_names}
 use Rattle.journal_tree.specs.Trees.{Home, Body, with_slot}
-use Rattle.journal_tree.specs.Trees.Body.{directory, file}
+use Rattle.journal_tree.specs.Trees.Body.{directory, file, link}
 use Rattle.journal_tree.specs.Fit.{IsFitBody}
 use Rattle.journal_tree.specs.Op.{IsRoom}
 use Rattle.journal_tree.specs.Changes.{with_times, grown_body, opened, touch_place, planted}
@@ -28,10 +28,12 @@ use Rattle.journal_treestore.proofs.Changing.{tree-inode, homes-inode, entries-i
 pub entry_by-moment : (V : View) (h : Held) (now : Time) (kind : Kind) (place : ℕ) → entry_by V kind (with_moment h now) place ≡ entry_by V kind h place
 entry_by-moment V h now Directory place = refl
 entry_by-moment V h now File place = refl
+entry_by-moment V h now Link place = refl
 
 no_entries : (V : View) (s : Spot) (name : List ℕ) (a : Attributes) (kind : Kind) (size : ℕ) (place : ℕ) → entry_by V kind (new_held s name a kind size) place ≡ record { number = 0; tag = 0 }
 no_entries V s name a Directory size place = refl
 no_entries V s name a File size place = refl
+no_entries V s name a Link size place = refl
 
 -- a node without blocks has zeros
 bytes_of-holes : (V : View) (k : ℕ) → bytes_of V (λ j. 0) k ≡ replicate (4096 * k) 0
@@ -142,6 +144,7 @@ module _ (V : View) (sound : IsSoundView V) (s : Spot) (spot : IsSpot V s) where
         same_body : (k : Kind) → kind ≡ k → body_of V2 k (new_held s name a kind size) ≡ new_body k size
         same_body Directory is = ap (λ n. directory (n / 8)) (plain is)
         same_body File is = ap file (content-holes V2 size)
+        same_body Link is = ap link (content-holes V2 size)
 
         generation : ((touch_place (tree_of V) s.d (place_of s) now).at s.n).generation ≡ s.generation
         generation =

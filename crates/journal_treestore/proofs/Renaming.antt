@@ -4,10 +4,10 @@ use Rattle.std.specs.Prelude.{option_map}
 use Rattle.std.proofs.lemmas.Bool.{eq-eqb}
 use Rattle.journal_tree.specs.declared.time.Time.{Time}
 use Rattle.journal_tree.specs.declared.reply.Kind.{Kind}
-use Rattle.journal_tree.specs.declared.reply.Kind.TheVariants.{Directory, File}
+use Rattle.journal_tree.specs.declared.reply.Kind.TheVariants.{Directory, File, Link}
 use Rattle.journal_tree.specs.Times.{time_of_change, time_of_names}
 use Rattle.journal_tree.specs.Trees.{Home, Body, Node, Tree, with_slot, with_node}
-use Rattle.journal_tree.specs.Trees.Body.{directory, file}
+use Rattle.journal_tree.specs.Trees.Body.{directory, file, link}
 use Rattle.journal_tree.specs.Changes.{with_times, touched, touch, touch_place}
 use Rattle.journal_tree.specs.Renames.{with_ctime, rehung, moved}
 use Rattle.journal_tree.proofs.Changing.{same_generation}
@@ -54,6 +54,7 @@ zero_gone H n is = by (eqb 0 n)
 pub entry_by-rehomed : (V : View) (g : Held) (home : Home) (now : Time) (kind : Kind) (place : ℕ) → entry_by V kind (rehomed g home now) place ≡ entry_by V kind g place
 entry_by-rehomed V g home now Directory place = refl
 entry_by-rehomed V g home now File place = refl
+entry_by-rehomed V g home now Link place = refl
 
 -- it is as sound as before
 pub inode-moment : (V : View) (d : ℕ) (h : Held) (now : Time) → IsSoundInode V d h → (g : Held) → used (with_moment h now) ≡ used g → IsSoundInode V d g
@@ -76,10 +77,12 @@ bytes_of-inode V n x blocks (suc l) = ap (λ w. w ++ bytes_in V (blocks l)) (byt
 pub body-inode : (V : View) (n : ℕ) (x : Seen) (g : Held) (kind : Kind) → body_of (with_inode V n x) kind g ≡ body_of V kind g
 body-inode V n x g Directory = refl
 body-inode V n x g File = ap (λ w. file (take g.size w)) (bytes_of-inode V n x g.blocks ((g.size + 4095) / 4096))
+body-inode V n x g Link = ap (λ w. link (take g.size w)) (bytes_of-inode V n x g.blocks ((g.size + 4095) / 4096))
 
 body-rehomed : (V : View) (g : Held) (home : Home) (now : Time) (kind : Kind) → body_of V kind (rehomed g home now) ≡ body_of V kind g
 body-rehomed V g home now Directory = refl
 body-rehomed V g home now File = refl
+body-rehomed V g home now Link = refl
 
 abbrev body_in : Option Node → Body
 body_in None = directory 0

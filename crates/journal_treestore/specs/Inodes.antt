@@ -5,7 +5,7 @@ use Rattle.std.specs.Int.{w16, w32, w64, to_le_bytes}
 use Rattle.journal_tree.specs.declared.time.Time.{Time}
 use Rattle.journal_tree.specs.declared.reply.Attributes.{Attributes}
 use Rattle.journal_tree.specs.declared.reply.Kind.{Kind}
-use Rattle.journal_tree.specs.declared.reply.Kind.TheVariants.{Directory, File}
+use Rattle.journal_tree.specs.declared.reply.Kind.TheVariants.{Directory, File, Link}
 use Rattle.journal_treestore.specs.declared.inode.TheConstants.{DIRECT_BLOCKS}
 use Rattle.journal_treestore.specs.declared.inode.Head.{Head}
 use Rattle.journal_treestore.specs.declared.inode.Inode.{Inode}
@@ -16,6 +16,7 @@ use Rattle.journal_treestore.specs.Bytes.{half_at, word_at, long_at}
 abbrev pub kind_byte : Kind → ℕ
 kind_byte Directory = 1
 kind_byte File = 2
+kind_byte Link = 3
 
 -- the first 48 bytes: kind, length of the name, mode, generation, size, owner, group, directory,
 -- place, mtime and ctime, little-endian
@@ -81,6 +82,7 @@ unfoldable pub inode_from : List ℕ → Inode
 inode_from v =
     if get_or v 0 0 == 1 then Used (head_from Directory v)
     else if get_or v 0 0 == 2 then Used (head_from File v)
+    else if get_or v 0 0 == 3 then Used (head_from Link v)
     else Free (word_at v 4)
 
 -- and its name

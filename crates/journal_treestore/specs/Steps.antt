@@ -1,14 +1,14 @@
--- The writes of calls, by steps: a node is put into a directory, a node is taken out of it, a
--- directory gets a block.
-use Rattle.std.specs.Prelude.{ℕ, ◌≡◌, ◌≢◌, ◌<◌, ◌≤◌, ◌+◌, ◌*◌, ◌==◌, if◌then◌else◌, List, replicate, option_map}
-use Rattle.journal_tree.specs.declared.limits.TheConstants.{LAST_GENERATION, MOST_PLACES}
+-- The writes of calls, by steps: a node is put into a directory, a symbolic link gets its text, a
+-- node is taken out, a directory gets a block.
+use Rattle.std.specs.Prelude.{ℕ, ◌≡◌, ◌≢◌, ◌<◌, ◌≤◌, ◌+◌, ◌*◌, ◌-◌, ◌==◌, if◌then◌else◌, List, ◌++◌, length, replicate, Some, option_map}
+use Rattle.journal_tree.specs.declared.limits.TheConstants.{LAST_GENERATION, MOST_LINK, MOST_PLACES}
 use Rattle.journal_tree.specs.declared.time.Time.{Time}
 use Rattle.journal_tree.specs.declared.reply.Attributes.{Attributes}
 use Rattle.journal_tree.specs.declared.reply.Kind.{Kind}
-use Rattle.journal_tree.specs.declared.reply.Kind.TheVariants.{Directory, File}
+use Rattle.journal_tree.specs.declared.reply.Kind.TheVariants.{Directory, File, Link}
 use Rattle.journal_tree.specs.declared.caller.Caller.{Caller}
 use Rattle.journal_tree.specs.Trees.{Home, Body, Node, Tree, with_node}
-use Rattle.journal_tree.specs.Trees.Body.{directory, file}
+use Rattle.journal_tree.specs.Trees.Body.{directory, file, link}
 use Rattle.journal_tree.specs.Times.{IsTime, time_of_names}
 use Rattle.journal_tree.specs.Changes.{with_times, grown_body, touch_place, planted, cut}
 use Rattle.journal_tree.specs.Fit.{IsCallable, IsCaller}
@@ -63,6 +63,7 @@ new_held s name a kind size = record { generation = s.generation + 1; attributes
 abbrev pub new_body : Kind → ℕ → Body
 new_body Directory size = directory 0
 new_body File size = file (replicate size 0)
+new_body Link size = link (replicate size 0)
 
 abbrev pub new_node : Spot → List ℕ → Attributes → Kind → ℕ → Node
 new_node s name a kind size = record { attributes = a; home = home_of s name; body = new_body kind size }
@@ -72,6 +73,53 @@ abbrev pub planted_view : View → Spot → List ℕ → Attributes → Kind →
 planted_view V s name a kind size now =
     with_inode (with_inode (with_block V (s.h.blocks s.j) (with_entry (V.block (s.h.blocks s.j)) s.q (entry_for s.n (home_of s name)))) s.d (used (with_moment s.h now)))
     s.n (used (new_held s name a kind size))
+
+-- ── a symbolic link gets its text ──
+
+-- The inode that the record of a block names has it not
+pub record IsUnowned (V : View) (b : ℕ) : Type 0 where
+  pub not_at : (h : Held) → V.inode (V.owner b).number ≡ used h → h.blocks (V.owner b).place ≢ b
+
+-- Block b becomes that of link n, with this text
+pub record Filling : Type 0 where
+  pub n : ℕ
+  pub h : Held
+  pub b : ℕ
+  pub text : List ℕ
+
+-- The link has no block yet, the text is as long as its size says, and nobody has the block
+pub record IsFilling (V : View) (f : Filling) : Type 0 where
+  pub is : V.inode f.n ≡ used f.h
+  pub kind : f.h.kind ≡ Link
+  pub none : f.h.blocks 0 ≡ 0
+  pub sized : f.h.size ≡ length f.text
+  pub long : 0 < length f.text
+  pub few : length f.text ≤ MOST_LINK
+  pub some : f.b ≢ 0
+  pub from : V.first_data ≤ f.b
+  pub to : f.b < V.first_data + V.data_blocks
+  pub unowned : IsUnowned V f.b
+
+abbrev pub filled_held : Filling → Held
+filled_held f = record {
+  generation = f.h.generation;
+  attributes = f.h.attributes;
+  home = f.h.home;
+  kind = f.h.kind;
+  size = f.h.size;
+  blocks = λ j. if j == 0 then f.b else f.h.blocks j;
+}
+
+-- the block of a text, with zeros after it
+abbrev pub text_block : List ℕ → List ℕ
+text_block text = text ++ replicate (4096 - length text) 0
+
+-- the block, its record, and the link's inode are written
+abbrev pub filled_view : View → Filling → View
+filled_view V f = with_inode (with_owner (with_block V f.b (text_block f.text)) f.b (record { number = f.n; place = 0 })) f.n (used (filled_held f))
+
+abbrev pub filled_node : Filling → Node
+filled_node f = record { attributes = f.h.attributes; home = f.h.home; body = link f.text }
 
 -- ── a node is taken out ──
 
@@ -105,10 +153,6 @@ cut_view V s now =
     with_inode (with_inode (with_block V (s.h.blocks s.j) (with_entry (V.block (s.h.blocks s.j)) s.q no_entry)) s.d (used (with_moment s.h now))) s.n (free s.g.generation)
 
 -- ── a directory gets its next block ──
-
--- The inode that the record of a block names has it not
-pub record IsUnowned (V : View) (b : ℕ) : Type 0 where
-  pub not_at : (h : Held) → V.inode (V.owner b).number ≡ used h → h.blocks (V.owner b).place ≢ b
 
 -- Block b becomes block j of directory d
 pub record Growth : Type 0 where
@@ -167,6 +211,10 @@ abbrev pub PlantingShows : Type 0
 PlantingShows = (V : View) (s : Spot) (name : List ℕ) (a : Attributes) (kind : Kind) (size : ℕ) (now : Time) → IsSoundView V → IsSpot V s → (kind ≡ Directory → size ≡ 0)
     → IsRoom (tree_of V) s.d (record { number = s.n; place = place_of s })
     × Shows (planted_view V s name a kind size now) (planted (touch_place (tree_of V) s.d (place_of s) now) s.n (new_node s name a kind size))
+
+-- A link that gets its block has the text
+abbrev pub FillingShows : Type 0
+FillingShows = (V : View) (f : Filling) → IsSoundView V → IsFilling V f → Shows (filled_view V f) (with_node (tree_of V) f.n (Some (filled_node f)))
 
 -- A node that is taken out is no longer in the tree
 abbrev pub CuttingShows : Type 0

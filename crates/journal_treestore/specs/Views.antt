@@ -3,9 +3,9 @@
 use Rattle.std.specs.Prelude.{ℕ, zero, suc, ◌+◌, ◌/◌, ◌%◌, ◌==◌, if◌then◌else◌, List, [], ◌++◌, take, replicate, get_or, Option, Some, None}
 use Rattle.journal_tree.specs.declared.reply.Attributes.{Attributes}
 use Rattle.journal_tree.specs.declared.reply.Kind.{Kind}
-use Rattle.journal_tree.specs.declared.reply.Kind.TheVariants.{Directory, File}
+use Rattle.journal_tree.specs.declared.reply.Kind.TheVariants.{Directory, File, Link}
 use Rattle.journal_tree.specs.Trees.{Home, Body, Node, Slot, Tree}
-use Rattle.journal_tree.specs.Trees.Body.{directory, file}
+use Rattle.journal_tree.specs.Trees.Body.{directory, file, link}
 use Rattle.journal_treestore.specs.declared.owner.Owner.{Owner}
 use Rattle.journal_treestore.specs.declared.entry.TheConstants.{PLACES}
 use Rattle.journal_treestore.specs.declared.entry.Entry.{Entry}
@@ -82,6 +82,7 @@ content V h = take h.size (bytes_of V h.blocks ((h.size + 4095) / 4096))
 abbrev pub body_of : View → Kind → Held → Body
 body_of V Directory h = directory (h.size / 8)
 body_of V File h = file (content V h)
+body_of V Link h = link (content V h)
 
 abbrev pub node_of : View → Held → Node
 node_of V h = record { attributes = h.attributes; home = h.home; body = body_of V h.kind h }
@@ -102,6 +103,7 @@ entry_in V b at = if b == 0 then no_entry else entry_from (V.block b) at
 abbrev pub entry_by : View → Kind → Held → ℕ → Entry
 entry_by V Directory h place = entry_in V (h.blocks (place / PLACES)) (place % PLACES)
 entry_by V File h place = no_entry
+entry_by V Link h place = no_entry
 
 abbrev pub entry_of : View → Seen → ℕ → Entry
 entry_of V (free g) place = no_entry

@@ -68,12 +68,14 @@ pub enum Inode {
     Used(Head),
 }
 
-// The bytes that say that an inode is free, a directory's or a file's.
+// The bytes that say that an inode is free, a directory's, a file's or a link's.
 const FREE: u8 = 0;
 
 const DIRECTORY: u8 = 1;
 
 const FILE: u8 = 2;
+
+const LINK: u8 = 3;
 
 impl Inode {
     /// The inode that these bytes are, if they are one's, and else one of other bytes.
@@ -89,6 +91,7 @@ impl Inode {
         match bytes[0] {
             DIRECTORY => Inode::Used(head_in(Kind::Directory, bytes)),
             FILE => Inode::Used(head_in(Kind::File, bytes)),
+            LINK => Inode::Used(head_in(Kind::Link, bytes)),
             _ => Inode::Free(word(bytes, GENERATION_AT)),
         }
     }
@@ -139,6 +142,7 @@ fn kind_byte(kind: Kind) -> u8
     match kind {
         Kind::Directory => DIRECTORY,
         Kind::File => FILE,
+        Kind::Link => LINK,
     }
 }
 

@@ -1,7 +1,7 @@
 // Laws of the definitions, for all disks.
 ghost use Rattle.journal_treestore.specs.Places.{PlacesAreObjects, PlacesAreApart};
 ghost use Rattle.journal_treestore.specs.Lookups.{BlocksAreHadOnce, LookupFinds, LookupMisses};
-ghost use Rattle.journal_treestore.specs.Steps.{PlantingShows, CuttingShows, GrowingShows, GrowingStaysSound, CallsStaySound};
+ghost use Rattle.journal_treestore.specs.Steps.{PlantingShows, FillingShows, CuttingShows, GrowingShows, GrowingStaysSound, CallsStaySound};
 ghost use Rattle.journal_treestore.specs.Moves.{DroppingShows, DroppingStaysSound, RenamingShows, MovingShows};
 
 /// Each object of a disk has an address that its layout knows, and no two have one address.
@@ -23,10 +23,12 @@ pub fn lookups_answer_by_what_they_read()
     ensures missed { LookupMisses }
 {}
 
-/// The tree that a sound disk shows once a node is put into a directory by three writes, or taken
-/// out of it by three writes, however large it is, or once a directory gets a block.
+/// The tree that a sound disk shows after the writes of a step: a node is put into a directory by
+/// three, a symbolic link gets its text by three, a node is taken out by three, or a directory gets
+/// a block. A node that is taken out may be as large as it likes.
 pub fn writes_show_the_tree_after_them()
     ensures planted { PlantingShows }
+    ensures filled { FillingShows }
     ensures cut { CuttingShows }
     ensures grown { GrowingShows }
     ensures sound { GrowingStaysSound }

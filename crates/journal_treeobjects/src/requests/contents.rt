@@ -1,7 +1,7 @@
-// The calls on a file's bytes.
+// The calls on a file's bytes, and on a link's text.
 use crate::{Asking, TreeOperation};
 use journal_tree::{Changed, Handle, Status};
-use journal_treecalls::{ReadReply, TreeDisk, WriteData, commit, read, readlink, write};
+use journal_treecalls::{LinkReply, ReadReply, TreeDisk, WriteData, commit, read, readlink, write};
 
 /// READ of bytes of a file.
 #[derive(Clone, Copy)]
@@ -85,24 +85,28 @@ impl TreeOperation for Commit {
     }
 }
 
-/// READLINK: the reason why it is refused, since no node is a symbolic link.
+/// READLINK of a symbolic link.
 #[derive(Clone, Copy)]
 pub struct ReadLink {
     pub handle: Handle,
 }
 
 impl TreeOperation for ReadLink {
-    ghost use Rattle.std.specs.Prelude.{Err};
     ghost use Rattle.journal_tree.specs.Op.Call.{readlink};
-    ghost use Rattle.journal_tree.specs.Op.Reply.{not_done};
+    ghost use Rattle.journal_tree.specs.Op.Reply.{link_read};
+    ghost use Rattle.journal_treecalls.specs.Symlinks.{link_told};
 
-    type Reply = Status;
+    type Reply = Result<LinkReply, Status>;
 
     ghost call = { λ o. readlink o.handle };
 
-    ghost told = { λ status. not_done (Err status) };
+    ghost told = { λ reply. link_read (link_told reply) };
 
-    fn attempt<T: TreeDisk>(&self, _asking: Asking, disk: &mut T) -> Result<Status, T::Fault> {
+    fn attempt<T: TreeDisk>(
+        &self,
+        _asking: Asking,
+        disk: &mut T,
+    ) -> Result<Result<LinkReply, Status>, T::Fault> {
         readlink(disk, self.handle)
     }
 }

@@ -2,8 +2,8 @@
 use crate::{Asking, TreeOperation};
 use journal_tree::{Handle, Made, Settings, Status};
 use journal_treecalls::{
-    Spare, TreeDisk, create_exclusive, create_guarded, create_unchecked, link, mkdir, mknod,
-    symlink,
+    NewLink, Spare, TreeDisk, create_exclusive, create_guarded, create_unchecked, link, mkdir,
+    mknod, symlink,
 };
 
 /// CREATE of a name that is not there, in the mode GUARDED.
@@ -128,26 +128,34 @@ impl<'n> TreeOperation for MkDir<'n> {
     }
 }
 
-/// SYMLINK of a name: the reason why it is refused.
+/// SYMLINK of a name.
 #[derive(Clone, Copy)]
 pub struct SymLink<'n> {
     pub directory: Handle,
     pub name: &'n [u8],
+    pub link: NewLink<'n>,
+    /// Numbers and blocks that may be free.
+    pub spare: Spare<'n>,
 }
 
 impl<'n> TreeOperation for SymLink<'n> {
-    ghost use Rattle.std.specs.Prelude.{Err};
     ghost use Rattle.journal_tree.specs.Op.Call.{symlink};
-    ghost use Rattle.journal_tree.specs.Op.Reply.{not_done};
+    ghost use Rattle.journal_tree.specs.Op.Reply.{made};
 
-    type Reply = Status;
+    type Reply = Result<Made, Status>;
 
-    ghost call = { λ o. symlink o.directory o.name.now };
+    ghost call = { λ o. symlink o.directory o.name.now o.link.settings o.link.text.now };
 
-    ghost told = { λ status. not_done (Err status) };
+    ghost told = { made };
 
-    fn attempt<T: TreeDisk>(&self, asking: Asking, disk: &mut T) -> Result<Status, T::Fault> {
-        symlink(disk, &asking.caller, self.directory, self.name)
+    fn attempt<T: TreeDisk>(
+        &self,
+        asking: Asking,
+        disk: &mut T,
+    ) -> Result<Result<Made, Status>, T::Fault> {
+        let Asking { caller, now } = asking;
+        let (directory, name) = (self.directory, self.name);
+        symlink(disk, &caller, directory, name, &self.link, &self.spare, now)
     }
 }
 

@@ -11,6 +11,10 @@ pub returns-in-2-clause-read : goal.returns-in-2-clause-read
 unfolding inode_from
 returns-in-2-clause-read c = search rules
 
+pub returns-in-3-clause-read : goal.returns-in-3-clause-read
+unfolding inode_from
+returns-in-3-clause-read c = search rules
+
 pub returns-in_default-clause-read : goal.returns-in_default-clause-read
 unfolding inode_from
 returns-in_default-clause-read c = search rules
@@ -20,6 +24,9 @@ returns-in-1-clause-read_back c = λ inode name room few. read-written c.args.by
 
 pub returns-in-2-clause-read_back : goal.returns-in-2-clause-read_back
 returns-in-2-clause-read_back c = λ inode name room few. read-written c.args.bytes.now _ inode name (returns-in-2-clause-read c) room
+
+pub returns-in-3-clause-read_back : goal.returns-in-3-clause-read_back
+returns-in-3-clause-read_back c = λ inode name room few. read-written c.args.bytes.now _ inode name (returns-in-3-clause-read c) room
 
 pub returns-in_default-clause-read_back : goal.returns-in_default-clause-read_back
 returns-in_default-clause-read_back c = λ inode name room few. read-written c.args.bytes.now _ inode name (returns-in_default-clause-read c) room

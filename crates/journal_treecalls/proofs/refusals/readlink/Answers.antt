@@ -1,8 +1,0 @@
-use Rattle.journal_treecalls.proofs.Telling.{readlink-none, readlink-some}
-use Rattle.journal_treecalls.proofs.refusals.readlink.Goals as goal
-
-pub returns-in-None : goal.returns-in-None
-returns-in-None g c = λ caller now. readlink-none _ _ c.args.handle _ c.in_ok-node.ensures.learns _ c.in_ok-node.ensures.first (g.T.TreeDisk.are_sound c.node.new.disk) caller now c.in-None.is
-
-pub returns-in-Some : goal.returns-in-Some
-returns-in-Some g c = λ caller now. readlink-some _ _ c.args.handle _ c.in_ok-node.ensures.learns _ c.in_ok-node.ensures.first (g.T.TreeDisk.are_sound c.node.new.disk) caller now _ c.in-Some.is
