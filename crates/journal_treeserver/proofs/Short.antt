@@ -1,8 +1,11 @@
 -- No reply to a request is longer than one may be.
-use Rattle.std.proofs.Common.{◌≡◌, ℕ, ◌≤◌, Bool, true, false, List, Option, Some, None, Result, Ok, Err, length, refl, ap, subst, arith}
+use Rattle.std.proofs.Common.{◌≡◌, ℕ, zero, suc, ◌≤◌, Bool, true, false, List, [], ◌∷◌, Option, Some, None, Result, Ok, Err, length, take, slice_get, refl, sym, ap, subst, ◌∙◌, arith}
 use Rattle.std.specs.Prelude.{IsTrue, option_map, if◌then◌else◌}
-use Rattle.std.proofs.lemmas.Bool.{le-ltb}
-use Rattle.journal_world.specs.Histories.{is_trusted}
+use Rattle.std.proofs.lemmas.Bool.{le-ltb, false≢true}
+use Rattle.std.specs.List.{cons_option}
+use Rattle.journal_world.specs.Maps.{Transaction}
+use Rattle.journal_world.specs.Histories.{Entry, committed, commits, count, opened_map, trusts, is_trusted, after, at, latest}
+use Rattle.journal_world.specs.Histories.Entry.{commit as commit_entry}
 use Rattle.journal_history.specs.Tokens.{SessionState, CommitPlace}
 use Rattle.journal_nfs3_wire.specs.declared.results.NfsError.{NfsError}
 use Rattle.journal_nfs3_wire.specs.Arguments as nine
@@ -13,10 +16,13 @@ use Rattle.journal_tree.specs.declared.reply.Handle.{Handle}
 use Rattle.journal_tree.specs.declared.time.Time.{Time}
 use Rattle.journal_tree.specs.Op.{Call, getattr, setattr, lookup, access, readlink, read, write, create, mkdir, symlink, mknod, remove, rmdir, rename, link, readdir, readdirplus, fsstat, fsinfo, pathconf, commit, Op, Reply}
 use Rattle.journal_tree.specs.Op.Op.{answers_getattr, answers_setattr, answers_lookup, answers_access, answers_readlink, answers_read, answers_write, answers_create, answers_mkdir, answers_symlink, answers_mknod, answers_remove, answers_rmdir, answers_rename, answers_link, answers_readdir, answers_readdirplus, answers_fsstat, answers_fsinfo, answers_pathconf, answers_commit}
+use Rattle.journal_tree.specs.Fit.{HasFit}
 use Rattle.journal_tree.specs.Trees.{Tree}
-use Rattle.journal_treefs.specs.Calls.{IsCommittedCall}
+use Rattle.journal_treestore.specs.declared.place.Cut.{Cut}
+use Rattle.journal_treeobjects.specs.Maps.{tree_at}
+use Rattle.journal_treefs.specs.Calls.{IsMadeAt, IsCommittedCall}
 use Rattle.journal_treewire.specs.Answers.{answer_of}
-use Rattle.journal_treewire.specs.Bounds.{PartsAreShort, ListingsAreFew, PlusListingsAreFew}
+use Rattle.journal_treewire.specs.Bounds.{PartsAreShort, TextsAreShort, ListingsAreFew, PlusListingsAreFew}
 use Rattle.journal_treewire.specs.Calls.{of_handle, of_handles, file_call, query_call, directory_call, call_on, list_bytes}
 use Rattle.journal_treewire.specs.Directories as links
 use Rattle.journal_treewire.specs.Handles.{handle_in}
@@ -69,7 +75,7 @@ module _ (disk : ℕ) (call : Call) where
   directory_modest : (d : links.DirectoryOperation) → directory_call disk d ≡ Ok (Some call) → IsModest call
   directory_modest (links.ReadLink h) e = modest_one (handle_in disk h) readlink call (λ k. tt) e
   directory_modest (links.MakeDirectory n a) e = modest_one (handle_in disk n.directory) (λ k. mkdir k n.called (settings_in a)) call (λ k. tt) e
-  directory_modest (links.MakeLink a) e = modest_one (handle_in disk a.entry.directory) (λ k. symlink k a.entry.called) call (λ k. tt) e
+  directory_modest (links.MakeLink a) e = modest_one (handle_in disk a.entry.directory) (λ k. symlink k a.entry.called (settings_in a.attributes) a.path) call (λ k. tt) e
   directory_modest (links.MakeNode n d) e = modest_one (handle_in disk n.directory) (λ k. mknod k n.called) call (λ k. tt) e
   directory_modest (links.RemoveDirectory n) e = modest_one (handle_in disk n.directory) (λ k. rmdir k n.called) call (λ k. tt) e
   directory_modest (links.Rename n m) e = modest_two (handle_in disk n.directory) (handle_in disk m.directory) (λ h k. rename h n.called k m.called) call (λ h k. tt) e
@@ -92,7 +98,7 @@ kept true (read h offset count) m = m
 kept true (write h offset count bytes) m = m
 kept true (create h name how) m = m
 kept true (mkdir h name s) m = m
-kept true (symlink h name) m = m
+kept true (symlink h name s text) m = m
 kept true (mknod h name) m = m
 kept true (remove h name) m = m
 kept true (rmdir h name) m = m
@@ -105,37 +111,65 @@ kept true (fsinfo h) m = m
 kept true (pathconf h) m = m
 kept true (commit h) m = m
 
+-- ---- the tree before a commit
+
+-- the commits of the first entries are the first commits
+first_commits : (n : ℕ) (es : List Entry) → take (length (commits (take n es))) (commits es) ≡ commits (take n es)
+first_commits zero [] = refl
+first_commits zero (e ∷ es) = refl
+first_commits (suc n) [] = refl
+first_commits (suc n) (e ∷ es) = with_one (committed e) (commits (take n es)) (commits es) (first_commits n es)
+  where
+    with_one : (o : Option Transaction) (ts us : List Transaction) → take (length ts) us ≡ ts → take (length (cons_option o ts)) (cons_option o us) ≡ cons_option o ts
+    with_one None ts us same = same
+    with_one (Some t) ts us same = ap (λ l. t ∷ l) same
+
+-- so the map before a commit is one of those that the history has
+map_before : (seen : List Entry) (place : ℕ) (t : Transaction) → slice_get seen place ≡ Some (commit_entry t) → IsTrue (is_trusted seen) → at seen (count (take place seen)) ≡ latest (take place seen)
+map_before [] place t stands trusted = absurd (cc stands)
+map_before (e ∷ es) zero t stands trusted =
+    let same : e ≡ commit_entry t = cc in
+    absurd (false≢true (sym (ap trusts same) ∙ trusted))
+map_before (e ∷ es) (suc place) t stands trusted = ap (after (opened_map e)) (first_commits (suc place) (e ∷ es))
+
+-- and its tree is within its bounds
+fits_before : (c : Cut) (call : Call) (caller : Caller) (now : Time) (old new : SessionState) (r : Reply) (place : ℕ) → IsMadeAt c call caller now old new r place → IsTrue (is_trusted new.seen)
+    → HasFit (tree_at c (latest (take place new.seen)))
+fits_before c call caller now old new r place is trusted =
+    subst (λ m. HasFit (tree_at c m)) (map_before new.seen place is.made is.stands trusted) (is.ruled trusted (count (take place new.seen))).sound.fit
+
 -- ---- its answer
 
-module _ (parts : PartsAreShort) (plain : ListingsAreFew) (plus : PlusListingsAreFew) where
-  never_long : (call : Call) (c : Caller) (now : Time) (T T2 : Tree) (r : Reply) → IsModest call → Op call c now T r T2 → is_long r ≡ false
-  never_long call c now T T2 r m (answers_getattr _ _ _ _ _ _ e) = refl
-  never_long call c now T T2 r m (answers_setattr _ _ _ _ _ _ _ _ e) = refl
-  never_long call c now T T2 r m (answers_lookup _ _ _ _ _ _ _ e) = refl
-  never_long call c now T T2 r m (answers_access _ _ _ _ _ _ _ e) = refl
-  never_long call c now T T2 r m (answers_readlink _ _ _ _ _ _ e) = refl
-  never_long call c now T T2 r m (answers_read h offset count _ _ _ _ (Ok p) e) = le-ltb _ _ (omega (arith, parts h offset count c now T T2 p (answers_read h offset count c now T T2 (Ok p) e)))
-  never_long call c now T T2 r m (answers_read h offset count _ _ _ _ (Err why) e) = refl
-  never_long call c now T T2 r m (answers_write _ _ _ _ _ _ _ _ _ _ e) = refl
-  never_long call c now T T2 r m (answers_create _ _ _ _ _ _ _ _ _ _ e) = refl
-  never_long call c now T T2 r m (answers_mkdir _ _ _ _ _ _ _ _ _ _ e) = refl
-  never_long call c now T T2 r m (answers_symlink _ _ _ _ _ _ _ e) = refl
-  never_long call c now T T2 r m (answers_mknod _ _ _ _ _ _ _ e) = refl
-  never_long call c now T T2 r m (answers_remove _ _ _ _ _ _ _ e) = refl
-  never_long call c now T T2 r m (answers_rmdir _ _ _ _ _ _ _ e) = refl
-  never_long call c now T T2 r m (answers_rename _ _ _ _ _ _ _ _ _ _ _ _ _ e) = refl
-  never_long call c now T T2 r m (answers_link _ _ _ _ _ _ _ _ e) = refl
-  never_long call c now T T2 r m (answers_readdir h cookie most _ _ _ _ (Ok l) e) = le-ltb _ _ (omega (arith, m, plain h cookie most c now T T2 l (answers_readdir h cookie most c now T T2 (Ok l) e)))
-  never_long call c now T T2 r m (answers_readdir h cookie most _ _ _ _ (Err why) e) = refl
-  never_long call c now T T2 r m (answers_readdirplus h cookie names most _ _ _ _ (Ok l) e) = le-ltb _ _ (omega (arith, m, plus h cookie names most c now T T2 l (answers_readdirplus h cookie names most c now T T2 (Ok l) e)))
-  never_long call c now T T2 r m (answers_readdirplus h cookie names most _ _ _ _ (Err why) e) = refl
-  never_long call c now T T2 r m (answers_fsstat _ _ _ _ _ _ _ _ e) = refl
-  never_long call c now T T2 r m (answers_fsinfo _ _ _ _ _ _ e) = refl
-  never_long call c now T T2 r m (answers_pathconf _ _ _ _ _ _ e) = refl
-  never_long call c now T T2 r m (answers_commit _ _ _ _ _ _ e) = refl
+module _ (parts : PartsAreShort) (texts : TextsAreShort) (plain : ListingsAreFew) (plus : PlusListingsAreFew) where
+  never_long : (call : Call) (c : Caller) (now : Time) (T T2 : Tree) (r : Reply) → IsModest call → HasFit T → Op call c now T r T2 → is_long r ≡ false
+  never_long call c now T T2 r m fit (answers_getattr _ _ _ _ _ _ e) = refl
+  never_long call c now T T2 r m fit (answers_setattr _ _ _ _ _ _ _ _ e) = refl
+  never_long call c now T T2 r m fit (answers_lookup _ _ _ _ _ _ _ e) = refl
+  never_long call c now T T2 r m fit (answers_access _ _ _ _ _ _ _ e) = refl
+  never_long call c now T T2 r m fit (answers_readlink h _ _ _ _ (Ok l) e) = le-ltb _ _ (texts h c now T T2 l fit (answers_readlink h c now T T2 (Ok l) e))
+  never_long call c now T T2 r m fit (answers_readlink h _ _ _ _ (Err why) e) = refl
+  never_long call c now T T2 r m fit (answers_read h offset count _ _ _ _ (Ok p) e) = le-ltb _ _ (omega (arith, parts h offset count c now T T2 p (answers_read h offset count c now T T2 (Ok p) e)))
+  never_long call c now T T2 r m fit (answers_read h offset count _ _ _ _ (Err why) e) = refl
+  never_long call c now T T2 r m fit (answers_write _ _ _ _ _ _ _ _ _ _ e) = refl
+  never_long call c now T T2 r m fit (answers_create _ _ _ _ _ _ _ _ _ _ e) = refl
+  never_long call c now T T2 r m fit (answers_mkdir _ _ _ _ _ _ _ _ _ _ e) = refl
+  never_long call c now T T2 r m fit (answers_symlink _ _ _ _ _ _ _ _ _ _ _ e) = refl
+  never_long call c now T T2 r m fit (answers_mknod _ _ _ _ _ _ _ e) = refl
+  never_long call c now T T2 r m fit (answers_remove _ _ _ _ _ _ _ e) = refl
+  never_long call c now T T2 r m fit (answers_rmdir _ _ _ _ _ _ _ e) = refl
+  never_long call c now T T2 r m fit (answers_rename _ _ _ _ _ _ _ _ _ _ _ _ _ e) = refl
+  never_long call c now T T2 r m fit (answers_link _ _ _ _ _ _ _ _ e) = refl
+  never_long call c now T T2 r m fit (answers_readdir h cookie most _ _ _ _ (Ok l) e) = le-ltb _ _ (omega (arith, m, plain h cookie most c now T T2 l (answers_readdir h cookie most c now T T2 (Ok l) e)))
+  never_long call c now T T2 r m fit (answers_readdir h cookie most _ _ _ _ (Err why) e) = refl
+  never_long call c now T T2 r m fit (answers_readdirplus h cookie names most _ _ _ _ (Ok l) e) = le-ltb _ _ (omega (arith, m, plus h cookie names most c now T T2 l (answers_readdirplus h cookie names most c now T T2 (Ok l) e)))
+  never_long call c now T T2 r m fit (answers_readdirplus h cookie names most _ _ _ _ (Err why) e) = refl
+  never_long call c now T T2 r m fit (answers_fsstat _ _ _ _ _ _ _ _ e) = refl
+  never_long call c now T T2 r m fit (answers_fsinfo _ _ _ _ _ _ e) = refl
+  never_long call c now T T2 r m fit (answers_pathconf _ _ _ _ _ _ e) = refl
+  never_long call c now T T2 r m fit (answers_commit _ _ _ _ _ _ e) = refl
 
   pub no_reply_is_long : NoReplyIsLong
-  no_reply_is_long disk read_only asked call caller now T T2 r e op = never_long (asked_of read_only call) caller now T T2 r (kept read_only call (request_modest disk call asked e)) op
+  no_reply_is_long disk read_only asked call caller now T T2 r e fit op = never_long (asked_of read_only call) caller now T T2 r (kept read_only call (request_modest disk call asked e)) fit op
 
   -- results that are not long are the answer's
   as_answered : (long : Bool) (told other : Results) → long ≡ false → (if long then other else told) ≡ told
@@ -144,4 +178,5 @@ module _ (parts : PartsAreShort) (plain : ListingsAreFew) (plus : PlusListingsAr
 
   pub results_are_answers : ResultsAreAnswers
   results_are_answers S asked call caller now old new r receipt e is trusted =
-      as_answered (is_long r) (answer_of S.disk S.verifier (how_of asked) (asked_of S.read_only call) r) (long_results r) (no_reply_is_long S.disk S.read_only asked call caller now _ _ r e (is.made.call_is trusted))
+      as_answered (is_long r) (answer_of S.disk S.verifier (how_of asked) (asked_of S.read_only call) r) (long_results r) (no_reply_is_long S.disk S.read_only asked call caller now _ _ r e
+      (fits_before S.cut (asked_of S.read_only call) caller now old new r receipt.place is.made trusted) (is.made.call_is trusted))

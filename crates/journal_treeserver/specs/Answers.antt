@@ -13,7 +13,7 @@ use Rattle.journal_protocol.specs.Protocols.{Service}
 use Rattle.journal_tree.specs.declared.caller.Caller.{Caller}
 use Rattle.journal_tree.specs.declared.limits.TheConstants.{ROOT}
 use Rattle.journal_tree.specs.declared.time.Time.{Time}
-use Rattle.journal_tree.specs.Op.{Call, access, setattr, write, create, mkdir, symlink, mknod, remove, rmdir, rename, link, Reply, bytes_read, listed, listed_plus, is_refusal}
+use Rattle.journal_tree.specs.Op.{Call, access, setattr, write, create, mkdir, symlink, mknod, remove, rmdir, rename, link, Reply, link_read, bytes_read, listed, listed_plus, is_refusal}
 use Rattle.journal_treestore.specs.declared.place.Cut.{Cut}
 use Rattle.journal_treefs.specs.Calls.{IsCommittedCall, IsMadeAt}
 use Rattle.journal_nfs3_wire.specs.declared.arguments.StableHow.{StableHow}
@@ -26,10 +26,10 @@ use Rattle.journal_treewire.specs.Calls.{Resolved, call_on}
 use Rattle.journal_treewire.specs.Handles.{DiskHandle, disk_handle}
 use Rattle.journal_treewire.specs.Refusals.{refused_request}
 use Rattle.journal_treewire.specs.Requests.{Requested}
-use Rattle.journal_treewire.specs.Results.{Results, Null, Read, Directory, DirectoryPlus, results_text}
+use Rattle.journal_treewire.specs.Results.{Results, Null, LinkText, Read, Directory, DirectoryPlus, results_text}
 use Rattle.journal_treewire.specs.Values.{time_in}
 use Rattle.journal_treewire.specs.declared.parts.TheConstants.{MOST_LINES}
-use Rattle.journal_tree.specs.declared.limits.TheConstants.{TRANSFER_BYTES}
+use Rattle.journal_tree.specs.declared.limits.TheConstants.{MOST_LINK, TRANSFER_BYTES}
 use Rattle.journal_treeserver.specs.declared.awaited.AwaitedCall.{AwaitedCall}
 use Rattle.journal_treeserver.specs.declared.awaited.AwaitedForm.{AwaitedForm}
 use Rattle.journal_treeserver.specs.declared.awaited.Owed.{Owed}
@@ -74,6 +74,7 @@ IsSoFar (awaiting wait) form r receipt = wait ≡ owed_by form (is_refusal r) re
 
 -- a reply that is longer than one may be
 abbrev pub is_long : Reply → Bool
+is_long (link_read (Ok l)) = nat_lt MOST_LINK (length l.text)
 is_long (bytes_read (Ok p)) = nat_lt TRANSFER_BYTES (length p.bytes)
 is_long (listed (Ok l)) = nat_lt MOST_LINES (length l.page.items)
 is_long (listed_plus (Ok l)) = nat_lt MOST_LINES (length l.page.items)
@@ -81,6 +82,7 @@ is_long other = false
 
 -- it becomes SERVERFAULT
 abbrev pub long_results : Reply → Results
+long_results (link_read r) = LinkText (Err (ServerFault, None))
 long_results (bytes_read r) = Read (Err (ServerFault, None))
 long_results (listed r) = Directory (Err (ServerFault, None))
 long_results (listed_plus r) = DirectoryPlus (Err (ServerFault, None))
@@ -131,7 +133,7 @@ changes (setattr h s guard) = true
 changes (write h offset count bytes) = true
 changes (create h name mode) = true
 changes (mkdir h name s) = true
-changes (symlink h name) = true
+changes (symlink h name s text) = true
 changes (mknod h name) = true
 changes (remove h name) = true
 changes (rmdir h name) = true

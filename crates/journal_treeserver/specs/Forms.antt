@@ -31,6 +31,7 @@ form_of (file (nine.Create e how)) = Some forms.Made
 form_of (file (nine.Remove e)) = Some forms.Changed
 form_of (file (nine.Commit h offset count)) = Some forms.Commit
 form_of (directory (links.MakeDirectory e a)) = Some forms.Made
+form_of (directory (links.MakeLink a)) = Some forms.Made
 form_of (directory (links.RemoveDirectory e)) = Some forms.Changed
 form_of (directory (links.Rename e f)) = Some forms.Renamed
 form_of other = None

@@ -4,6 +4,7 @@ use Rattle.journal_world.specs.Histories.{is_trusted}
 use Rattle.journal_history.specs.Tokens.{SessionState, CommitPlace}
 use Rattle.journal_tree.specs.declared.caller.Caller.{Caller}
 use Rattle.journal_tree.specs.declared.time.Time.{Time}
+use Rattle.journal_tree.specs.Fit.{HasFit}
 use Rattle.journal_tree.specs.Op.{Call, Op, Reply}
 use Rattle.journal_tree.specs.Trees.{Tree}
 use Rattle.journal_treefs.specs.Calls.{IsCommittedCall}
@@ -13,10 +14,11 @@ use Rattle.journal_treewire.specs.Requests.{Requested}
 use Rattle.journal_treeserver.specs.Answers.{Served, is_long, told_results, asked_of}
 use Rattle.journal_treeserver.specs.Forms.{how_of}
 
--- The definitions answer a call that a request asks by no reply that is longer than one may be
+-- The definitions answer a call that a request asks, of a tree whose nodes are within their bounds,
+-- by no reply that is longer than one may be
 abbrev pub NoReplyIsLong : Type 0
 NoReplyIsLong =
-    (disk : ℕ) (read_only : Bool) (asked : Requested) (call : Call) (caller : Caller) (now : Time) (T T2 : Tree) (r : Reply) → call_on disk asked ≡ Ok (Some call) → Op (asked_of read_only call) caller now T r T2
+    (disk : ℕ) (read_only : Bool) (asked : Requested) (call : Call) (caller : Caller) (now : Time) (T T2 : Tree) (r : Reply) → call_on disk asked ≡ Ok (Some call) → HasFit T → Op (asked_of read_only call) caller now T r T2
     → is_long r ≡ false
 
 -- So where the history is trusted, the results of a call that is committed are those of its reply:

@@ -16,7 +16,7 @@ pub enum AwaitedForm {
     Changed,
     /// WRITE.
     Write,
-    /// CREATE and MKDIR.
+    /// CREATE, MKDIR and SYMLINK.
     Made,
     /// RENAME.
     Renamed,
@@ -114,6 +114,7 @@ fn form_of_directory_operation(operation: &DirectoryOperation<'_>) -> Option<Awa
 {
     match operation {
         DirectoryOperation::MakeDirectory(_, _) => Some(AwaitedForm::Made),
+        DirectoryOperation::MakeLink(_) => Some(AwaitedForm::Made),
         DirectoryOperation::RemoveDirectory(_) => Some(AwaitedForm::Changed),
         DirectoryOperation::Rename(_, _) => Some(AwaitedForm::Renamed),
         _ => None,

@@ -15,7 +15,7 @@ use journal_disk::BlockDisk;
 use journal_history::{Naming, Receipt, Session};
 use journal_tree::CreateMode;
 use journal_treefs::TreeRule;
-use journal_treeobjects::{CreateExclusive, MkNod, Remove, RmDir, SymLink};
+use journal_treeobjects::{CreateExclusive, MkNod, Remove, RmDir};
 use journal_treewire::{NameIn, TreeCall};
 use std::alloc::Global;
 use std::sync::Wait;
@@ -53,8 +53,8 @@ impl<'s, 'b, D: BlockDisk, R: TreeRule, J: Naming, H: FreeHints> TreeServer<'s, 
             TreeCall::RemoveDirectory(NameIn { directory, name }) => {
                 self.perform_freeing(rt, session, asked, &RmDir { directory, name })
             }
-            TreeCall::MakeLink(NameIn { directory, name }) => {
-                self.perform(rt, session, asked, &SymLink { directory, name })
+            TreeCall::MakeLink(link) => {
+                self.take(rt, alloc, session, asked, &Taking::MakeLink(link))
             }
             TreeCall::MakeNode(NameIn { directory, name }) => {
                 self.perform(rt, session, asked, &MkNod { directory, name })

@@ -3,12 +3,12 @@ ghost use Rattle.std.specs.Prelude.{◌≡◌};
 
 use crate::hints::Drawn;
 use journal_tree::{Handle, Settings};
-use journal_treecalls::WriteData;
+use journal_treecalls::{NewLink, WriteData};
 use journal_treeobjects::{
     Access, CreateGuarded, CreateUnchecked, Link, MkDir, Read, ReadDir, ReadDirPlus, Rename,
-    SetAttr, Write,
+    SetAttr, SymLink, Write,
 };
-use journal_treewire::{ListCall, ListPlusCall, NameIn, ReadCall, SetCall, WriteCall};
+use journal_treewire::{LinkCall, ListCall, ListPlusCall, NameIn, ReadCall, SetCall, WriteCall};
 
 // ACCESS of a node, for these rights.
 pub(crate) fn access_of(handle: Handle, rights: u32) -> Access
@@ -141,6 +141,25 @@ pub(crate) fn mkdir_of<'n>(entry: NameIn<'n>, settings: Settings, drawn: &'n Dra
         directory: entry.directory,
         name: entry.name,
         settings,
+        spare: drawn.spare(),
+    }
+}
+
+// SYMLINK.
+pub(crate) fn symlink_of<'n>(link: LinkCall<'n>, drawn: &'n Drawn) -> SymLink<'n>
+    ensures directory { result.directory ≡ link.entry.entry.directory }
+    ensures name { result.name.now ≡ link.entry.entry.name.now }
+    ensures settings { result.link.settings ≡ link.entry.settings }
+    ensures text { result.link.text.now ≡ link.entry.text.now }
+{
+    let new = NewLink {
+        settings: link.settings,
+        text: link.text,
+    };
+    SymLink {
+        directory: link.entry.directory,
+        name: link.entry.name,
+        link: new,
         spare: drawn.spare(),
     }
 }

@@ -5,15 +5,15 @@ ghost use Rattle.journal_treewire.specs.Requests.{request_of};
 ghost use Rattle.journal_treeserver.specs.CodeViews.{served_as, taking_call, IsDone};
 
 use crate::hints::{Drawn, FreeHints, Taken};
-use crate::operations::{guarded_of, mkdir_of, rename_of, unchecked_of, write_of};
+use crate::operations::{guarded_of, mkdir_of, rename_of, symlink_of, unchecked_of, write_of};
 use crate::performing::{Asked, Done};
 use crate::server::TreeServer;
 use journal_disk::BlockDisk;
 use journal_history::{Naming, Receipt, Session};
 use journal_nfs3_wire::NfsError;
-use journal_tree::{BLOCK_BYTES, Changed, Settings};
+use journal_tree::{BLOCK_BYTES, Changed, Kind, Made, Settings};
 use journal_treefs::TreeRule;
-use journal_treewire::{NameIn, TreeResults, WriteCall};
+use journal_treewire::{LinkCall, NameIn, TreeResults, WriteCall};
 use std::alloc::Global;
 use std::sync::Wait;
 
@@ -24,6 +24,7 @@ pub(crate) enum Taking<'n> {
     CreateUnchecked(NameIn<'n>, Settings),
     CreateGuarded(NameIn<'n>, Settings),
     MakeDirectory(NameIn<'n>, Settings),
+    MakeLink(LinkCall<'n>),
     // The old name, and the new one.
     Rename(NameIn<'n>, NameIn<'n>),
 }
@@ -47,6 +48,12 @@ const NODE: Need = Need {
     blocks: 2,
 };
 
+// A new symbolic link, the block of its text, and a further block of its directory.
+const LINK: Need = Need {
+    numbers: 2,
+    blocks: 4,
+};
+
 // A further block of a directory.
 const ENTRY: Need = Need {
     numbers: 0,
@@ -57,6 +64,7 @@ const ENTRY: Need = Need {
 fn need_of(call: &Taking<'_>) -> Need {
     match call {
         Taking::Write(_) => WRITE,
+        Taking::MakeLink(_) => LINK,
         Taking::Rename(_, _) => ENTRY,
         _ => NODE,
     }
@@ -113,6 +121,10 @@ impl<'s, 'b, D: BlockDisk, R: TreeRule, J: Naming, H: FreeHints> TreeServer<'s, 
                 let operation = mkdir_of(entry, settings, drawn);
                 self.perform(rt, session, asked, &operation)
             }
+            Taking::MakeLink(link) => {
+                let operation = symlink_of(link, drawn);
+                self.perform(rt, session, asked, &operation)
+            }
             // It may free a node that it replaces.
             Taking::Rename(old, new) => {
                 let operation = rename_of(old, new, drawn);
@@ -127,7 +139,7 @@ fn taken_by(results: &TreeResults) -> Taken {
     match results {
         TreeResults::Made(Ok(made)) => Taken {
             number: Some(made.node.number),
-            blocks: growth(&made.directory),
+            blocks: growth(&made.directory).saturating_add(text_blocks(made)),
         },
         TreeResults::Write {
             outcome: Ok(changed),
@@ -144,6 +156,14 @@ fn taken_by(results: &TreeResults) -> Taken {
             number: None,
             blocks: 0,
         },
+    }
+}
+
+// The blocks with the text of a new symbolic link.
+fn text_blocks(made: &Made) -> u64 {
+    match made.node.kind {
+        Kind::Link => 1,
+        Kind::Directory | Kind::File => 0,
     }
 }
 

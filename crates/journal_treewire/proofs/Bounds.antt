@@ -1,20 +1,22 @@
 -- How many bytes and lines the answers of a tree have.
-use Rattle.std.proofs.Common.{◌≡◌, ℕ, ◌+◌, ◌-◌, ◌*◌, ◌≤◌, List, [], ◌∷◌, ◌++◌, length, take, drop, Ok, Err, refl, ap, arith, length-append}
+use Rattle.std.proofs.Common.{◌≡◌, ℕ, ◌+◌, ◌-◌, ◌*◌, ◌≤◌, Bool, true, false, List, [], ◌∷◌, ◌++◌, length, take, drop, Option, Some, None, Ok, Err, refl, ap, arith, length-append}
 use Rattle.std.specs.Prelude.{min, max, flat_map, replicate}
 use Rattle.std.proofs.lemmas.List.{length-take}
 use Rattle.journal_xdr.specs.BasicLaws.{length-zeros}
 use Rattle.journal_tree.specs.declared.caller.Caller.{Caller}
-use Rattle.journal_tree.specs.declared.limits.TheConstants.{TRANSFER_BYTES}
+use Rattle.journal_tree.specs.declared.limits.TheConstants.{MOST_LINK, TRANSFER_BYTES}
 use Rattle.journal_tree.specs.declared.status.Status.TheVariants.{Invalid, Stale}
-use Rattle.journal_tree.specs.Calls.{Outcome, Target, target}
+use Rattle.journal_tree.specs.Calls.{Outcome, Target, target, told, node_or_gone}
 use Rattle.journal_tree.specs.Calls.Target.{gone, at}
 use Rattle.journal_tree.specs.Contents.{Portion, portion, read_body, read_case}
+use Rattle.journal_tree.specs.Fit.{IsFitBody, HasFit}
+use Rattle.journal_tree.specs.Names.{LinkText, text_of, readlink_case}
 use Rattle.journal_tree.specs.Listing.{Item, FRAME_BYTES, line_bytes, plus_bytes}
-use Rattle.journal_tree.specs.Op.Op.{answers_read, answers_readdir, answers_readdirplus}
+use Rattle.journal_tree.specs.Op.Op.{answers_readlink, answers_read, answers_readdir, answers_readdirplus}
 use Rattle.journal_tree.specs.Rights.{may_fetch}
 use Rattle.journal_tree.specs.Trees.{Body, Node, Tree}
-use Rattle.journal_tree.specs.Trees.Body.{directory, file}
-use Rattle.journal_treewire.specs.Bounds.{PartsAreShort, ListingsAreFew, PlusListingsAreFew}
+use Rattle.journal_tree.specs.Trees.Body.{directory, file, link}
+use Rattle.journal_treewire.specs.Bounds.{PartsAreShort, TextsAreShort, ListingsAreFew, PlusListingsAreFew}
 use Rattle.journal_treewire.proofs.ListLengths.{HasFront, front_few, permitted, list_front, plus_front}
 
 -- ---- bytes of a file
@@ -25,6 +27,7 @@ portion_short offset count n x bytes = omega (arith, length-take (min (offset + 
 module _ (c : Caller) (offset count : ℕ) (T T2 : Tree) (p : Portion) where
   body_short : (n : ℕ) (x : Node) (b : Body) → (Ok p, T2) ≡ read_body c offset count T n x b → length p.bytes ≤ min count TRANSFER_BYTES
   body_short n x (directory places) e = let e0 : Ok p ≡ Err Invalid = ap (λ (o : Outcome Portion). o.0) e in absurd (cc e0)
+  body_short n x (link text) e = let e0 : Ok p ≡ Err Invalid = ap (λ (o : Outcome Portion). o.0) e in absurd (cc e0)
   body_short n x (file bytes) e =
       let told = portion offset count n x bytes in
       let e0 : Ok p ≡ Ok told = ap (λ (o : Outcome Portion). o.0) (permitted T T2 (may_fetch c x.attributes) (Ok told, T) p e) in
@@ -37,6 +40,25 @@ module _ (c : Caller) (offset count : ℕ) (T T2 : Tree) (p : Portion) where
 
 pub parts-are-short : PartsAreShort
 parts-are-short h offset count c now T T2 p (answers_read _ _ _ _ _ _ _ _ e) = read_short c offset count T T2 p (target T h) e
+
+-- ---- the text of a link
+
+module _ (T T2 : Tree) (l : LinkText) where
+  text_short : (n : ℕ) (x : Node) (b : Body) → IsFitBody b → (Ok l, T2) ≡ text_of T n x b → length l.text ≤ MOST_LINK
+  text_short n x (directory places) fit e = let e0 : Ok l ≡ Err Invalid = ap (λ (o : Outcome LinkText). o.0) e in absurd (cc e0)
+  text_short n x (file bytes) fit e = let e0 : Ok l ≡ Err Invalid = ap (λ (o : Outcome LinkText). o.0) e in absurd (cc e0)
+  text_short n x (link text) fit e =
+      let e0 : Ok l ≡ Ok (record { node = told n x; text = text }) = ap (λ (o : Outcome LinkText). o.0) e in
+      let same : l ≡ record { node = told n x; text = text } = cc in
+      rw same fit
+
+  link_short : HasFit T → (n : ℕ) (is_current : Bool) (o : Option Node) → (T.at n).node ≡ o → (Ok l, T2) ≡ readlink_case T (node_or_gone n is_current o) → length l.text ≤ MOST_LINK
+  link_short fit n is_current None is e = let e0 : Ok l ≡ Err Stale = ap (λ (o : Outcome LinkText). o.0) e in absurd (cc e0)
+  link_short fit n false (Some x) is e = let e0 : Ok l ≡ Err Stale = ap (λ (o : Outcome LinkText). o.0) e in absurd (cc e0)
+  link_short fit n true (Some x) is e = let f = fit.nodes n x is in text_short n x x.body f.body e
+
+pub texts-are-short : TextsAreShort
+texts-are-short h c now T T2 l fit (answers_readlink _ _ _ _ _ _ e) = link_short T T2 l fit h.number _ (T.at h.number).node refl e
 
 -- ---- lines
 

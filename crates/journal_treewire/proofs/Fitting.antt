@@ -7,7 +7,7 @@ use Rattle.std.proofs.lemmas.List.Elements.{recursion_from_All}
 use Rattle.journal_xdr.specs.Basic.{word, hyper, fixed, opaque, string}
 use Rattle.journal_tree.specs.declared.time.Time.{Time}
 use Rattle.journal_tree.specs.declared.reply.Kind.{Kind}
-use Rattle.journal_tree.specs.declared.reply.Kind.TheVariants.{Directory, File}
+use Rattle.journal_tree.specs.declared.reply.Kind.TheVariants.{Directory, File, Link}
 use Rattle.journal_tree.specs.declared.reply.Told.{Told}
 use Rattle.journal_tree.specs.declared.reply.Changed.{Changed as TreeChanged}
 use Rattle.journal_tree.specs.declared.reply.Found.{Found as TreeFound}
@@ -30,10 +30,11 @@ use Rattle.journal_nfs3_wire.proofs.Fitting.{boolean_has, some_has, none_has, no
 use Rattle.journal_nfs3_wire.proofs.WholeLaws.{is_whole}
 use Rattle.journal_treewire.specs.declared.parts.FilePart.{FilePart}
 use Rattle.journal_treewire.specs.declared.parts.Lines.{Lines}
-use Rattle.journal_treewire.specs.CodeViews.{access_seen, read_seen, line_seen, line_plus_seen, list_seen, list_plus_seen, information_seen, configuration_seen}
+use Rattle.journal_treewire.specs.declared.parts.ShortText.{ShortText}
+use Rattle.journal_treewire.specs.CodeViews.{access_seen, link_seen, read_seen, line_seen, line_plus_seen, list_seen, list_plus_seen, information_seen, configuration_seen}
 use Rattle.journal_treewire.specs.Handles.{DiskHandle, disk_handle}
 use Rattle.journal_treewire.specs.Profile.{type_of, used_of, fattr_of, before_of, change_of, handle_of, found_of, write_of, made_of, renamed_of, no_changes, cookie_verifier, entry_of, entries_plus, status_of, word_of, commit_of}
-use Rattle.journal_treewire.specs.Results.{given_handle, found_results, made_results, entry_plus, refusal, two_changes, file_and_change}
+use Rattle.journal_treewire.specs.Results.{given_handle, found_results, link_results, made_results, entry_plus, refusal, two_changes, file_and_change}
 use Rattle.journal_treewire.specs.Values.{time_out}
 use Rattle.journal_treewire.proofs.DirectoryLaws.{disk_handle_laws}
 
@@ -46,6 +47,7 @@ time_has t secs nanos = (secs, nanos)
 type_few : (k : Kind) → type_of k < 2 ^ 32
 type_few Directory = omega arith
 type_few File = omega arith
+type_few Link = omega arith
 
 used_few : (size : ℕ) → used_of size < 2 ^ 64
 used_few size = omega arith
@@ -107,8 +109,14 @@ access_err why = err_has access_results post_op_attributes why None (none_has fa
 status_some : (why : NfsError) → status.Has (Some why)
 status_some why = let h = err_has fattr nothing why tt refl in h.0
 
-pub link_has : (why : NfsError) → (refusal post_op_attributes).Has (Some why, None)
-link_has why = (status_some why, none_has fattr)
+pub link_ok : (disk : ℕ) (t : ShortText) → fattr.Has (fattr_of disk t.reply.node) → length t.reply.text.items ≤ 4095 → (outcome link_results post_op_attributes).Has (Ok (link_seen disk t))
+unfolding link_results string
+link_ok disk t node h =
+    let few : length t.reply.text.items < 2 ^ 32 = omega (arith, h) in
+    ok_has link_results post_op_attributes (link_seen disk t) (some_has fattr _ node, bytes_has t.reply.text.items few)
+
+pub link_err : (why : NfsError) → (outcome link_results post_op_attributes).Has (Err (why, None))
+link_err why = err_has link_results post_op_attributes why None (none_has fattr)
 
 pub read_ok : (disk : ℕ) (p : FilePart) → fattr.Has (fattr_of disk p.reply.file) → length p.reply.bytes.items ≤ 65536 → (outcome read_results post_op_attributes).Has (Ok (read_seen disk p))
 unfolding read_results word

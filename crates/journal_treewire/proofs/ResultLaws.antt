@@ -2,7 +2,7 @@
 use Rattle.std.proofs.Common.{refl, sym}
 use Rattle.journal_xdr.specs.Items.{IsGrammar}
 use Rattle.journal_xdr.specs.ItemLaws.{pair_laws, made_laws, coded_laws}
-use Rattle.journal_xdr.specs.BasicLaws.{opaque_laws, optional_laws}
+use Rattle.journal_xdr.specs.BasicLaws.{opaque_laws, string_laws, optional_laws}
 use Rattle.journal_nfs3_wire.specs.QueryResults.{page_results}
 use Rattle.journal_nfs3_wire.specs.Results.{post_op_attributes, change, outcome}
 use Rattle.journal_nfs3_wire.specs.Whole.{whole}
@@ -10,7 +10,7 @@ use Rattle.journal_nfs3_wire.proofs.QueryLaws.{entry_laws, page_results_laws}
 use Rattle.journal_nfs3_wire.proofs.ResultLaws.{after_laws, change_laws, outcome_laws}
 use Rattle.journal_nfs3_wire.proofs.WholeLaws.{whole_is}
 use Rattle.journal_treewire.specs.Handles.{disk_handle}
-use Rattle.journal_treewire.specs.Results.{given_handle, found_results, made_results, two_changes, entry_plus}
+use Rattle.journal_treewire.specs.Results.{given_handle, found_results, link_results, made_results, two_changes, entry_plus}
 use Rattle.journal_treewire.proofs.DirectoryLaws.{disk_handle_laws}
 
 given_handle_laws : IsGrammar given_handle
@@ -20,6 +20,10 @@ given_handle_laws = coded_laws _ (whole disk_handle) disk_handle.spelling (opaqu
 found_results_laws : IsGrammar found_results
 unfolding found_results
 found_results_laws = made_laws _ _ _ (pair_laws _ _ given_handle_laws (pair_laws _ _ after_laws after_laws)) (λ p. refl) (λ r. refl)
+
+link_results_laws : IsGrammar link_results
+unfolding link_results
+link_results_laws = made_laws _ _ _ (pair_laws _ _ after_laws (string_laws 4294967295)) (λ p. refl) (λ r. refl)
 
 made_results_laws : IsGrammar made_results
 unfolding made_results
@@ -35,6 +39,9 @@ entry_plus_laws = made_laws _ _ _ (pair_laws _ _ entry_laws (pair_laws _ _ after
 
 pub found_laws : IsGrammar (outcome found_results post_op_attributes)
 found_laws = outcome_laws found_results post_op_attributes found_results_laws after_laws
+
+pub link_laws : IsGrammar (outcome link_results post_op_attributes)
+link_laws = outcome_laws link_results post_op_attributes link_results_laws after_laws
 
 pub made_results_outcome_laws : IsGrammar (outcome made_results change)
 made_results_outcome_laws = outcome_laws made_results change made_results_laws change_laws

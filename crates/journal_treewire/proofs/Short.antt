@@ -1,15 +1,16 @@
 -- How long results are.
 use Rattle.std.proofs.Common.{◌≡◌, ℕ, ◌+◌, ◌<◌, ◌≤◌, ◌^◌, List, ◌++◌, length, Option, Some, None, Result, Ok, Err, refl, arith, length-append}
 use Rattle.journal_xdr.specs.Items.{Item}
-use Rattle.journal_xdr.specs.Basic.{word, hyper, boolean, fixed, opaque, optional}
+use Rattle.journal_xdr.specs.Basic.{word, hyper, boolean, fixed, opaque, string, optional}
 use Rattle.journal_xdr.specs.BasicLaws.{length-word, length-hyper, length-boolean, opaque_short}
 use Rattle.journal_nfs3_wire.specs.declared.results.NfsError.{NfsError}
 use Rattle.journal_nfs3_wire.specs.Arguments.{time}
 use Rattle.journal_nfs3_wire.specs.Results.{Fattr, fattr, post_op_attributes, Change, change, ReadResults, read_results, WriteResults, write_results, CommitResults, commit_results, outcome, nothing, error_number}
 use Rattle.journal_nfs3_wire.specs.QueryResults.{AccessResults, access_results, StatusResults, status_results, InformationResults, information_results, ConfigurationResults, configuration_results}
 use Rattle.journal_nfs3_wire.proofs.ResultFacts.{length-time, length-fattr, after_short, change_short, write_short, commit_short, ok_short, err_short}
+use Rattle.journal_treewire.specs.Directories.{path}
 use Rattle.journal_treewire.specs.Handles.{DiskHandle, disk_handle}
-use Rattle.journal_treewire.specs.Results.{given_handle, FoundResults, found_results, MadeResults, made_results, TwoChanges, two_changes, refusal, file_and_change}
+use Rattle.journal_treewire.specs.Results.{given_handle, FoundResults, found_results, LinkResults, link_results, MadeResults, made_results, TwoChanges, two_changes, refusal, file_and_change}
 
 -- ---- parts
 
@@ -28,6 +29,10 @@ found_short r =
     let a = post_op_attributes.spelling r.attributes in
     let d = post_op_attributes.spelling r.directory in
     omega (arith, length-append object (a ++ d), length-append a d, length-handle r.object, after_short r.attributes, after_short r.directory)
+
+link_short : (r : LinkResults) → length r.text ≤ 4095 → length (link_results.spelling r) ≤ 4200
+unfolding link_results string
+link_short r h = omega (arith, h, length-append (post_op_attributes.spelling r.attributes) (path.spelling r.text), after_short r.attributes, opaque_short 4294967295 r.text)
 
 made_short : (r : MadeResults) → length (made_results.spelling r) ≤ 228
 unfolding made_results
@@ -195,13 +200,16 @@ configuration_result r = omega (arith, outcome_short configuration_results post_
 refusal_short : {A : Type 0} (a : Item A) (why : NfsError) (v : A) → length (a.spelling v) ≤ 300 → IsShort ((refusal a).spelling (Some why, v))
 refusal_short a why v h = omega (arith, h, length-append (word.spelling (error_number why)) (a.spelling v), length-word (error_number why))
 
-pub link_result : (why : NfsError) (a : Option Fattr) → IsShort ((refusal post_op_attributes).spelling (Some why, a))
-link_result why a = refusal_short post_op_attributes why a (after_few a)
-
 pub linked_result : (why : NfsError) (c : Option Fattr × Change) → IsShort ((refusal file_and_change).spelling (Some why, c))
 linked_result why c = refusal_short file_and_change why c (omega (arith, length-append (post_op_attributes.spelling c.0) (change.spelling c.1), after_short c.0, change_short c.1))
 
--- ---- with bytes of a file, with a verifier, and with lines
+-- ---- with the text of a link, with bytes of a file, with a verifier, and with lines
+
+pub refused_link : (why : NfsError) → IsShort ((outcome link_results post_op_attributes).spelling (Err (why, None)))
+refused_link why = omega (arith, err_short link_results post_op_attributes why None 300 (after_few None))
+
+pub link_result : (r : LinkResults) → length r.text ≤ 4095 → IsShort ((outcome link_results post_op_attributes).spelling (Ok r))
+link_result r h = omega (arith, ok_short link_results post_op_attributes r 4200 (link_short r h))
 
 pub refused_read : (why : NfsError) → IsShort ((outcome read_results post_op_attributes).spelling (Err (why, None)))
 refused_read why = omega (arith, err_short read_results post_op_attributes why None 300 (after_few None))

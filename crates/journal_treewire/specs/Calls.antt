@@ -62,7 +62,7 @@ query_call disk (query.PathConfiguration h) = on_handle disk h pathconf
 abbrev pub directory_call : ℕ → links.DirectoryOperation → Resolved
 directory_call disk (links.ReadLink h) = on_handle disk h readlink
 directory_call disk (links.MakeDirectory e a) = on_handle disk e.directory (λ k. mkdir k e.called (settings_in a))
-directory_call disk (links.MakeLink a) = on_handle disk a.entry.directory (λ k. symlink k a.entry.called)
+directory_call disk (links.MakeLink a) = on_handle disk a.entry.directory (λ k. symlink k a.entry.called (settings_in a.attributes) a.path)
 directory_call disk (links.MakeNode e d) = on_handle disk e.directory (λ k. mknod k e.called)
 directory_call disk (links.RemoveDirectory e) = on_handle disk e.directory (λ k. rmdir k e.called)
 directory_call disk (links.Rename e f) = on_handles disk e.directory f.directory (λ h k. rename h e.called k f.called)
@@ -86,7 +86,7 @@ call_of (code_calls.Read r) = Some (read r.handle r.offset r.count)
 call_of (code_calls.Write w) = Some (write w.handle w.offset w.count w.bytes.now)
 call_of (code_calls.Create p mode) = Some (create p.directory p.name.now mode)
 call_of (code_calls.MakeDirectory p s) = Some (mkdir p.directory p.name.now s)
-call_of (code_calls.MakeLink p) = Some (symlink p.directory p.name.now)
+call_of (code_calls.MakeLink l) = Some (symlink l.entry.directory l.entry.name.now l.settings l.text.now)
 call_of (code_calls.MakeNode p) = Some (mknod p.directory p.name.now)
 call_of (code_calls.Remove p) = Some (remove p.directory p.name.now)
 call_of (code_calls.RemoveDirectory p) = Some (rmdir p.directory p.name.now)

@@ -4,6 +4,7 @@ use Rattle.journal_tree.specs.Attributes.{Access as TreeAccess}
 use Rattle.journal_tree.specs.Contents.{Portion}
 use Rattle.journal_tree.specs.Facts.{Facts, NameFacts}
 use Rattle.journal_tree.specs.Listing.{Listed, ListedPlus}
+use Rattle.journal_tree.specs.Names.{LinkText as TreeLinkText}
 use Rattle.journal_treecalls.specs.declared.attributes.AccessReply.{AccessReply}
 use Rattle.journal_treecalls.specs.declared.facts.FactsReply.{FactsReply}
 use Rattle.journal_treecalls.specs.declared.facts.NameFactsReply.{NameFactsReply}
@@ -16,15 +17,19 @@ use Rattle.journal_nfs3_wire.specs.QueryResults.{Entry, entry, AccessResults, Pa
 use Rattle.journal_nfs3_wire.specs.Profile.{no_change, outcome_of}
 use Rattle.journal_treewire.specs.declared.parts.FilePart.{FilePart}
 use Rattle.journal_treewire.specs.declared.parts.Lines.{Lines}
+use Rattle.journal_treewire.specs.declared.parts.ShortText.{ShortText}
 use Rattle.journal_treewire.specs.declared.results.TreeResults as code_results
 use Rattle.journal_treewire.specs.declared.results.TreeResults.TheVariants as code_result
-use Rattle.journal_treewire.specs.Profile.{fattr_of, change_of, found_of, access_of, read_of, write_of, made_of, renamed_of, no_changes, entry_of, entry_plus_of, list_of, list_plus_of, status_of, information_of, configuration_of, commit_of}
-use Rattle.journal_treewire.specs.Results.{EntryPlus, entry_plus, Results, Null, Attributes, Changed, Found, Access, NoLink, Read, Write, Made, Renamed, NotLinked, Directory, DirectoryPlus, FileSystemStatus, FileSystemInformation, PathConfiguration, Commit}
+use Rattle.journal_treewire.specs.Profile.{fattr_of, change_of, found_of, access_of, link_of, read_of, write_of, made_of, renamed_of, no_changes, entry_of, entry_plus_of, list_of, list_plus_of, status_of, information_of, configuration_of, commit_of}
+use Rattle.journal_treewire.specs.Results.{EntryPlus, entry_plus, LinkResults, Results, Null, Attributes, Changed, Found, Access, LinkText, Read, Write, Made, Renamed, NotLinked, Directory, DirectoryPlus, FileSystemStatus, FileSystemInformation, PathConfiguration, Commit}
 
 -- ---- the replies of the definitions
 
 abbrev pub access_told : AccessReply → TreeAccess
 access_told a = record { node = a.node; rights = a.rights }
+
+abbrev pub link_told : ShortText → TreeLinkText
+link_told t = record { node = t.reply.node; text = t.reply.text.items }
 
 abbrev pub part_told : FilePart → Portion
 part_told p = record { file = p.reply.file; bytes = p.reply.bytes.items; is_end = p.reply.is_end }
@@ -53,6 +58,9 @@ name_facts_told f = record {
 
 abbrev pub access_seen : ℕ → AccessReply → AccessResults
 access_seen disk a = access_of disk (access_told a)
+
+abbrev pub link_seen : ℕ → ShortText → LinkResults
+link_seen disk t = link_of disk (link_told t)
 
 abbrev pub read_seen : ℕ → FilePart → ReadResults
 read_seen disk p = read_of disk (part_told p)
@@ -88,7 +96,7 @@ results_of disk (code_result.Attributes r) = Attributes (outcome_of (fattr_of di
 results_of disk (code_result.Changed r) = Changed (outcome_of (change_of disk) no_change r)
 results_of disk (code_result.Found r) = Found (outcome_of (found_of disk) None r)
 results_of disk (code_result.Access r) = Access (outcome_of (access_seen disk) None r)
-results_of disk (code_result.NoLink why) = NoLink why None
+results_of disk (code_result.LinkText r) = LinkText (outcome_of (link_seen disk) None r)
 results_of disk (code_result.Read r) = Read (outcome_of (read_seen disk) None r)
 results_of disk (code_result.Write r count how verifier) = Write (outcome_of (write_of disk count how verifier.0) no_change r)
 results_of disk (code_result.Made r) = Made (outcome_of (made_of disk) no_change r)

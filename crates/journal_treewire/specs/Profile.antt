@@ -13,12 +13,13 @@ use Rattle.journal_tree.specs.Attributes.{Access as TreeAccess}
 use Rattle.journal_tree.specs.Contents.{Portion}
 use Rattle.journal_tree.specs.Facts.{Facts, NameFacts}
 use Rattle.journal_tree.specs.Listing.{Item, Line, Listed, ListedPlus}
+use Rattle.journal_tree.specs.Names.{LinkText}
 use Rattle.journal_nfs3_wire.specs.declared.arguments.StableHow.{StableHow}
 use Rattle.journal_nfs3_wire.specs.Results.{Fattr, Before, Change, ReadResults, WriteResults, CommitResults}
 use Rattle.journal_nfs3_wire.specs.QueryResults.{Entry, AccessResults, PageResults, StatusResults, InformationResults, ConfigurationResults}
 use Rattle.journal_nfs3_wire.specs.Profile.{no_change, stability_told}
 use Rattle.journal_treewire.specs.Handles.{DiskHandle}
-use Rattle.journal_treewire.specs.Results.{FoundResults, MadeResults, TwoChanges, EntryPlus}
+use Rattle.journal_treewire.specs.Results.{FoundResults, LinkResults, MadeResults, TwoChanges, EntryPlus}
 use Rattle.journal_treewire.specs.Values.{time_out}
 
 -- ---- a node
@@ -27,6 +28,7 @@ use Rattle.journal_treewire.specs.Values.{time_out}
 abbrev pub type_of : Kind → ℕ
 type_of kinds.Directory = 2
 type_of kinds.File = 1
+type_of kinds.Link = 5
 
 -- the bytes of the blocks that a node of this size may have. No node has more than the most
 abbrev pub used_of : ℕ → ℕ
@@ -68,6 +70,9 @@ found_of disk f = record { object = handle_of disk f.node.number f.generation; a
 
 abbrev pub access_of : ℕ → TreeAccess → AccessResults
 access_of disk a = record { attributes = Some (fattr_of disk a.node); granted = a.rights }
+
+abbrev pub link_of : ℕ → LinkText → LinkResults
+link_of disk l = record { attributes = Some (fattr_of disk l.node); text = l.text }
 
 abbrev pub read_of : ℕ → Portion → ReadResults
 read_of disk p = record { attributes = Some (fattr_of disk p.file); count = length p.bytes; is_end = p.is_end; bytes = p.bytes }

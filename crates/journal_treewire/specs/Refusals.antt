@@ -7,7 +7,7 @@ use Rattle.journal_nfs3_wire.specs.Queries as query
 use Rattle.journal_treewire.specs.Directories as links
 use Rattle.journal_treewire.specs.Profile.{no_changes}
 use Rattle.journal_treewire.specs.Requests.{Requested, Requested as requested, file, directory}
-use Rattle.journal_treewire.specs.Results.{Results, Null, Attributes, Changed, Found, Access, NoLink, Read, Write, Made, Renamed, NotLinked, Directory, DirectoryPlus, FileSystemStatus, FileSystemInformation, PathConfiguration, Commit}
+use Rattle.journal_treewire.specs.Results.{Results, Null, Attributes, Changed, Found, Access, LinkText, Read, Write, Made, Renamed, NotLinked, Directory, DirectoryPlus, FileSystemStatus, FileSystemInformation, PathConfiguration, Commit}
 
 -- NULL is never refused
 abbrev pub refused_file : nine.Operation → NfsError → Results
@@ -30,7 +30,7 @@ refused_query (query.FileSystemInformation h) why = FileSystemInformation (Err (
 refused_query (query.PathConfiguration h) why = PathConfiguration (Err (why, None))
 
 abbrev pub refused_directory : links.DirectoryOperation → NfsError → Results
-refused_directory (links.ReadLink h) why = NoLink why None
+refused_directory (links.ReadLink h) why = LinkText (Err (why, None))
 refused_directory (links.MakeDirectory e a) why = Made (Err (why, no_change))
 refused_directory (links.MakeLink a) why = Made (Err (why, no_change))
 refused_directory (links.MakeNode e d) why = Made (Err (why, no_change))

@@ -6,6 +6,7 @@ use Rattle.journal_nfs3_wire.specs.declared.results.NfsError.{NfsError}
 use Rattle.journal_nfs3_wire.specs.Whole.{whole}
 use Rattle.journal_nfs3_wire.specs.Results.{Fattr, fattr, post_op_attributes, Change, change, ReadResults, read_results, WriteResults, write_results, CommitResults, commit_results, outcome, status, nothing}
 use Rattle.journal_nfs3_wire.specs.QueryResults.{Entry, entry, AccessResults, access_results, PageResults, page_results, StatusResults, status_results, InformationResults, information_results, ConfigurationResults, configuration_results}
+use Rattle.journal_treewire.specs.Directories.{path}
 use Rattle.journal_treewire.specs.Handles.{DiskHandle, disk_handle}
 
 -- nfs_fh3, of a handle's 16 bytes
@@ -20,6 +21,14 @@ pub record FoundResults : Type 0 where
 
 unfoldable pub found_results : Item FoundResults
 found_results = mapped_item (pair given_handle (pair post_op_attributes post_op_attributes)) (λ p. record { object = p.0; attributes = p.1.0; directory = p.1.1 }) (λ r. (r.object, (r.attributes, r.directory)))
+
+-- READLINK3resok
+pub record LinkResults : Type 0 where
+  pub attributes : Option Fattr
+  pub text : List ℕ
+
+unfoldable pub link_results : Item LinkResults
+link_results = mapped_item (pair post_op_attributes path) (λ p. record { attributes = p.0; text = p.1 }) (λ r. (r.attributes, r.text))
 
 -- CREATE3resok, MKDIR3resok, SYMLINK3resok and MKNOD3resok
 pub record MadeResults : Type 0 where
@@ -55,14 +64,14 @@ abbrev pub file_and_change : Item (Option Fattr × Change)
 file_and_change = pair post_op_attributes change
 
 -- Results, by their form. The four procedures that make a node have one form, and so have SETATTR,
--- REMOVE and RMDIR. READLINK and LINK are always refused
+-- REMOVE and RMDIR. LINK is always refused
 pub data Results : Type 0 where
   Null : Results
   Attributes : Result Fattr (NfsError × Unit {0}) → Results
   Changed : Result Change (NfsError × Change) → Results
   Found : Result FoundResults (NfsError × Option Fattr) → Results
   Access : Result AccessResults (NfsError × Option Fattr) → Results
-  NoLink : NfsError → Option Fattr → Results
+  LinkText : Result LinkResults (NfsError × Option Fattr) → Results
   Read : Result ReadResults (NfsError × Option Fattr) → Results
   Write : Result WriteResults (NfsError × Change) → Results
   Made : Result MadeResults (NfsError × Change) → Results
@@ -86,7 +95,7 @@ results_text (Attributes r) = (outcome fattr nothing).spelling r
 results_text (Changed r) = (outcome change change).spelling r
 results_text (Found r) = (outcome found_results post_op_attributes).spelling r
 results_text (Access r) = (outcome access_results post_op_attributes).spelling r
-results_text (NoLink why a) = (refusal post_op_attributes).spelling (Some why, a)
+results_text (LinkText r) = (outcome link_results post_op_attributes).spelling r
 results_text (Read r) = (outcome read_results post_op_attributes).spelling r
 results_text (Write r) = (outcome write_results change).spelling r
 results_text (Made r) = (outcome made_results change).spelling r
@@ -106,7 +115,7 @@ AreInGrammar (Attributes r) = (outcome fattr nothing).Has r
 AreInGrammar (Changed r) = (outcome change change).Has r
 AreInGrammar (Found r) = (outcome found_results post_op_attributes).Has r
 AreInGrammar (Access r) = (outcome access_results post_op_attributes).Has r
-AreInGrammar (NoLink why a) = (refusal post_op_attributes).Has (Some why, a)
+AreInGrammar (LinkText r) = (outcome link_results post_op_attributes).Has r
 AreInGrammar (Read r) = (outcome read_results post_op_attributes).Has r
 AreInGrammar (Write r) = (outcome write_results change).Has r
 AreInGrammar (Made r) = (outcome made_results change).Has r

@@ -25,6 +25,7 @@ fn type_of(kind: Kind) -> u32
     match kind {
         Kind::File => 1,
         Kind::Directory => 2,
+        Kind::Link => 5,
     }
 }
 

@@ -29,6 +29,15 @@ pub struct SetCall {
     pub guard: Option<Time>,
 }
 
+/// SYMLINK.
+#[derive(Clone, Copy, Debug)]
+pub struct LinkCall<'a> {
+    pub entry: NameIn<'a>,
+    pub settings: Settings,
+    /// The text: where the link leads.
+    pub text: &'a [u8],
+}
+
 /// READ.
 #[derive(Clone, Copy, Debug)]
 pub struct ReadCall {
@@ -81,7 +90,7 @@ pub enum TreeCall<'a> {
     Write(WriteCall<'a>),
     Create(NameIn<'a>, CreateMode),
     MakeDirectory(NameIn<'a>, Settings),
-    MakeLink(NameIn<'a>),
+    MakeLink(LinkCall<'a>),
     MakeNode(NameIn<'a>),
     Remove(NameIn<'a>),
     RemoveDirectory(NameIn<'a>),
@@ -183,7 +192,11 @@ fn resolve_directory_operation<'a>(
         DirectoryOperation::MakeDirectory(entry, attributes) => {
             TreeCall::MakeDirectory(name_in(disk, entry)?, settings_in(*attributes))
         }
-        DirectoryOperation::MakeLink(link) => TreeCall::MakeLink(name_in(disk, &link.entry)?),
+        DirectoryOperation::MakeLink(link) => TreeCall::MakeLink(LinkCall {
+            entry: name_in(disk, &link.entry)?,
+            settings: settings_in(link.attributes),
+            text: link.path,
+        }),
         DirectoryOperation::MakeNode(entry, _) => TreeCall::MakeNode(name_in(disk, entry)?),
         DirectoryOperation::RemoveDirectory(entry) => {
             TreeCall::RemoveDirectory(name_in(disk, entry)?)

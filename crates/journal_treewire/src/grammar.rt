@@ -4,12 +4,12 @@ ghost use Rattle.std.specs.List.{All};
 ghost use Rattle.journal_nfs3_wire.specs.Profile.{no_change, outcome_of};
 ghost use Rattle.journal_nfs3_wire.specs.QueryResults.{entry, access_results, page_results, status_results, information_results, configuration_results};
 ghost use Rattle.journal_nfs3_wire.specs.Results.{outcome, nothing, fattr, before, post_op_attributes, change, read_results, write_results, commit_results};
-ghost use Rattle.journal_treewire.specs.CodeViews.{results_of, access_seen, read_seen, line_seen, line_plus_seen, list_seen, list_plus_seen, information_seen, configuration_seen};
+ghost use Rattle.journal_treewire.specs.CodeViews.{results_of, access_seen, link_seen, read_seen, line_seen, line_plus_seen, list_seen, list_plus_seen, information_seen, configuration_seen};
 ghost use Rattle.journal_treewire.specs.Profile.{fattr_of, before_of, change_of, handle_of, found_of, write_of, made_of, renamed_of, no_changes, status_of, commit_of};
-ghost use Rattle.journal_treewire.specs.Results.{given_handle, found_results, made_results, two_changes, entry_plus, AreInGrammar};
+ghost use Rattle.journal_treewire.specs.Results.{given_handle, found_results, link_results, made_results, two_changes, entry_plus, AreInGrammar};
 
 use crate::length::prove_verifier;
-use crate::parts::{FilePart, Lines};
+use crate::parts::{FilePart, Lines, ShortText};
 use crate::results::{DiskResults, TreeResults};
 use journal_nfs3_wire::{NfsError, StableHow, Verifier};
 use journal_tree::{Changed, Found, Made, Renamed, Space, Time, Told};
@@ -28,7 +28,7 @@ impl DiskResults {
             TreeResults::Changed(answer) => prove_changed(disk, answer),
             TreeResults::Found(answer) => prove_found(disk, answer),
             TreeResults::Access(answer) => prove_access(disk, answer),
-            TreeResults::NoLink(_) => {}
+            TreeResults::LinkText(answer) => prove_link_text(disk, answer),
             TreeResults::Read(answer) => prove_read(disk, answer),
             TreeResults::Write {
                 outcome,
@@ -95,6 +95,19 @@ fn prove_access(disk: u64, answer: &Result<AccessReply, NfsError>)
         Ok(access) => {
             prove_told(disk, &access.node);
             prove_word(access.rights);
+        }
+        Err(_) => {}
+    }
+}
+
+#[tactic(auto, using(crate::proofs::Fitting::link_ok))]
+fn prove_link_text(disk: u64, answer: &Result<ShortText, NfsError>)
+    ensures { (outcome link_results post_op_attributes).Has (outcome_of (link_seen disk) None answer.now) }
+{
+    match answer {
+        Ok(text) => {
+            prove_told(disk, &text.reply.node);
+            let _ = text.reply.text.len();
         }
         Err(_) => {}
     }

@@ -6,12 +6,12 @@ ghost use Rattle.journal_nfs3_wire.specs.QueryResults.{page_results};
 ghost use Rattle.journal_nfs3_wire.specs.Results.{outcome, post_op_attributes, change};
 ghost use Rattle.journal_nfs3_wire.specs.Whole.{IsSpelling};
 ghost use Rattle.journal_treewire.specs.declared.procedure.DirectoryProcedure.{DirectoryProcedure};
-ghost use Rattle.journal_treewire.specs.Bounds.{PartsAreShort, ListingsAreFew, PlusListingsAreFew};
+ghost use Rattle.journal_treewire.specs.Bounds.{PartsAreShort, TextsAreShort, ListingsAreFew, PlusListingsAreFew};
 ghost use Rattle.journal_treewire.specs.Credentials.{system_body};
 ghost use Rattle.journal_treewire.specs.Directories.{DirectoryOperation, directory_arguments, directory_procedure_number};
 ghost use Rattle.journal_treewire.specs.Handles.{disk_handle, handle_in};
 ghost use Rattle.journal_treewire.specs.ListLengths.{ListingsFit, PlusListingsFit, PlusNamesFit};
-ghost use Rattle.journal_treewire.specs.Results.{found_results, made_results, two_changes, entry_plus};
+ghost use Rattle.journal_treewire.specs.Results.{found_results, link_results, made_results, two_changes, entry_plus};
 ghost use Rattle.journal_treewire.specs.Requests.{requested, directory};
 
 /// The arguments of the procedures of directories and links are items, as those of the others are
@@ -46,18 +46,21 @@ pub fn listings_have_room()
     ensures names { PlusNamesFit }
 {}
 
-/// A READ answers no more bytes than it is asked for, and at most `TRANSFER_BYTES`. A listing has at
-/// most one line for each 24 bytes that it is asked to have.
+/// A READ answers no more bytes than it is asked for, and at most `TRANSFER_BYTES`. A READLINK
+/// answers at most `MOST_LINK`. A listing has at most one line for each 24 bytes that it is asked
+/// to have.
 pub fn answers_are_bounded()
     ensures parts { PartsAreShort }
+    ensures texts { TextsAreShort }
     ensures plain { ListingsAreFew }
     ensures plus { PlusListingsAreFew }
 {}
 
-/// The results of LOOKUP, of the procedures that make a node, of RENAME and of READDIRPLUS are
-/// items, as those of the others are in `journal_nfs3_wire`.
+/// The results of LOOKUP, of READLINK, of the procedures that make a node, of RENAME and of
+/// READDIRPLUS are items, as those of the others are in `journal_nfs3_wire`.
 pub fn node_results_are_spellings()
     ensures found { IsGrammar (outcome found_results post_op_attributes) }
+    ensures text { IsGrammar (outcome link_results post_op_attributes) }
     ensures made { IsGrammar (outcome made_results change) }
     ensures renamed { IsGrammar (outcome two_changes two_changes) }
     ensures listing { IsGrammar (outcome (page_results entry_plus) post_op_attributes) }

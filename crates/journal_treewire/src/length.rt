@@ -3,11 +3,11 @@ ghost use Rattle.std.specs.Prelude.{◌≡◌, ◌≤◌, ◌<◌, ◌^◌, ◌*
 ghost use Rattle.journal_nfs3_wire.specs.Profile.{no_change, outcome_of};
 ghost use Rattle.journal_nfs3_wire.specs.QueryResults.{entry, page_results};
 ghost use Rattle.journal_nfs3_wire.specs.Results.{outcome, post_op_attributes, change, read_results, write_results, commit_results};
-ghost use Rattle.journal_treewire.specs.CodeViews.{results_of, line_text, line_plus_text, read_seen, list_seen, list_plus_seen};
+ghost use Rattle.journal_treewire.specs.CodeViews.{results_of, line_text, line_plus_text, link_seen, read_seen, list_seen, list_plus_seen};
 ghost use Rattle.journal_treewire.specs.Profile.{write_of, commit_of};
-ghost use Rattle.journal_treewire.specs.Results.{results_text, entry_plus};
+ghost use Rattle.journal_treewire.specs.Results.{results_text, link_results, entry_plus};
 
-use crate::parts::{FilePart, Lines};
+use crate::parts::{FilePart, Lines, ShortText};
 use crate::results::{DiskResults, TreeResults};
 use journal_nfs3_wire::{NfsError, StableHow, Verifier};
 use journal_tree::Changed;
@@ -23,6 +23,7 @@ impl DiskResults {
     /// A number of bytes for which room is made before they are written. Longer ones take more.
     pub fn room(&self) -> usize {
         match &self.results {
+            TreeResults::LinkText(Ok(text)) => FORM_BYTES + text.reply.text.len(),
             TreeResults::Read(Ok(part)) => FORM_BYTES + part.reply.bytes.len(),
             TreeResults::Directory(Ok(lines)) => FORM_BYTES + room_of(0, &lines.reply.lines),
             TreeResults::DirectoryPlus(Ok(lines)) => FORM_BYTES + room_of(0, &lines.reply.lines),
@@ -42,7 +43,7 @@ impl DiskResults {
             TreeResults::Changed(_) => {}
             TreeResults::Found(_) => {}
             TreeResults::Access(_) => {}
-            TreeResults::NoLink(_) => {}
+            TreeResults::LinkText(outcome) => prove_text(disk, outcome),
             TreeResults::Read(outcome) => prove_part(disk, outcome),
             TreeResults::Write {
                 outcome,
@@ -60,6 +61,18 @@ impl DiskResults {
             TreeResults::PathConfiguration(_) => {}
             TreeResults::Commit { outcome, verifier } => prove_committed(disk, outcome, verifier),
         }
+    }
+}
+
+#[tactic(auto, using(crate::proofs::Short::link_result, crate::proofs::Short::refused_link))]
+fn prove_text(disk: u64, answer: &Result<ShortText, NfsError>)
+    ensures { length ((outcome link_results post_op_attributes).spelling (outcome_of (link_seen disk) None answer.now)) < 2 ^ 30 }
+{
+    match answer {
+        Ok(text) => {
+            let _ = text.reply.text.len();
+        }
+        Err(_) => {}
     }
 }
 

@@ -1,6 +1,6 @@
-//! The wire of NFS version 3 (RFC 1813) over a tree of directories and files: which call of
-//! `journal_tree` the bytes of a request ask for, of which caller, and which bytes are its results.
-//! It knows no disk and no journal, so it is proved beside them and not after them.
+//! The wire of NFS version 3 (RFC 1813) over a tree of directories, files and symbolic links: which
+//! call of `journal_tree` the bytes of a request ask for, of which caller, and which bytes are its
+//! results. It knows no disk and no journal, so it is proved beside them and not after them.
 //!
 //! `specs/Requests.antt` says which request the arguments of each of the 22 procedures are, by the
 //! grammar of `journal_nfs3_wire` and by `specs/Directories.antt`. `specs/Calls.antt` says which
@@ -34,7 +34,9 @@ mod values;
 mod writing;
 
 pub use arguments::{Device, DirectoryOperation, LinkArguments, NodeData, Requested};
-pub use call::{ListCall, ListPlusCall, NameIn, ReadCall, SetCall, TreeCall, WriteCall, resolve};
+pub use call::{
+    LinkCall, ListCall, ListPlusCall, NameIn, ReadCall, SetCall, TreeCall, WriteCall, resolve,
+};
 pub use credential::{Credential, read_credential};
 pub use decision::read_request;
 pub use handle::read_handle;
@@ -42,7 +44,7 @@ pub use laws::{
     answers_are_bounded, credentials_are_spellings, directory_arguments_are_spellings,
     disk_handles_are_spellings, listings_have_room, node_results_are_spellings,
 };
-pub use parts::{FilePart, Lines, MOST_LINES};
+pub use parts::{FilePart, Lines, MOST_LINES, ShortText};
 pub use procedure::DirectoryProcedure;
 pub use results::{DiskResults, TreeResults};
 pub use values::error_of;

@@ -1,10 +1,10 @@
 // Answers that are short enough for a reply.
 ghost use Rattle.std.specs.Prelude.{◌≡◌, ◌≤◌, ◌↔◌, IsSome, IfSome, length};
-ghost use Rattle.journal_tree.specs.declared.limits.TheConstants.{TRANSFER_BYTES};
+ghost use Rattle.journal_tree.specs.declared.limits.TheConstants.{MOST_LINK, TRANSFER_BYTES};
 ghost use Rattle.journal_treewire.specs.declared.parts.TheConstants.{MOST_LINES};
 
-use journal_tree::TRANSFER_BYTES;
-use journal_treecalls::{ListReply, ReadReply};
+use journal_tree::{MOST_LINK, TRANSFER_BYTES};
+use journal_treecalls::{LinkReply, ListReply, ReadReply};
 
 /// The most lines of a listing of `TRANSFER_BYTES` bytes, in which a line has 24 bytes at least.
 pub const MOST_LINES: usize = 2730;
@@ -26,6 +26,26 @@ impl FilePart {
             return None;
         }
         Some(FilePart { reply })
+    }
+}
+
+/// The answer of READLINK, with no more bytes than a link's text has.
+#[derive(Debug, Drop)]
+pub struct ShortText {
+    pub reply: LinkReply,
+    pub ghost short: { length reply.text.items ≤ 4095 },
+}
+
+impl ShortText {
+    /// The answer, or `None` if it has more than `MOST_LINK` bytes.
+    pub fn of(reply: LinkReply) -> Option<ShortText>
+        ensures same { IfSome result (λ text. text.reply ≡ reply) }
+        ensures short { IsSome result ↔ (length reply.text.items ≤ MOST_LINK) }
+    {
+        if reply.text.len() > MOST_LINK as usize {
+            return None;
+        }
+        Some(ShortText { reply })
     }
 }
 

@@ -69,7 +69,7 @@ fn refused_directory_operation(operation: &DirectoryOperation<'_>, why: NfsError
     ensures { (disk : ℕ) → results_of disk result ≡ refused_directory (directory_operation_of operation.now) why }
 {
     match operation {
-        DirectoryOperation::ReadLink(_) => TreeResults::NoLink(why),
+        DirectoryOperation::ReadLink(_) => TreeResults::LinkText(Err(why)),
         DirectoryOperation::MakeDirectory(_, _) => TreeResults::Made(Err(why)),
         DirectoryOperation::MakeLink(_) => TreeResults::Made(Err(why)),
         DirectoryOperation::MakeNode(_, _) => TreeResults::Made(Err(why)),

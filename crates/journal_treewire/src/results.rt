@@ -2,11 +2,11 @@
 ghost use Rattle.std.specs.Prelude.{◌≡◌, ◌++◌};
 
 use crate::listing::{write_lines, write_lines_plus};
-use crate::parts::{FilePart, Lines};
+use crate::parts::{FilePart, Lines, ShortText};
 use crate::space::{write_information, write_path_configuration, write_space};
 use crate::writing::{
-    write_access, write_attributes_of, write_changed, write_commit, write_found, write_made,
-    write_not_linked, write_read, write_refused_link, write_renamed, write_write,
+    write_access, write_attributes_of, write_changed, write_commit, write_found, write_link_text,
+    write_made, write_not_linked, write_read, write_renamed, write_write,
 };
 use journal_nfs3_wire::{NfsError, StableHow, Verifier};
 use journal_tree::{Changed, Found, Made, Renamed, Space, Told};
@@ -25,8 +25,8 @@ pub enum TreeResults {
     /// LOOKUP.
     Found(Result<Found, NfsError>),
     Access(Result<AccessReply, NfsError>),
-    /// READLINK, which is refused.
-    NoLink(NfsError),
+    /// READLINK.
+    LinkText(Result<ShortText, NfsError>),
     Read(Result<FilePart, NfsError>),
     Write {
         outcome: Result<Changed, NfsError>,
@@ -72,7 +72,7 @@ impl journal_rpc::Results for DiskResults {
             TreeResults::Changed(outcome) => write_changed(writer, disk, outcome),
             TreeResults::Found(outcome) => write_found(writer, disk, outcome),
             TreeResults::Access(outcome) => write_access(writer, disk, outcome),
-            TreeResults::NoLink(why) => write_refused_link(writer, *why),
+            TreeResults::LinkText(outcome) => write_link_text(writer, disk, outcome),
             TreeResults::Read(outcome) => write_read(writer, disk, outcome),
             TreeResults::Write {
                 outcome,

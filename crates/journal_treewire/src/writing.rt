@@ -4,12 +4,12 @@ ghost use Rattle.journal_xdr.specs.Items.{Writes};
 ghost use Rattle.journal_nfs3_wire.specs.Results.{fattr, post_op_attributes, change, read_results, write_results, commit_results, outcome, nothing};
 ghost use Rattle.journal_nfs3_wire.specs.QueryResults.{access_results};
 ghost use Rattle.journal_nfs3_wire.specs.Profile.{no_change, outcome_of};
-ghost use Rattle.journal_treewire.specs.CodeViews.{access_seen, read_seen};
+ghost use Rattle.journal_treewire.specs.CodeViews.{access_seen, link_seen, read_seen};
 ghost use Rattle.journal_treewire.specs.Profile.{fattr_of, change_of, found_of, write_of, made_of, renamed_of, no_changes, commit_of};
-ghost use Rattle.journal_treewire.specs.Results.{found_results, made_results, refusal, two_changes, file_and_change};
+ghost use Rattle.journal_treewire.specs.Results.{found_results, link_results, made_results, refusal, two_changes, file_and_change};
 
 use crate::attributes::{write_change, write_handle, write_some_told, write_told};
-use crate::parts::FilePart;
+use crate::parts::{FilePart, ShortText};
 use journal_nfs3_wire::{NfsError, StableHow, Untold, Verifier, write_status};
 use journal_tree::{Changed, Found, Made, Renamed, Told};
 use journal_treecalls::AccessReply;
@@ -81,12 +81,22 @@ pub(crate) fn write_access(
     writer.word(access.rights)
 }
 
-// READLINK, which is refused (RFC 1813, section 3.3.5).
-pub(crate) fn write_refused_link(writer: &mut Writer, why: NfsError) -> Result<(), AllocError>
-    ensures { OnOk result (Writes (refusal post_op_attributes) (Some why, None) writer.old writer.new) }
+// READLINK (RFC 1813, section 3.3.5).
+#[tactic(auto, unfolding(crate::specs::Results::link_results))]
+pub(crate) fn write_link_text(
+    writer: &mut Writer,
+    disk: u64,
+    answer: &Result<ShortText, NfsError>,
+) -> Result<(), AllocError>
+    ensures { OnOk result (Writes (outcome link_results post_op_attributes) (outcome_of (link_seen disk) None answer.now) writer.old writer.new) }
 {
-    writer.word(why as u32)?;
-    writer.boolean(false)
+    write_status(writer, answer, Untold::Attributes)?;
+    let Ok(text) = answer else {
+        return Ok(());
+    };
+    let reply = &text.reply;
+    write_some_told(writer, disk, &reply.node)?;
+    writer.string(&reply.text)
 }
 
 // READ (RFC 1813, section 3.3.6).

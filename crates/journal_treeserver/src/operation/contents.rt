@@ -2,9 +2,9 @@
 use super::{NfsOperation, Told};
 use journal_nfs3_wire::{NfsError, StableHow, Verifier};
 use journal_tree::{Changed, Status};
-use journal_treecalls::ReadReply;
+use journal_treecalls::{LinkReply, ReadReply};
 use journal_treeobjects::{Commit, Read, ReadLink, Write};
-use journal_treewire::{FilePart, TreeResults, error_of};
+use journal_treewire::{FilePart, ShortText, TreeResults, error_of};
 
 impl NfsOperation for Read {
     fn tell(&self, reply: Result<ReadReply, Status>, _how: StableHow, _verifier: Verifier) -> Told {
@@ -54,7 +54,13 @@ impl NfsOperation for Commit {
 }
 
 impl NfsOperation for ReadLink {
-    fn tell(&self, reply: Status, _how: StableHow, _verifier: Verifier) -> Told {
-        Told::refusal(TreeResults::NoLink(error_of(reply)))
+    fn tell(&self, reply: Result<LinkReply, Status>, _how: StableHow, _verifier: Verifier) -> Told {
+        match reply {
+            Ok(reply) => match ShortText::of(reply) {
+                Some(text) => Told::done(TreeResults::LinkText(Ok(text))),
+                None => Told::done(TreeResults::LinkText(Err(NfsError::ServerFault))),
+            },
+            Err(status) => Told::refusal(TreeResults::LinkText(Err(error_of(status)))),
+        }
     }
 }
