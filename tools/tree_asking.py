@@ -1,7 +1,7 @@
 """A tree of files that `jnlfs serve` serves, as it is asked by bytes that are made by hand, and how
 its answers are compared with those that are written down.
 
-A module: `tree_vectors.py` and `tree_renames.py` use it, which have what is asked.
+A module: `tree_vectors.py`, `tree_renames.py` and `tree_links.py` use it, which have what is asked.
 """
 
 import os
@@ -14,6 +14,7 @@ BLOCK = 4096
 LARGEST_FILE = 196608
 TRANSFER = 65536
 LONGEST_NAME = 255
+LONGEST_TEXT = 4095
 NOBODY = 65534
 ROOT_NUMBER = 1
 NO_TIME = Time(0, 10**9)
@@ -123,6 +124,11 @@ class Vectors:
     def folder(self, directory, name, by=ROOT_USER, **asked):
         """The handle of a new folder."""
         return self.does(f"MKDIR {name}", MKDIR, entry(directory, name) + settings(**asked), by).handle
+
+    def link(self, directory, name, text, by=ROOT_USER, **asked):
+        """The handle of a new symbolic link."""
+        arguments = entry(directory, name) + settings(**asked) + opaque(text)
+        return self.does(f"SYMLINK {name}", SYMLINK, arguments, by).handle
 
     def write(self, handle, data, offset=0, by=ROOT_USER):
         return self.does("WRITE", WRITE, written(handle, offset, data), by)

@@ -1,6 +1,7 @@
 """Basic cases of a mounted file system, as Connectathon's tests have them: trees that are made and
 removed, lookups, attributes, bytes, listings, renames, the state of the file system, and files that
-are open while their names change. Links are left out: they are not served.
+are open while their names change, and symbolic links. Second names are left out: they are not
+served.
 
 A module: `tree_uses.py` takes its checks.
 """
@@ -8,6 +9,7 @@ A module: `tree_uses.py` takes its checks.
 import errno
 import os
 import random
+import stat
 
 from tree_mount import *
 
@@ -127,6 +129,18 @@ def basic_renames():
     run("rm", *(A / name for name in names_in(A)))
 
 
+def basic_symbolic_links():
+    paths = [A / f"symlink.{number}" for number in range(TOP_FILES)]
+    for number in range(TIMES):
+        for path in paths:
+            text = f"/this/is/a/symlink {number} {path.name}"
+            os.symlink(text, path)
+            equal("a link", stat.S_ISLNK(path.lstat().st_mode), True)
+            equal("where it leads", os.readlink(path), text)
+            path.unlink()
+    equal("what is left", names_in(A), [])
+
+
 def basic_states():
     told = {tuple(os.statvfs(A))[:3] for _ in range(500)}
     equal("units and blocks", len(told), 1)
@@ -204,6 +218,7 @@ CHECKS = (
     basic_bytes,
     basic_listings,
     basic_renames,
+    basic_symbolic_links,
     basic_states,
     open_files,
     holes_and_seeks,

@@ -26,7 +26,7 @@ struct connection {
     int socket;
     char *calls, *end;
     long count, jukebox;
-    double *spent, finished;
+    double *spent, begun, finished;
 };
 
 static struct sockaddr_in service;
@@ -112,6 +112,7 @@ static void *run(void *argument) {
     struct connection *it = argument;
     char *at = it->calls;
     pthread_barrier_wait(&together);
+    it->begun = now();
     for (long number = 0; number < it->count; number++) {
         size_t length = 4 + (word(at) & ~LAST_FRAGMENT);
         double begun = now();
@@ -134,19 +135,20 @@ static int compare(const void *one, const void *other) {
     return (a > b) - (a < b);
 }
 
-static void print(struct connection *all, int count, double begun) {
-    double last = begun, *spent;
+static void print(struct connection *all, int count) {
+    double first = all[0].begun, last = all[0].finished, *spent;
     long calls = 0, jukebox = 0;
     for (int place = 0; place < count; place++) {
         calls += all[place].count;
         jukebox += all[place].jukebox;
+        first = all[place].begun < first ? all[place].begun : first;
         last = all[place].finished > last ? all[place].finished : last;
     }
     spent = malloc(calls * sizeof *spent);
     for (int place = 0, at = 0; place < count; at += all[place++].count)
         memcpy(spent + at, all[place].spent, all[place].count * sizeof *spent);
     qsort(spent, calls, sizeof *spent, compare);
-    printf("%.6f %.1f %ld\n", last - begun, 1e6 * spent[calls / 2], jukebox);
+    printf("%.6f %.1f %ld\n", last - first, 1e6 * spent[calls / 2], jukebox);
 }
 
 int main(int count, char **words) {
@@ -159,17 +161,15 @@ int main(int count, char **words) {
     int connections = count - 3;
     struct connection *all = calloc(connections, sizeof *all);
     pthread_t *threads = calloc(connections, sizeof *threads);
-    pthread_barrier_init(&together, NULL, connections + 1);
+    pthread_barrier_init(&together, NULL, connections);
     for (int place = 0; place < connections; place++) {
         read_file(&all[place], words[3 + place]);
         connect_to_service(&all[place]);
         if (pthread_create(&threads[place], NULL, run, &all[place]) != 0)
             fail("no thread can be made");
     }
-    pthread_barrier_wait(&together);
-    double begun = now();
     for (int place = 0; place < connections; place++)
         pthread_join(threads[place], NULL);
-    print(all, connections, begun);
+    print(all, connections);
     return 0;
 }

@@ -25,7 +25,7 @@ SERVERFAULT, JUKEBOX = 10006, 10008
 
 UNSTABLE, DATA_SYNC, FILE_SYNC = 0, 1, 2
 UNCHECKED, GUARDED, EXCLUSIVE = 0, 1, 2
-FILE, DIRECTORY = 1, 2
+FILE, DIRECTORY, SYMBOLIC_LINK = 1, 2, 5
 
 # How many words follow the status of a refusal: a zero for each part that may be there.
 AFTER_REFUSAL = {GETATTR: 0, RENAME: 4, LINK: 3}
@@ -172,7 +172,7 @@ class Found(NamedTuple):
 
 
 class Made(NamedTuple):
-    """CREATE3resok, MKDIR3resok."""
+    """CREATE3resok, MKDIR3resok and SYMLINK3resok."""
 
     handle: Optional[bytes]
     attributes: Optional[Attributes]
@@ -189,6 +189,13 @@ class Renamed(NamedTuple):
 class Access(NamedTuple):
     attributes: Optional[Attributes]
     rights: int
+
+
+class LinkText(NamedTuple):
+    """READLINK3resok."""
+
+    attributes: Optional[Attributes]
+    text: bytes
 
 
 class Portion(NamedTuple):
@@ -308,6 +315,9 @@ class Reader:
     def access(self):
         return Access(self.optional(self.attributes), self.word())
 
+    def link_text(self):
+        return LinkText(self.optional(self.attributes), self.opaque())
+
     def portion(self):
         return Portion(self.optional(self.attributes), self.word(), self.boolean(), self.opaque())
 
@@ -346,10 +356,12 @@ RESULTS = {
     SETATTR: Reader.change,
     LOOKUP: Reader.found,
     ACCESS: Reader.access,
+    READLINK: Reader.link_text,
     READ: Reader.portion,
     WRITE: Reader.wrote,
     CREATE: Reader.made,
     MKDIR: Reader.made,
+    SYMLINK: Reader.made,
     REMOVE: Reader.change,
     RMDIR: Reader.change,
     RENAME: Reader.renamed,

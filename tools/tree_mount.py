@@ -15,7 +15,7 @@ import types
 from pathlib import Path
 
 MOST_BYTES = 196608
-LONGEST_NAME = 255
+LONGEST_NAME, LONGEST_TEXT = 255, 4095
 BLOCK = 4096
 NOBODY, USER, GROUP = 65534, 1000, 77
 ENOTSUPP = 524  # What Linux makes of NFS3ERR_NOTSUPP. It has no name outside of the kernel.

@@ -42,6 +42,7 @@ def make_tree(top):
             path = (folder, folder.parent, folder.parent.parent)[place % 3] / f"file{place}-{size}"
             write(path, bytes_of(size), (0o644, 0o444, 0o600, 0o755, 0o400)[place % 5])
             os.utime(path, ns=(10**18 + place, 10**18 + number * 10**9 + place))
+    make_links(top)
     (top / "empty").mkdir(mode=0o700)
     (top / "name with blanks and ümläuts").write_text("x")
     os.chown(top / "empty", USER, GROUP)
@@ -49,13 +50,30 @@ def make_tree(top):
         os.utime(folder, ns=(10**18, 10**18 + 12345))
 
 
+def make_links(top):
+    """Links to a file, to a folder, above, to nothing and of the greatest length, with owners and
+    times of their own."""
+    texts = ("folder0/inner/file1-1", "folder1", "../tree/folder2", "nothing", "/nowhere/at all", "x" * LONGEST_TEXT)
+    for number, text in enumerate(texts):
+        path = top / f"link{number}"
+        path.symlink_to(text)
+        os.chown(path, USER, GROUP, follow_symlinks=False)
+        os.utime(path, ns=(10**18, 10**18 + number), follow_symlinks=False)
+
+
+def paths_below(top):
+    """All paths below a folder. No link is followed."""
+    return [Path(folder, name) for folder, folders, files in os.walk(top) for name in folders + files]
+
+
 def shown(top):
-    """What `stat` tells of each path below a folder, which a copy must tell too."""
+    """What `stat` and `readlink` tell of each path below a folder, which a copy must tell too."""
     told = {}
-    for path in sorted(top.rglob("*")):
+    for path in sorted(paths_below(top)):
         it = path.lstat()
         size = it.st_size if stat.S_ISREG(it.st_mode) else None
-        told[str(path.relative_to(top))] = (oct(it.st_mode), it.st_uid, it.st_gid, size, it.st_mtime_ns)
+        text = os.readlink(path) if path.is_symlink() else None
+        told[str(path.relative_to(top))] = (oct(it.st_mode), it.st_uid, it.st_gid, size, it.st_mtime_ns, text)
     return told
 
 
@@ -64,8 +82,8 @@ def same_tree(what, copy, original):
     told, wanted = shown(copy), shown(original)
     for path in sorted({*told, *wanted}):
         equal(f"{what}: {path}", told.get(path), wanted.get(path))
-    for path in original.rglob("*"):
-        if path.is_file() and not filecmp.cmp(path, copy / path.relative_to(original), shallow=False):
+    for path in paths_below(original):
+        if not path.is_symlink() and path.is_file() and not filecmp.cmp(path, copy / path.relative_to(original), shallow=False):
             raise Wrong(f"{what}: {path} has other bytes")
 
 
@@ -77,7 +95,7 @@ def copies_of_a_tree():
     equal("lines of ls -lR", *lines)
     equal("find", *[len(run("find", top).splitlines()) for top in (A / "copied", HERE / "tree")])
     run("du", "-s", A / "copied")
-    run("diff", "-r", A / "copied", HERE / "tree")
+    run("diff", "-r", "--no-dereference", A / "copied", HERE / "tree")
     # Without --reflink=never cp asks the system to copy past the end, which it refuses at the
     # greatest size.
     run("cp", "-a", "--reflink=never", A / "copied", A / "again")
@@ -108,7 +126,7 @@ def a_users_own_archive():
     os.chmod(HERE / "tree.tar", 0o644)
     as_user(USER, USER, lambda: run("tar", "-C", A / "his", "--no-same-owner", "-xf", HERE / "tree.tar"))
     forget()
-    for path in (A / "his").rglob("*"):
+    for path in paths_below(A / "his"):
         equal(f"the owner of {path}", path.lstat().st_uid, USER)
     as_user(USER, USER, lambda: run("rm", "-rf", A / "his" / "tree"))
     (A / "his").rmdir()
@@ -507,14 +525,88 @@ def made(path):
     return True
 
 
+# ---- symbolic links
+
+
+def symbolic_links():
+    """ln -s, readlink and ls -l, and texts of every length."""
+    for text in ("x", "folder/file", "..", str(A / "file"), "n" * LONGEST_NAME, "a/" * 500, "t" * LONGEST_TEXT):
+        run("ln", "-s", text, A / "link")
+        forget()
+        told = (A / "link").lstat()
+        equal("kind and mode", oct(told.st_mode), oct(stat.S_IFLNK | 0o777))
+        equal("size, names and owner", (told.st_size, told.st_nlink, told.st_uid), (len(text), 1, 0))
+        equal("readlink", run("readlink", A / "link"), f"{text}\n")
+        equal("ls -l", run("ls", "-l", A / "link").endswith(f" -> {text}\n"), True)
+        refused("a name that is there", errno.EEXIST, lambda: os.symlink("other", A / "link"))
+        refused("rmdir", errno.ENOTDIR, lambda: os.rmdir(A / "link"))
+        os.remove(A / "link")
+    refused("an empty text", errno.ENOENT, lambda: os.symlink("", A / "link"))
+    refused("a text of 4096 bytes", errno.ENAMETOOLONG, lambda: os.symlink("t" * (LONGEST_TEXT + 1), A / "link"))
+    equal("what is left", names_in(A), [])
+
+
+def links_that_are_followed():
+    """To a file, to a folder, through both, to nothing and to itself."""
+    (A / "folder").mkdir()
+    write(A / "folder" / "file", b"content")
+    texts = {"to file": "folder/file", "to folder": "folder", "to link": "to folder/file", "to nothing": "new"}
+    for name, text in (texts | {"itself": "itself"}).items():
+        os.symlink(text, A / name)
+    forget()
+    for name in ("to file", "to link", "to folder/file"):
+        equal(f"reading {name}", (A / name).read_bytes(), b"content")
+        equal(f"stat of {name}", (A / name).stat(), (A / "folder" / "file").stat())
+    equal("listing a link", names_in(A / "to folder"), ["file"])
+    equal("where it is", run("readlink", "-f", A / "to link"), f"{A}/folder/file\n")
+    refused("a link to nothing", errno.ENOENT, lambda: open(A / "to nothing", "rb"))
+    refused("a link to itself", errno.ELOOP, lambda: open(A / "itself", "rb"))
+    with open(A / "to link", "ab") as file:
+        file.write(b" more")
+    os.chmod(A / "to file", 0o600)
+    os.truncate(A / "to file", 9)
+    write(A / "to nothing", b"made")
+    forget()
+    equal("what is written through a link", (A / "folder" / "file").read_bytes(), b"content m")
+    equal("its mode", stat.S_IMODE((A / "folder" / "file").stat().st_mode), 0o600)
+    equal("what is made through a link", (A / "new").read_bytes(), b"made")
+    equal("the link stays", os.readlink(A / "to nothing"), "new")
+    run("rm", "-r", *(A / name for name in names_in(A)))
+    equal("what is left", names_in(A), [])
+
+
+def links_that_are_replaced():
+    """ln -sfn, mv of a link and over one, and what another mount sees of it. Owner and times of a
+    link are its own."""
+    write(A / "file", b"content")
+    for number in range(5):
+        run("ln", "-sfn", f"text{number}", A / "link")
+        time.sleep(1.5)
+        equal("by another mount", os.readlink(B / "link"), f"text{number}")
+    run("mv", A / "link", A / "moved")
+    equal("a moved link", os.readlink(A / "moved"), "text4")
+    os.chown(A / "moved", USER, GROUP, follow_symlinks=False)
+    os.utime(A / "moved", ns=(10**18, 10**18 + 7), follow_symlinks=False)
+    forget()
+    told = (A / "moved").lstat()
+    equal("owner and time of a link", (told.st_uid, told.st_gid, told.st_mtime_ns), (USER, GROUP, 10**18 + 7))
+    run("mv", A / "file", A / "moved")
+    equal("a file over a link", (A / "moved").read_bytes(), b"content")
+    os.symlink("elsewhere", A / "link")
+    run("mv", "-T", A / "link", A / "moved")
+    equal("a link over a file", os.readlink(A / "moved"), "elsewhere")
+    as_user(USER, USER, lambda: equal("a text that another reads", os.readlink(A / "moved"), "elsewhere"))
+    as_user(USER, USER, lambda: refused("a link in root's folder", errno.EACCES, lambda: os.symlink("x", A / "his")))
+    os.remove(A / "moved")
+
+
 # ---- what is not there yet
 
 
 def what_is_lacking():
-    """Links and pipes are refused, and nothing is harmed."""
+    """Second names and pipes are refused, and nothing is harmed."""
     write(A / "file", b"x")
     lacks = (ENOTSUPP, errno.EOPNOTSUPP)
-    refused("symlink", lacks, lambda: os.symlink("file", A / "other"))
     refused("link", lacks, lambda: os.link(A / "file", A / "other"))
     refused("mkfifo", lacks, lambda: os.mkfifo(A / "other"))
     equal("what is there", names_in(A), ["file"])
@@ -603,6 +695,9 @@ CHECKS = (
     kinds_of_writing,
     random_bytes,
     two_clients,
+    symbolic_links,
+    links_that_are_followed,
+    links_that_are_replaced,
     what_is_lacking,
     calls_of_eight_uses,
     many_files,

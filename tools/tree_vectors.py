@@ -2,7 +2,8 @@
 
 A module: `tree-vectors` and the rows of rows/jnlfs/trees.py use it. Calls are bytes that are made
 by hand (`tree_calls.py`). Statuses, attributes and rights are written down here, from the standard
-and from what docs/OPERATING.md says that this tree is; those of RENAME are in `tree_renames.py`.
+and from what docs/OPERATING.md says that this tree is; those of RENAME are in `tree_renames.py`, and
+those of SYMLINK and READLINK in `tree_links.py`.
 `GROUPS` has what is asked over any new disk, and `DISKS` what needs disks or services of its own.
 Each raises `Differs` at the first answer that is another than the one that is written down.
 """
@@ -11,6 +12,7 @@ import subprocess
 import time
 from pathlib import Path
 
+import tree_links
 import tree_renames
 from tree_asking import *
 
@@ -218,17 +220,13 @@ def no_folder(v, file, new):
 
 
 def what_the_tree_lacks(v):
-    """READLINK, SYMLINK, MKNOD, LINK and CREATE EXCLUSIVE are NOTSUPP, after what is wrong
-    otherwise."""
+    """MKNOD, LINK and CREATE EXCLUSIVE are NOTSUPP, after what is wrong otherwise."""
     folder = v.folder(v.root, b"lacks", mode=0o755)
     file = v.make(folder, b"file")
     asked = settings()
-    v.refuses("READLINK of a file", NOTSUPP, READLINK, opaque(file))
-    v.refuses("READLINK of a folder", NOTSUPP, READLINK, opaque(folder))
     exclusive = words(EXCLUSIVE) + b"verifier"
     for procedure, before, more in (
         (CREATE, b"", exclusive),
-        (SYMLINK, b"", asked + opaque(b"target")),
         (MKNOD, b"", words(3) + asked + words(1, 2)),
         (MKNOD, b"", words(4) + asked + words(1, 2)),
         (MKNOD, b"", words(6) + asked),
@@ -732,7 +730,7 @@ def facts(v):
     root = opaque(v.root)
     attributes, told = v.does("FSINFO", FSINFO, root)
     v.shows("FSINFO", attributes, v.root)
-    wanted = words(TRANSFER, TRANSFER, BLOCK, TRANSFER, TRANSFER, BLOCK, TRANSFER) + hyper(LARGEST_FILE) + words(0, 1, 0x18)
+    wanted = words(TRANSFER, TRANSFER, BLOCK, TRANSFER, TRANSFER, BLOCK, TRANSFER) + hyper(LARGEST_FILE) + words(0, 1, 0x1A)
     v.equal("FSINFO", told, wanted)
     attributes, told = v.does("PATHCONF", PATHCONF, root)
     v.shows("PATHCONF", attributes, v.root)
@@ -766,6 +764,7 @@ GROUPS = (
     listings,
     facts,
     *tree_renames.GROUPS,
+    *tree_links.GROUPS,
 )
 
 
@@ -922,7 +921,7 @@ def standing_clock(jnlfs, folder):
         return v.compared
 
 
-DISKS = (new_root, full_disk, squashed_root, read_only, another_run, standing_clock, *tree_renames.DISKS)
+DISKS = (new_root, full_disk, squashed_root, read_only, another_run, standing_clock, *tree_renames.DISKS, *tree_links.DISKS)
 
 
 def shared_disk(jnlfs, folder, group):

@@ -189,3 +189,39 @@ def what_was_renamed_is_so_in_another_run(room):
 
 def times_grow_with_each_rename(room):
     ask(room, "times_of_renames")
+
+
+def a_link_has_the_text_that_it_was_given(room):
+    ask(room, "links_of_any_text")
+
+
+def a_link_has_mode_owner_and_times_of_its_own(room):
+    ask(room, "settings_of_links")
+
+
+def whoever_asks_reads_a_link(room):
+    ask(room, "rights_of_links")
+
+
+def a_removed_link_leaves_what_it_led_to(room):
+    ask(room, "links_that_go")
+
+
+def a_link_is_renamed_as_a_file(room):
+    ask(room, "renames_of_links")
+
+
+def links_that_are_none_are_refused(room):
+    ask(room, "refusals_of_symlink")
+
+
+def a_link_is_no_file_and_no_folder(room):
+    ask(room, "calls_that_want_another_kind")
+
+
+def a_link_takes_one_block_and_one_inode(room):
+    ask(room, "links_without_room")
+
+
+def a_link_is_there_in_another_run(room):
+    ask(room, "links_of_another_run")
