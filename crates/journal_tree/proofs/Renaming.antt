@@ -1,4 +1,4 @@
--- What RENAME does, and that its reply is true.
+-- RENAME is one step or a refusal, and its reply is true.
 use Rattle.std.proofs.Common.{◌≡◌, ◌≢◌, ℕ, ◌<◌, ◌==◌, Bool, true, false, not, ◌&&◌, ◌||◌, List, Option, Some, None, Ok, refl, sym, ap, subst, ◌⊎◌, inl, inr, ◌∙◌}
 use Rattle.std.specs.Prelude.{is_some, is_none, if◌then◌else◌}
 use Rattle.std.proofs.lemmas.Bool.{eqb-true, eqb-false, and_parts, or_cases, not-true, not-false, true≢false}
@@ -28,7 +28,7 @@ use Rattle.journal_tree.proofs.Steps.Step.{stays, moves}
 use Rattle.journal_tree.proofs.Moving.{moved-source, moved-goal, moved-whole}
 use Rattle.journal_tree.proofs.Calls.{true-of}
 
--- What an OK tells, and that the RENAME is whole
+-- The reply of a RENAME that is done, and that it is whole
 pub record IsTrueRenamed (T : Tree) (d : ℕ) (name : List ℕ) (e : ℕ) (new_name : List ℕ) (r : Renamed) (T2 : Tree) : Type 0 where
   pub source : IsTrueChange T T2 d r.source
   pub goal : IsTrueChange T T2 e r.goal
@@ -102,7 +102,7 @@ module _ (c : Caller) (T : Tree) (tree : HasTree T) (m : Move) where
 -- ── the call ──
 
 module _ (R : Type 0) (c : Caller) (now : Time) (T : Tree) (tree : HasTree T) (m : Move) (name : List ℕ) where
-  -- What is known of the two directories, of the node, and of what is told of it
+  -- the two directories, the node, and the reply
   record IsMovable (n : ℕ) (z : Node) (below : Bool) (place : Option ℕ) : Type 0 where
     source : (T.at m.d).node ≡ Some m.x
     goal : (T.at m.e).node ≡ Some m.y
@@ -120,7 +120,7 @@ module _ (R : Type 0) (c : Caller) (now : Time) (T : Tree) (tree : HasTree T) (m
     parent_rights : (m.d ≡ m.e) ⊎ (is_directory z.body ≡ false) ⊎ (may_write c z.attributes ≡ true)
     goal_rights : may_rename c m.y.attributes ≡ true
 
-  -- What the caller may
+  -- the rights of the caller
   record IsAllowed (z : Node) : Type 0 where
     source : may_rename c m.x.attributes ≡ true
     sticky : may_take c m.x.attributes z.attributes ≡ true

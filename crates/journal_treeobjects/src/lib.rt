@@ -9,8 +9,7 @@
 //!
 //! `TreeOperation` is a call as one transaction does it. Each call of `journal_treecalls` is one.
 //!
-//! Nothing here needs the journal: an `ObjectTransaction` is all that is asked of it. No program
-//! uses this crate yet.
+//! Nothing here needs the journal: an `ObjectTransaction` is all that is asked of it.
 #![tactic(auto)]
 
 mod fault;
