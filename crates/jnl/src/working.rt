@@ -10,6 +10,7 @@ use journal_port::{Counting, End, Pace, Port, Progress, Rights, Terms, serve_to_
 use journal_twophase::Journal;
 use journal_world::{AnyMap, Layout};
 use std::alloc::Global;
+use std::net::IpAddr;
 use std::sync::Wait;
 use std::thread;
 use std::time::{Clock, Duration};
@@ -113,7 +114,12 @@ impl<'p, 'c, 'l, 'r, R: Clock + Wait> Pace for Fair<'p, 'c, 'l, 'r, R> {
 impl<'s, 'j, 'b, D: BlockDisk, J: Naming + Send> Service for Answering<'s, 'j, 'b, D, J> {
     type Session = Visit<'b, J>;
 
-    fn begin<W: Wait>(&self, rt: &W, may_stop: bool) -> Option<Visit<'b, J>> {
+    fn begin<W: Wait>(
+        &self,
+        rt: &W,
+        may_stop: bool,
+        _address: Option<IpAddr>,
+    ) -> Option<Visit<'b, J>> {
         let session = self.disk.journal.session(rt).ok()?;
         Some(Visit {
             session,

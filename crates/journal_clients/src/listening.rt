@@ -3,7 +3,7 @@
 use crate::fault::ServiceFault;
 use crate::printing::print_line;
 use std::io::Write;
-use std::net::{Ipv4Addr, Net, TcpListener, TcpStream};
+use std::net::{IpAddr, Net, TcpListener, TcpStream};
 
 /// Listens at a port, or at one that is free for 0.
 ///
@@ -11,7 +11,7 @@ use std::net::{Ipv4Addr, Net, TcpListener, TcpStream};
 /// - `CannotListen`: the address or the port is not to be had.
 pub fn listen_at<R: Net<Listener = TcpListener, Stream = TcpStream>>(
     rt: &R,
-    address: Ipv4Addr,
+    address: IpAddr,
     port: u16,
 ) -> Result<TcpListener, ServiceFault> {
     match TcpListener::bind(rt, (address, port)) {

@@ -6,7 +6,10 @@ use crate::control::Control;
 use crate::ending::flush;
 use crate::fault::ServiceFault;
 use crate::listening::{listen_at, port_of, tell_port};
-use journal_connections::{Ending, Entrance, Listener, Load, PoolFault, PoolSize, Service};
+use crate::printing::print_line;
+use journal_connections::{
+    AllowedAddresses, Ending, Entrance, Listener, Load, PoolFault, PoolSize, Service,
+};
 use journal_disk::BlockDisk;
 use journal_history::Naming;
 use journal_program::Daemon;
@@ -14,7 +17,7 @@ use journal_twophase::Journal;
 use journal_world::{MapRule, Refusal};
 use std::alloc::Global;
 use std::io::Write;
-use std::net::{Ipv4Addr, Net, TcpListener, TcpStream};
+use std::net::{IpAddr, Net, TcpListener, TcpStream};
 use std::sync::Wait;
 use std::thread;
 use std::thread::Threads;
@@ -26,21 +29,24 @@ const MOST_WORKERS: u64 = 16;
 
 /// Where a service is reached that serves until it is ended.
 #[derive(Clone, Copy)]
-pub struct Endpoint {
-    /// The address of this machine to which connections come. A client that reaches it may make
-    /// each call that the protocol answers.
-    pub address: Ipv4Addr,
+pub struct Endpoint<'a> {
+    /// The address of this machine to which connections come. A client that reaches it, and whose
+    /// own address is allowed, may make each call that the protocol answers.
+    pub address: IpAddr,
     /// The port, or 0 for one that is free.
     pub port: u16,
     /// How many connections are open at most, at least one. One more is a visitor, and further
     /// ones wait with the system.
     pub connections: u64,
+    /// The addresses of the clients that are served. The connection of another one is closed at
+    /// once.
+    pub allowed: &'a AllowedAddresses,
 }
 
-impl Endpoint {
+impl Endpoint<'_> {
     // How many threads serve how many connections.
     fn pool_size(self) -> PoolSize
-        ensures { result ≡ record { workers = min self.connections MOST_WORKERS; connections = self.connections } }
+        ensures { result ≡ record { workers = min self.entry.connections MOST_WORKERS; connections = self.entry.connections } }
     {
         PoolSize {
             workers: self.connections.min(MOST_WORKERS),
@@ -73,7 +79,7 @@ impl Access {
 #[derive(Clone, Copy)]
 pub struct Plan<'c> {
     /// Where it is reached.
-    pub endpoint: Endpoint,
+    pub endpoint: Endpoint<'c>,
     /// By what a client ends it. Without one it ends where its device fails.
     pub control: Option<&'c Control>,
     /// Whether it may write its disk. Where it only reads it, the protocol is to commit nothing
@@ -84,7 +90,8 @@ pub struct Plan<'c> {
 /// Serves a service over a journal, as a protocol by its `Visits`, with the daemon of the journal
 /// beside it, until a client asks for the end by the control, if there is one, or until the device
 /// fails. The port is printed once the daemon runs and connections are taken, before the first of
-/// them is accepted. At the end all commits are stable, and the journal is stopped.
+/// them is accepted. At the end all commits are stable, and the journal is stopped. Then it is
+/// printed how many connections were refused for their addresses, where not all are allowed.
 ///
 /// # Errors
 /// - `CannotListen`: the address or the port is not to be had, or the system refused a connection.
@@ -126,7 +133,8 @@ pub fn serve_by_pool<
         || run_daemon(rt, journal, &shared),
         || serve_clients(rt, alloc, service, &shared, opened, output),
         || finish(rt, journal, &shared),
-    )
+    )?;
+    tell_refused(plan.endpoint.allowed, &load, output)
 }
 
 // Where connections come in, and the port's number.
@@ -149,16 +157,22 @@ struct Shared<'s> {
 fn open<R: Net<Listener = TcpListener, Stream = TcpStream>>(
     rt: &R,
     alloc: Global,
-    endpoint: Endpoint,
+    endpoint: Endpoint<'_>,
 ) -> Result<Opened, ServiceFault> {
     let listener = listen_at(rt, endpoint.address, endpoint.port)?;
     let port = port_of(&listener)?;
+    let Ok(allowed) = endpoint.allowed.clone() else {
+        return Err(ServiceFault::Refused(Refusal::NoMemory));
+    };
     let mut listeners = Vec::new(alloc);
     if listeners.push(Listener::Port(listener)).is_err() {
         return Err(ServiceFault::Refused(Refusal::NoMemory));
     }
     match Entrance::new(rt, listeners) {
-        Ok(entrance) => Ok(Opened { port, entrance }),
+        Ok(entrance) => Ok(Opened {
+            port,
+            entrance: entrance.only_from(allowed),
+        }),
         Err(_) => Err(ServiceFault::CannotListen),
     }
 }
@@ -245,5 +259,17 @@ fn serve_clients<S: Service + Sync, R: Clock + Threads + Wait + Sync, O: Write>(
         Ok(()) => Ok(()),
         Err(PoolFault::NoMemory) => Err(ServiceFault::Refused(Refusal::NoMemory)),
         Err(PoolFault::CannotAccept) => Err(ServiceFault::CannotListen),
+    }
+}
+
+// Prints how many connections were refused for their addresses, where not all are allowed.
+fn tell_refused<O: Write>(
+    allowed: &AllowedAddresses,
+    load: &Load,
+    output: &mut O,
+) -> Result<(), ServiceFault> {
+    match allowed {
+        AllowedAddresses::All => Ok(()),
+        AllowedAddresses::Of(_) => print_line(output, "refused", load.counts.refused.value()),
     }
 }

@@ -20,8 +20,16 @@ pub enum Fault<'w> {
     NoCommand,
     /// The words ask for a service of files, which another program has.
     ServesNoFiles,
-    /// This text is no address of version 4 of IP.
+    /// This text is no address of IP.
     NoAddress {
+        text: &'w str,
+    },
+    /// This text is no range of addresses.
+    NoRange {
+        text: &'w str,
+    },
+    /// This text is a range of addresses, and has bits set after those that its addresses share.
+    BitsAfterRange {
         text: &'w str,
     },
     /// This text is no region.
@@ -129,6 +137,22 @@ pub enum Fault<'w> {
     HasTree {
         path: &'w str,
     },
+    /// The disk in the file at the path has a tree, and its flat files were to be written to one.
+    NotFlat {
+        path: &'w str,
+    },
+    /// Something is where a disk with this path is to be made until it is whole.
+    HasNewPart {
+        new: &'w str,
+    },
+    /// The disk that was to be made at the path has no room for the files of another one.
+    NoRoom {
+        path: &'w str,
+    },
+    /// The disk that was made at the path has other files than were written to it.
+    Differs {
+        path: &'w str,
+    },
     /// The disk in the file at the path has flat files, whose service looks at no credential, and
     /// was to be served with root squashed.
     NoSquash {
@@ -228,6 +252,8 @@ impl<'w> Fault<'w> {
             | Fault::NoCommand
             | Fault::ServesNoFiles
             | Fault::NoAddress { .. }
+            | Fault::NoRange { .. }
+            | Fault::BitsAfterRange { .. }
             | Fault::NoRegion { .. }
             | Fault::TooManyRegions
             | Fault::BadRegions
@@ -252,6 +278,10 @@ impl<'w> Fault<'w> {
             | Fault::HasNoFiles { .. }
             | Fault::NotCut { .. }
             | Fault::HasTree { .. }
+            | Fault::NotFlat { .. }
+            | Fault::HasNewPart { .. }
+            | Fault::NoRoom { .. }
+            | Fault::Differs { .. }
             | Fault::NoSquash { .. }
             | Fault::HasPart { .. }
             | Fault::CannotListen
@@ -280,6 +310,14 @@ impl<'w> Fault<'w> {
             Fault::NoAddress { text } => {
                 writeln!(faults, "{program}: {text} is no address like 127.0.0.1")
             }
+            Fault::NoRange { text } => writeln!(
+                faults,
+                "{program}: {text} is no range of addresses like 10.0.0.0/8, 10.0.0.5/32 or fd00::/8"
+            ),
+            Fault::BitsAfterRange { text } => writeln!(
+                faults,
+                "{program}: {text} has bits set after the first ones that it names, and a range has none: see 10.0.0.0/8, and for one address 10.0.0.5/32"
+            ),
             Fault::NoRegion { text } => writeln!(
                 faults,
                 "{program}: {text} is no region like 513:block, 514:bit or 515:record64"
@@ -363,6 +401,22 @@ impl<'w> Fault<'w> {
             Fault::HasTree { path } => writeln!(
                 faults,
                 "{program}: {path} is a disk of version 3, and one of version 1 is migrated"
+            ),
+            Fault::NotFlat { path } => writeln!(
+                faults,
+                "{program}: {path} is a disk of version 3, and the files of one of version 1 or 2 are written to a new disk"
+            ),
+            Fault::HasNewPart { new } => writeln!(
+                faults,
+                "{program}: {new}.part is there: another migration makes it, or one was stopped, and it can be removed"
+            ),
+            Fault::NoRoom { path } => writeln!(
+                faults,
+                "{program}: {path} has too few blocks or inodes for all files, and was not made: see --blocks and --inodes"
+            ),
+            Fault::Differs { path } => writeln!(
+                faults,
+                "{program}: {path} reads otherwise than it was written, and was not made"
             ),
             Fault::NoSquash { path } => writeln!(
                 faults,

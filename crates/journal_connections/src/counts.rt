@@ -96,6 +96,8 @@ pub struct ConnectionCounts {
     pub taken: Count,
     /// Those that were ended because others waited.
     pub crowded_out: Count,
+    /// The connections that were not taken, because their addresses are not allowed.
+    pub refused: Count,
     /// The bytes that came.
     pub received: LaneCount,
     /// The bytes that were sent.
@@ -114,6 +116,7 @@ impl ConnectionCounts {
             ready: Count::new(),
             taken: Count::new(),
             crowded_out: Count::new(),
+            refused: Count::new(),
             received: LaneCount::new(alloc, workers)?,
             sent: LaneCount::new(alloc, workers)?,
         })

@@ -1,5 +1,6 @@
 // Where connections come in, and what ends that.
 
+use crate::allowed::AllowedAddresses;
 use crate::listener::{Closer, Listener};
 use crate::load::Load;
 use mio::{Poll, Registry, Token, Waker};
@@ -14,12 +15,13 @@ const END: usize = usize::MAX;
 #[derive(Drop)]
 pub struct Entrance {
     pub(crate) listeners: Vec<Listener>,
+    pub(crate) allowed: AllowedAddresses,
     pub(crate) poll: Poll,
     pub(crate) registry: Registry,
 }
 
 impl Entrance {
-    /// Connections come to these listeners.
+    /// Connections come to these listeners, from all addresses.
     ///
     /// # Errors
     ///
@@ -29,9 +31,15 @@ impl Entrance {
         let registry = poll.registry().try_clone()?;
         Ok(Entrance {
             listeners,
+            allowed: AllowedAddresses::All,
             poll,
             registry,
         })
+    }
+
+    /// The same, where those that come to a port are served only if these addresses have theirs.
+    pub fn only_from(self, allowed: AllowedAddresses) -> Entrance {
+        Entrance { allowed, ..self }
     }
 }
 

@@ -19,6 +19,7 @@
 //! minutes, or after five seconds where others wait (`Peer`).
 #![tactic(auto)]
 
+mod allowed;
 mod clock;
 mod connection;
 mod counts;
@@ -28,11 +29,13 @@ mod listener;
 mod load;
 mod peer;
 mod pool;
+mod range;
 mod ready;
 mod record_room;
 mod resting;
 mod service;
 
+pub use allowed::AllowedAddresses;
 pub use counts::{ConnectionCounts, Count, LaneCount};
 pub use entrance::{Ending, Entrance};
 pub use limits::file_numbers;
@@ -40,4 +43,5 @@ pub use listener::Listener;
 pub use load::{Load, PoolSize};
 pub use peer::{Incoming, Outgoing, Peer};
 pub use pool::{PoolFault, serve};
+pub use range::{AddressRange, NoRange};
 pub use service::{Service, Turned};

@@ -1,9 +1,9 @@
 // Where connections come in.
-ghost use Rattle.std.specs.Prelude.{IsTrue, IfOk};
+ghost use Rattle.std.specs.Prelude.{IsTrue, IsNone, IfOk};
 ghost use Rattle.journal_connections.specs.Listeners.{IsSocket};
 
 use crate::load::Load;
-use std::net::{Shutdown, TcpListener, TcpStream};
+use std::net::{IpAddr, Shutdown, TcpListener, TcpStream};
 use std::os::fd::OwnedFd;
 use std::os::unix::net::UnixListener;
 use std::time::{Clock, Duration};
@@ -35,6 +35,8 @@ pub(crate) struct Accepted {
     pub stream: TcpStream,
     // Whether its peer may end the service.
     pub may_stop: bool,
+    // The address of its peer, where it came to a port.
+    pub peer: Option<IpAddr>,
 }
 
 // Why no connection is accepted any more.
@@ -86,9 +88,12 @@ impl Listener {
         Err(NoMore::CannotAccept)
     }
 
-    // Accepts the next connection. It may wait for one. Only one of a socket may end the service.
+    // Accepts the next connection. It may wait for one. Only one of a socket may end the service,
+    // and only one of a socket has no address. An address of version 4 of IP that comes as one of
+    // version 6 is told as what it is.
     fn accept(&self) -> io::Result<Accepted>
-        ensures { IfOk result (λ accepted. IsTrue accepted.may_stop → IsSocket self.now) }
+        ensures stops { IfOk result (λ accepted. IsTrue accepted.may_stop → IsSocket self.now) }
+        ensures peer { IfOk result (λ accepted. IsNone accepted.peer → IsSocket self.now) }
     {
         match self {
             Listener::Socket(listener) => {
@@ -96,13 +101,15 @@ impl Listener {
                 Ok(Accepted {
                     stream: TcpStream::from(OwnedFd::from(stream)),
                     may_stop: true,
+                    peer: None,
                 })
             }
             Listener::Port(listener) => {
-                let (stream, _) = listener.accept()?;
+                let (stream, from) = listener.accept()?;
                 Ok(Accepted {
                     stream,
                     may_stop: false,
+                    peer: Some(from.ip().to_canonical()),
                 })
             }
         }

@@ -1,6 +1,8 @@
 // Who serves connections, who accepts them, and who watches those that rest.
-ghost use Rattle.std.specs.Prelude.{◌<◌, length};
+ghost use Rattle.std.specs.Prelude.{◌<◌, length, IsTrue};
+ghost use Rattle.journal_connections.specs.Ranges.{allows_peer};
 
+use crate::allowed::AllowedAddresses;
 use crate::clock::millis;
 use crate::connection::{Connection, TURN_MILLIS, close, close_at_rest, prepare};
 use crate::entrance::{Ending, Entrance};
@@ -60,11 +62,13 @@ pub fn serve<S: Service + Sync, R: Clock + Threads + Wait + Sync>(
 ) -> Result<(), PoolFault> {
     let Entrance {
         listeners,
+        allowed,
         poll,
         registry,
     } = entrance;
     let pool = Pool {
         service,
+        allowed,
         load: ending.load,
         ending,
         ready: Ready::new(alloc),
@@ -77,6 +81,8 @@ pub fn serve<S: Service + Sync, R: Clock + Threads + Wait + Sync>(
 // The state that the threads of a service share.
 struct Pool<'s, 'l, S: Service> {
     service: &'s S,
+    // The addresses whose connections are served.
+    allowed: AllowedAddresses,
     load: &'l Load,
     ending: &'s Ending<'l>,
     ready: Ready<S::Session>,
@@ -89,6 +95,7 @@ impl<'s, 'l, S: Service> Drop for Pool<'s, 'l, S> {
     fn drop(self) {
         let Pool {
             service: _,
+            allowed: _,
             load: _,
             ending: _,
             ready: _,
@@ -145,7 +152,7 @@ impl<'s, 'l, S: Service + Sync> Pool<'s, 'l, S> {
             match listener.next(rt, load, || {
                 self.end_first(rt, MILLIS_AT_REST);
             }) {
-                Ok(accepted) => self.admit(rt, accepted),
+                Ok(accepted) => self.receive(rt, accepted),
                 Err(NoMore::Ended) => break,
                 Err(NoMore::CannotAccept) => {
                     self.has_failed.store(true, Ordering::SeqCst);
@@ -156,15 +163,31 @@ impl<'s, 'l, S: Service + Sync> Pool<'s, 'l, S> {
         self.end(rt);
     }
 
+    // Begins a connection whose peer is allowed. Another one is closed at once: nothing of it is
+    // read, nothing is sent to it, and it takes no place.
+    fn receive<R: Clock + Wait>(&self, rt: &R, accepted: Accepted) {
+        if self.allowed.allows_peer(accepted.peer) {
+            self.admit(rt, accepted);
+        } else {
+            self.load.counts.refused.add(1);
+        }
+    }
+
     // Begins a connection, once there is a place for it. It is closed where the service has ended.
-    fn admit<R: Clock + Wait>(&self, rt: &R, accepted: Accepted) {
+    fn admit<R: Clock + Wait>(&self, rt: &R, accepted: Accepted)
+        requires { IsTrue (allows_peer self.now.allowed accepted.peer) }
+    {
         let load = self.load;
         let Some(number) = self.await_place(rt) else {
             return;
         };
-        let Accepted { stream, may_stop } = accepted;
+        let Accepted {
+            stream,
+            may_stop,
+            peer: address,
+        } = accepted;
         prepare(&stream);
-        let Some(session) = self.service.begin(rt, may_stop) else {
+        let Some(session) = self.service.begin(rt, may_stop, address) else {
             load.counts.open.take();
             return;
         };

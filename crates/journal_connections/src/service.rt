@@ -2,6 +2,7 @@
 ghost use Rattle.std.specs.Prelude.{◌<◌, length};
 
 use crate::peer::Peer;
+use std::net::IpAddr;
 use std::sync::Wait;
 use std::time::Clock;
 
@@ -21,8 +22,14 @@ pub trait Service {
     /// The state of a connection between its turns.
     type Session: Drop + Send;
 
-    /// Begins a connection, whose peer may end the service or not. `None` refuses it.
-    fn begin<W: Wait>(&self, rt: &W, may_stop: bool) -> Option<Self::Session>;
+    /// Begins a connection, whose peer may end the service or not. Its address is that of its peer,
+    /// or `None` where it came to a socket in the file system. `None` refuses the connection.
+    fn begin<W: Wait>(
+        &self,
+        rt: &W,
+        may_stop: bool,
+        address: Option<IpAddr>,
+    ) -> Option<Self::Session>;
 
     /// Answers what comes from the peer, until the connection ends, or it pauses because the peer
     /// says so (`Peer::is_to_pause`). It reads into the buffer, which has room.

@@ -90,6 +90,19 @@ pub fn create_disk<R: Files<File = File>>(
     SizedDisk::over(alloc, file, blocks)
 }
 
+/// Gives a file that is whole and stable another path in its folder, and makes that stable. It has
+/// its old path no longer then.
+///
+/// # Errors
+/// - `AlreadyExists`: anything is at the other path. It stays as it is, and the file keeps its own.
+/// - The system's reason: the other path was not given to it, or it has both, or the other one may
+///   not be stable.
+pub fn rename_new_file<R: Files<File = File>>(rt: &R, old: &str, new: &str) -> io::Result<()> {
+    fs::hard_link(rt, old, new)?;
+    fs::remove_file(rt, old)?;
+    sync_folder(rt, new)
+}
+
 /// Makes a new file at the path that its owner alone may read and write, and locks it.
 pub(crate) fn create_new_file<R: Files<File = File>>(rt: &R, path: &str) -> io::Result<File> {
     let mut options = OpenOptions::new();

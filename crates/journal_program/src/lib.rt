@@ -42,7 +42,7 @@ pub use daemon::Daemon;
 pub use device::DeviceNumber;
 pub use disk::SizedDisk;
 pub use fault::{DeviceFault, LabelFault, OpenFault};
-pub use file::{create_disk, create_labeled_disk, create_new_disk};
+pub use file::{create_disk, create_labeled_disk, create_new_disk, rename_new_file};
 pub use inspecting::DiskFacts;
 pub use label::{BadLabel, Label, UNTOLD, is_disk_size};
 pub use making::{FoundDevice, find_device};
