@@ -30,15 +30,15 @@ use Rattle.journal_tree.specs.declared.name.NameKind.TheVariants.{Dot, DotDot, N
 use Rattle.journal_tree.specs.Changes.{touched, opened, touch_place, planted, cut}
 use Rattle.journal_tree.specs.Attributes.{resized, group_mode, is_no_time, is_too_big, is_other_time, asks_nothing, may_set, may_set_bytes, with_settings, changed, unchanged, getattr_case, setattr_case, access_case}
 use Rattle.journal_tree.specs.Contents.{overlaid, written, read_body, read_case, write_body, write_case, commit_body, commit_case}
-use Rattle.journal_tree.specs.Names.{parent_of, found, lookup_name, lookup_case, group_within, new_group, new_attributes, new_node, born, size_alone, create_over, create_new, create_case, mkdir_new, mkdir_case, symlink_new, symlink_case, text_of, removed, may_remove, remove_case, rmdir_case, readlink_case, make_other_case, link_case}
+use Rattle.journal_tree.specs.Names.{parent_of, found, lookup_name, lookup_case, group_within, new_group, new_attributes, new_node, born, made_before, size_alone, create_over, create_new, exclusive_attributes, create_exclusive, is_made_by, create_again, create_case, mkdir_new, mkdir_case, symlink_new, symlink_case, text_of, removed, may_remove, remove_case, rmdir_case, readlink_case, make_other_case, link_case}
 use Rattle.journal_tree.specs.Listing.{Item, Page, line_of, with_page, items_above, readdir_case, readdirplus_case}
 use Rattle.journal_tree.specs.Facts.{fsstat_case, fsinfo_case, pathconf_case}
-use Rattle.journal_tree.specs.Op.{MayTake}
-use Rattle.journal_tree.specs.Fit.{IsWord, IsFit, IsFitBody, IsAsked, IsAskedMode, IsCaller}
-use Rattle.journal_tree.specs.Laws.{IsTrueOf, IsTrueChange, IsTrueFound, IsTrueMade}
+use Rattle.journal_tree.specs.Op.{Call, MayTake}
+use Rattle.journal_tree.specs.Fit.{IsWord, IsLong, IsFit, IsFitBody, IsAsked, IsAskedMode, IsCaller}
+use Rattle.journal_tree.specs.Laws.{IsTrueOf, IsTrueChange, IsTrueFound, IsTrueMade, verifier_of}
 use Rattle.journal_tree.proofs.Changing.{at_other}
 use Rattle.journal_tree.proofs.Hanging.{leaf, empty, not_itself}
-use Rattle.journal_tree.proofs.Steps.{IsChange, IsCut, IsRight, own_slot, right_no, right_yes, right_if, right_allowed, right_target, right_directory, right_searched, right_find, right_named}
+use Rattle.journal_tree.proofs.Steps.{Known, IsChange, IsCut, IsRight, own_slot, right_no, right_yes, right_if, right_allowed, right_target, right_directory, right_searched, right_find, right_named}
 use Rattle.journal_tree.proofs.Steps.Step.{stays, sets, plants, cuts}
 use Rattle.journal_tree.proofs.Bounds.{mtime-fits, group-low, modulo-low, within-low, or-word, choice-word, resized-fits}
 use Rattle.journal_tree.proofs.Setting.{settings-change, size-change, write-change}
@@ -67,7 +67,7 @@ file-no-directory (link text) e = refl
 pub true-of : (T : Tree) (n : ℕ) (x : Node) → (T.at n).node ≡ Some x → IsTrueOf T n (told n x)
 true-of T n x is = record { node = x; is = is; tells = refl }
 
-module _ (R : Type 0) (c : Caller) (now : Time) (T : Tree) where
+module _ (R : Known) (c : Caller) (now : Time) (T : Tree) where
   -- ── calls that change nothing ──
 
   still : {A : Type 0} (r : A) → IsRight R c now T Anything (Ok r, T)
@@ -142,7 +142,7 @@ module _ (R : Type 0) (c : Caller) (now : Time) (T : Tree) where
   unchanged-right : (n : ℕ) (x : Node) → (T.at n).node ≡ Some x → IsRight R c now T (TrueChange T n) (unchanged T n x)
   unchanged-right n x is = right_yes R c now T (TrueChange T n) _ T stays (record { before = true-of T n x is; after = true-of T n x is })
 
-  pub setattr-right : (h : Handle) (s : Settings) (guard : Option Time) → (R → IsAsked s) → IsRight R c now T (TrueChange T h.number) (setattr_case c s guard now T (target T h))
+  pub setattr-right : (h : Handle) (s : Settings) (guard : Option Time) → (R.bounds → IsAsked s) → IsRight R c now T (TrueChange T h.number) (setattr_case c s guard now T (target T h))
   setattr-right h s guard asked = right_target R c now T (TrueChange T h.number) h _ (λ x is.
       right_if R c now T (TrueChange T h.number) (is_some s.size && not (is_file x.body)) _ _ (λ _. right_no R c now T (TrueChange T h.number) Invalid) (λ _.
       right_if R c now T (TrueChange T h.number) (is_no_time s.mtime) _ _ (λ _. right_no R c now T (TrueChange T h.number) Invalid) (λ shown.
@@ -194,8 +194,8 @@ module _ (R : Type 0) (c : Caller) (now : Time) (T : Tree) where
   -- ── CREATE, MKDIR and SYMLINK ──
 
   -- a new node, of which the caller and what he asks are told by numbers of 32 bits
-  new-fits : (s : Settings) (d : ℕ) (x : Node) (room : Room) (name : List ℕ) (kind : Kind) (body : Body) (mode : ℕ) → (R → IsAsked s) → (R → IsCaller c) → is_no_time s.mtime ≡ false → name_kind name ≡ Name
-      → IsFitBody body → room.place < MOST_PLACES → R → IsTime now → IsFit x → IsFit (new_node d room name (new_attributes c s x.attributes kind mode now) body)
+  new-fits : (s : Settings) (d : ℕ) (x : Node) (room : Room) (name : List ℕ) (kind : Kind) (body : Body) (mode : ℕ) → (R.bounds → IsAsked s) → (R.bounds → IsCaller c) → is_no_time s.mtime ≡ false → name_kind name ≡ Name
+      → IsFitBody body → room.place < MOST_PLACES → R.bounds → IsTime now → IsFit x → IsFit (new_node d room name (new_attributes c s x.attributes kind mode now) body)
   new-fits s d x room name kind body mode asked caller shown is_name fit_body within r moment fit = record {
     home = inr is_name;
     place = within;
@@ -205,16 +205,17 @@ module _ (R : Type 0) (c : Caller) (now : Time) (T : Tree) where
     group = choice-word (is_root c) (unwrap_or s.group (group_within c x.attributes)) (group_within c x.attributes) (or-word s.group (group_within c x.attributes) (asked r).group within_word) within_word;
     mtime = mtime-fits false s.mtime now now shown (asked r).mtime moment moment;
     ctime = moment;
+    verifier = tt;
   }
     where
       within_word : IsWord (group_within c x.attributes)
       within_word = choice-word (has_bit x.attributes.mode SET_GROUP_BIT) x.attributes.group c.group fit.group (caller r).group
 
   born-right : (d : ℕ) (x : Node) (name : List ℕ) (room : Option Room) (a : Attributes) (body : Body) → (T.at d).node ≡ Some x → is_directory x.body ≡ true → find T d name ≡ None → MayTake T d room
-      → may_rename c x.attributes ≡ true → ((room : Room) → room.place < MOST_PLACES → R → IsTime now → IsFit x → IsFit (new_node d room name a body))
+      → a.verifier ≡ R.verifier → may_rename c x.attributes ≡ true → ((room : Room) → room.place < MOST_PLACES → R.bounds → IsTime now → IsFit x → IsFit (new_node d room name a body))
       → IsRight R c now T (TrueMade T d) (born T d x name room a body now)
-  born-right d x name None a body is kind free take may fit = right_no R c now T (TrueMade T d) NoSpace
-  born-right d x name (Some room) a body is kind free take may fit =
+  born-right d x name None a body is kind free take given may fit = right_no R c now T (TrueMade T d) NoSpace
+  born-right d x name (Some room) a body is kind free take given may fit =
       right_yes R c now T (TrueMade T d) _ (planted (touch_place T d room.place now) room.number (new_node d room name a body))
       (plants d x room (new_node d room name a body) (record {
         is = is;
@@ -223,6 +224,7 @@ module _ (R : Type 0) (c : Caller) (now : Time) (T : Tree) where
         free = free;
         directory = refl;
         place = refl;
+        verifier = given;
         fit = fit room take.within;
         rights = may;
       }))
@@ -245,11 +247,15 @@ module _ (R : Type 0) (c : Caller) (now : Time) (T : Tree) where
           ≡ record { generation = ((touch_place T d room.place now).at room.number).generation + 1; node = Some (new_node d room name a body) }
       new = own_slot (touch_place T d room.place now) room.number _
 
+  -- a file that is there is told as it is
+  before-right : (d : ℕ) (x : Node) (n : ℕ) (y : Node) → (T.at d).node ≡ Some x → (T.at n).node ≡ Some y → IsRight R c now T (TrueMade T d) (made_before T d x n y)
+  before-right d x n y is at = right_yes R c now T (TrueMade T d) _ T stays (record { node = true-of T n y at; generation = refl; directory = record { before = true-of T d x is; after = true-of T d x is } })
+
   over-right : (s : Settings) (d : ℕ) (x : Node) (n : ℕ) (y : Node) → (T.at d).node ≡ Some x → is_directory x.body ≡ true → (T.at n).node ≡ Some y → IsRight R c now T (TrueMade T d) (create_over c s now T d x n y)
   over-right s d x n y is kind at =
       right_if R c now T (TrueMade T d) (not (is_file y.body)) _ _ (λ _. right_no R c now T (TrueMade T d) Exists) (λ a_file.
       right_if R c now T (TrueMade T d) (is_none s.size) _ _
-      (λ _. right_yes R c now T (TrueMade T d) _ T stays (record { node = true-of T n y at; generation = refl; directory = record { before = true-of T d x is; after = true-of T d x is } })) (λ _.
+      (λ _. before-right d x n y is at) (λ _.
       right_allowed R c now T (TrueMade T d) (may_store c y.attributes) _ (λ may.
       right_if R c now T (TrueMade T d) (is_too_big s.size) _ _ (λ _. right_no R c now T (TrueMade T d) TooBig) (λ few.
       right_yes R c now T (TrueMade T d) _ (with_node T n (Some (sized s y))) (sets n y (sized s y) at (size-change R c now s.size y few may)) (record {
@@ -270,45 +276,69 @@ module _ (R : Type 0) (c : Caller) (now : Time) (T : Tree) where
           let q2 : x ≡ y = cc in
           true≢false (sym kind ∙ ap (λ (x : Node). is_directory x.body) q2 ∙ a_file)
 
-  new-right : (name : List ℕ) (s : Settings) (room : Option Room) (d : ℕ) (x : Node) → (R → IsAsked s) → (R → IsCaller c) → (T.at d).node ≡ Some x → is_directory x.body ≡ true → name_kind name ≡ Name
+  new-right : (name : List ℕ) (s : Settings) (room : Option Room) (d : ℕ) (x : Node) → None ≡ R.verifier → (R.bounds → IsAsked s) → (R.bounds → IsCaller c) → (T.at d).node ≡ Some x → is_directory x.body ≡ true → name_kind name ≡ Name
       → find T d name ≡ None → MayTake T d room → IsRight R c now T (TrueMade T d) (create_new c name s room now T d x)
-  new-right name s room d x asked caller is kind is_name free take =
+  new-right name s room d x given asked caller is kind is_name free take =
       right_allowed R c now T (TrueMade T d) (may_rename c x.attributes) _ (λ may.
       right_if R c now T (TrueMade T d) (is_no_time s.mtime) _ _ (λ _. right_no R c now T (TrueMade T d) Invalid) (λ shown.
       right_if R c now T (TrueMade T d) (is_too_big s.size) _ _ (λ _. right_no R c now T (TrueMade T d) TooBig) (λ few.
-      born-right d x name room (new_attributes c s x.attributes File FILE_MODE now) (file (resized [] s.size)) is kind free take may
+      born-right d x name room (new_attributes c s x.attributes File FILE_MODE now) (file (resized [] s.size)) is kind free take given may
       (λ place within r moment fit. new-fits s d x place name File (file (resized [] s.size)) FILE_MODE asked caller shown is_name (resized-fits (file []) s.size few (omega arith)) within r moment fit))))
 
-  pub create-right : (h : Handle) (name : List ℕ) (how : CreateMode) (room : Option Room) → (R → IsAskedMode how) → (R → IsCaller c) → MayTake T h.number room
-      → IsRight R c now T (TrueMade T h.number) (create_case c name how room now T (target T h))
-  create-right h name (Unchecked s) room asked caller take = right_named R c now T (TrueMade T h.number) h name Exists Exists (create_new c name s room now T) (create_over c s now T)
-      (λ x is kind is_name free. new-right name s room h.number x asked caller is kind is_name free take) (λ x is kind n y at home. over-right s h.number x n y is kind at)
-  create-right h name (Guarded s) room asked caller take = right_named R c now T (TrueMade T h.number) h name Exists Exists (create_new c name s room now T) _
-      (λ x is kind is_name free. new-right name s room h.number x asked caller is kind is_name free take) (λ x is kind n y at home. right_no R c now T (TrueMade T h.number) Exists)
-  create-right h name Exclusive room asked caller take = right_named R c now T (TrueMade T h.number) h name Exists Exists _ _
-      (λ x is kind is_name free. right_allowed R c now T (TrueMade T h.number) (may_rename c x.attributes) _ (λ _. right_no R c now T (TrueMade T h.number) NotSupported))
-      (λ x is kind n y at home. right_no R c now T (TrueMade T h.number) Exists)
+  exclusive-fits : (verifier d : ℕ) (x : Node) (room : Room) (name : List ℕ) → (R.bounds → IsLong verifier) → (R.bounds → IsCaller c) → name_kind name ≡ Name → room.place < MOST_PLACES
+      → R.bounds → IsTime now → IsFit x → IsFit (new_node d room name (exclusive_attributes c verifier x.attributes now) (file []))
+  exclusive-fits verifier d x room name asked caller is_name within r moment fit = record {
+    home = inr is_name;
+    place = within;
+    body = omega arith;
+    mode = omega arith;
+    owner = (caller r).user;
+    group = choice-word (has_bit x.attributes.mode SET_GROUP_BIT) x.attributes.group c.group fit.group (caller r).group;
+    mtime = moment;
+    ctime = moment;
+    verifier = asked r;
+  }
 
-  pub mkdir-right : (h : Handle) (name : List ℕ) (s : Settings) (room : Option Room) → (R → IsAsked s) → (R → IsCaller c) → MayTake T h.number room
+  exclusive-right : (name : List ℕ) (verifier : ℕ) (room : Option Room) (d : ℕ) (x : Node) → Some verifier ≡ R.verifier → (R.bounds → IsLong verifier) → (R.bounds → IsCaller c) → (T.at d).node ≡ Some x
+      → is_directory x.body ≡ true → name_kind name ≡ Name → find T d name ≡ None → MayTake T d room → IsRight R c now T (TrueMade T d) (create_exclusive c name verifier room now T d x)
+  exclusive-right name verifier room d x given asked caller is kind is_name free take =
+      right_allowed R c now T (TrueMade T d) (may_rename c x.attributes) _ (λ may.
+      born-right d x name room (exclusive_attributes c verifier x.attributes now) (file []) is kind free take given may
+      (λ place within r moment fit. exclusive-fits verifier d x place name asked caller is_name within r moment fit))
+
+  again-right : (verifier d : ℕ) (x : Node) (n : ℕ) (y : Node) → (T.at d).node ≡ Some x → (T.at n).node ≡ Some y → IsRight R c now T (TrueMade T d) (create_again verifier T d x n y)
+  again-right verifier d x n y is at =
+      right_if R c now T (TrueMade T d) (is_made_by verifier y) _ _ (λ _. before-right d x n y is at) (λ _. right_no R c now T (TrueMade T d) Exists)
+
+  pub create-right : (h : Handle) (name : List ℕ) (how : CreateMode) (room : Option Room) → verifier_of (Call.create h name how) ≡ R.verifier → (R.bounds → IsAskedMode how) → (R.bounds → IsCaller c) → MayTake T h.number room
+      → IsRight R c now T (TrueMade T h.number) (create_case c name how room now T (target T h))
+  create-right h name (Unchecked s) room given asked caller take = right_named R c now T (TrueMade T h.number) h name Exists Exists (create_new c name s room now T) (create_over c s now T)
+      (λ x is kind is_name free. new-right name s room h.number x given asked caller is kind is_name free take) (λ x is kind n y at home. over-right s h.number x n y is kind at)
+  create-right h name (Guarded s) room given asked caller take = right_named R c now T (TrueMade T h.number) h name Exists Exists (create_new c name s room now T) _
+      (λ x is kind is_name free. new-right name s room h.number x given asked caller is kind is_name free take) (λ x is kind n y at home. right_no R c now T (TrueMade T h.number) Exists)
+  create-right h name (Exclusive verifier) room given asked caller take = right_named R c now T (TrueMade T h.number) h name Exists Exists (create_exclusive c name verifier room now T) (create_again verifier T)
+      (λ x is kind is_name free. exclusive-right name verifier room h.number x given asked caller is kind is_name free take) (λ x is kind n y at home. again-right verifier h.number x n y is at)
+
+  pub mkdir-right : (h : Handle) (name : List ℕ) (s : Settings) (room : Option Room) → None ≡ R.verifier → (R.bounds → IsAsked s) → (R.bounds → IsCaller c) → MayTake T h.number room
       → IsRight R c now T (TrueMade T h.number) (mkdir_case c name s room now T (target T h))
-  mkdir-right h name s room asked caller take = right_named R c now T (TrueMade T h.number) h name Exists Exists (mkdir_new c name s room now T) _
+  mkdir-right h name s room given asked caller take = right_named R c now T (TrueMade T h.number) h name Exists Exists (mkdir_new c name s room now T) _
       (λ x is kind is_name free.
       right_allowed R c now T (TrueMade T h.number) (may_rename c x.attributes) _ (λ may.
       right_if R c now T (TrueMade T h.number) (is_no_time s.mtime) _ _ (λ _. right_no R c now T (TrueMade T h.number) Invalid) (λ shown.
-      born-right h.number x name room (new_attributes c s x.attributes Directory DIRECTORY_MODE now) (directory 0) is kind free take may
+      born-right h.number x name room (new_attributes c s x.attributes Directory DIRECTORY_MODE now) (directory 0) is kind free take given may
       (λ place within r moment fit. new-fits s h.number x place name Directory (directory 0) DIRECTORY_MODE asked caller shown is_name (omega arith, (0, refl)) within r moment fit))))
       (λ x is kind n y at home. right_no R c now T (TrueMade T h.number) Exists)
 
-  pub symlink-right : (h : Handle) (name : List ℕ) (s : Settings) (text : List ℕ) (room : Option Room) → (R → IsAsked s) → (R → IsCaller c) → MayTake T h.number room
+  pub symlink-right : (h : Handle) (name : List ℕ) (s : Settings) (text : List ℕ) (room : Option Room) → None ≡ R.verifier → (R.bounds → IsAsked s) → (R.bounds → IsCaller c) → MayTake T h.number room
       → IsRight R c now T (TrueMade T h.number) (symlink_case c name s text room now T (target T h))
-  symlink-right h name s text room asked caller take = right_named R c now T (TrueMade T h.number) h name Exists Exists (symlink_new c name s text room now T) _
+  symlink-right h name s text room given asked caller take = right_named R c now T (TrueMade T h.number) h name Exists Exists (symlink_new c name s text room now T) _
       (λ x is kind is_name free.
       right_allowed R c now T (TrueMade T h.number) (may_rename c x.attributes) _ (λ may.
-      right_if R c now T (TrueMade T h.number) (is_no_time s.mtime || length text == 0) _ _ (λ _. right_no R c now T (TrueMade T h.number) Invalid) (λ given.
+      right_if R c now T (TrueMade T h.number) (is_no_time s.mtime || length text == 0) _ _ (λ _. right_no R c now T (TrueMade T h.number) Invalid) (λ full.
       right_if R c now T (TrueMade T h.number) (nat_lt MOST_LINK (length text)) _ _ (λ _. right_no R c now T (TrueMade T h.number) NameTooLong) (λ few.
-      born-right h.number x name room (new_attributes c s x.attributes Link LINK_MODE now) (link text) is kind free take may
+      born-right h.number x name room (new_attributes c s x.attributes Link LINK_MODE now) (link text) is kind free take given may
       (λ place within r moment fit.
-      new-fits s h.number x place name Link (link text) LINK_MODE asked caller (or_parts (is_no_time s.mtime) (length text == 0) given).0 is_name (ltb-false MOST_LINK (length text) few) within r moment fit)))))
+      new-fits s h.number x place name Link (link text) LINK_MODE asked caller (or_parts (is_no_time s.mtime) (length text == 0) full).0 is_name (ltb-false MOST_LINK (length text) few) within r moment fit)))))
       (λ x is kind n y at home. right_no R c now T (TrueMade T h.number) Exists)
 
   -- ── REMOVE and RMDIR ──

@@ -16,7 +16,7 @@ use Rattle.journal_tree.specs.Laws.{IsRightfulMove}
 use Rattle.journal_tree.proofs.Finding.{find-some, find-none}
 use Rattle.journal_tree.proofs.Changing.{slot_cases, map_cases, one, same_generation}
 use Rattle.journal_tree.proofs.Hanging.{low, not_itself, found_by_name}
-use Rattle.journal_tree.proofs.Steps.{IsChange, IsReplaced, IsMoved, Step}
+use Rattle.journal_tree.proofs.Steps.{Known, IsChange, IsReplaced, IsMoved, Step}
 use Rattle.journal_tree.proofs.Steps.Step.{stays, sets, plants, cuts, moves}
 use Rattle.journal_tree.proofs.Moving.{NamesCase, names_cases, moved_node, moved_cases, moved-generation, moved-tree, others-there, others-back}
 use Rattle.journal_tree.proofs.Moving.NamesCase.{in_source, in_goal, elsewhere}
@@ -51,13 +51,13 @@ same-names T T2 d tree tree2 there back name = by (find T d name) refl
 -- ── one step ──
 
 -- What becomes of a node that is there before and after a step
-pub data Fate (R : Type 0) (c : Caller) (now : Time) (T T2 : Tree) (n : ℕ) (x y : Node) : Type 0 where
+pub data Fate (R : Known) (c : Caller) (now : Time) (T T2 : Tree) (n : ℕ) (x y : Node) : Type 0 where
   same : x ≡ y → HasSameNames T T2 n → Fate R c now T T2 n x y
   set : IsChange R c now x y → HasSameNames T T2 n → Fate R c now T T2 n x y
   names : y.attributes ≡ with_times x.attributes (time_of_names x.attributes now) → y.home ≡ x.home → may_rename c x.attributes ≡ true → Fate R c now T T2 n x y
   hung : y.attributes ≡ with_ctime x.attributes (time_of_change x.attributes.ctime now) → y.body ≡ x.body → IsRightfulMove c T x y → HasSameNames T T2 n → Fate R c now T T2 n x y
 
-module _ (R : Type 0) (c : Caller) (now : Time) (T : Tree) (tree : HasTree T) where
+module _ (R : Known) (c : Caller) (now : Time) (T : Tree) (tree : HasTree T) where
   -- nodes stay where they hang where one is set
   sets-hang : (m : ℕ) (a b : Node) → (T.at m).node ≡ Some a → b.home ≡ a.home → (d : ℕ) → HangsToo T (with_node T m (Some b)) d × HangsToo (with_node T m (Some b)) T d
   sets-hang m a b is home d = (record { too = there }, record { too = back })
@@ -336,3 +336,39 @@ module _ (R : Type 0) (c : Caller) (now : Time) (T : Tree) (tree : HasTree T) wh
           → (T.at k).generation < ((moved W m n z place now).at k).generation
       by y none at (inl r) = absurd (cc (sym none ∙ ap (λ (i : ℕ). (T.at i).node) r.0 ∙ it.without.kept n z it.at))
       by y none at (inr r) = let x = others-back c T m n z place W now it k y r.0 at in absurd (cc (sym none ∙ x.1))
+
+  -- a number that has no node gets one with the verifier of the call
+  pub gives-verifier : (T2 : Tree) → Step R c now T T2 → (n : ℕ) (y : Node) → (T.at n).node ≡ None → (T2.at n).node ≡ Some y → y.attributes.verifier ≡ R.verifier
+  gives-verifier _ stays n y none at = absurd (cc (sym none ∙ at))
+  gives-verifier _ (sets m a b is change) n y none at = by (slot_cases T m (record { generation = (T.at m).generation; node = Some b }) n)
+    where
+      by : ((n ≡ m) × ((with_node T m (Some b)).at n ≡ record { generation = (T.at m).generation; node = Some b })) ⊎ ((n ≢ m) × ((with_node T m (Some b)).at n ≡ T.at n)) → y.attributes.verifier ≡ R.verifier
+      by (inl e) = absurd (cc (sym none ∙ ap (λ (i : ℕ). (T.at i).node) e.0 ∙ is))
+      by (inr e) = absurd (cc (sym none ∙ sym (ap (λ (s : Slot). s.node) e.1) ∙ at))
+  gives-verifier _ (plants d a room b p) n y none at = by (slot_cases (touch_place T d b.home.place now) room.number (record { generation = ((touch_place T d b.home.place now).at room.number).generation + 1; node = Some b }) n) (map_cases T d (opened b.home.place now) n)
+    where
+      V : Tree
+      V = with_slot (touch_place T d b.home.place now) room.number (record { generation = ((touch_place T d b.home.place now).at room.number).generation + 1; node = Some b })
+
+      by : ((n ≡ room.number) × (V.at n ≡ record { generation = ((touch_place T d b.home.place now).at room.number).generation + 1; node = Some b })) ⊎ ((n ≢ room.number) × (V.at n ≡ (touch_place T d b.home.place now).at n))
+          → ((n ≡ d) × (((touch_place T d b.home.place now).at n).node ≡ option_map (opened b.home.place now) (T.at n).node)) ⊎ ((n ≢ d) × ((touch_place T d b.home.place now).at n ≡ T.at n))
+          → y.attributes.verifier ≡ R.verifier
+      by (inl e) _ = let q = one (V.at n).node y b at (ap (λ (s : Slot). s.node) e.1) in ap (λ (x : Node). x.attributes.verifier) q ∙ p.verifier
+      by (inr e) (inl r) = absurd (cc (sym (ap (λ (s : Slot). s.node) e.1 ∙ r.1 ∙ ap (option_map (opened b.home.place now)) none) ∙ at))
+      by (inr e) (inr r) = absurd (cc (sym none ∙ sym (ap (λ (s : Slot). s.node) e.1 ∙ ap (λ (s : Slot). s.node) r.1) ∙ at))
+  gives-verifier _ (cuts d m a b p) n y none at = by (slot_cases T m (record { generation = (T.at m).generation; node = None }) n) (map_cases (with_node T m None) d (touched now) n)
+    where
+      gone : ((n ≡ m) × ((with_node T m None).at n ≡ record { generation = (T.at m).generation; node = None })) ⊎ ((n ≢ m) × ((with_node T m None).at n ≡ T.at n)) → ((with_node T m None).at n).node ≡ None
+      gone (inl e) = ap (λ (s : Slot). s.node) e.1
+      gone (inr e) = ap (λ (s : Slot). s.node) e.1 ∙ none
+
+      by : ((n ≡ m) × ((with_node T m None).at n ≡ record { generation = (T.at m).generation; node = None })) ⊎ ((n ≢ m) × ((with_node T m None).at n ≡ T.at n))
+          → ((n ≡ d) × (((cut T d m now).at n).node ≡ option_map (touched now) ((with_node T m None).at n).node)) ⊎ ((n ≢ d) × ((cut T d m now).at n ≡ (with_node T m None).at n))
+          → y.attributes.verifier ≡ R.verifier
+      by e (inl r) = absurd (cc (sym (r.1 ∙ ap (option_map (touched now)) (gone e)) ∙ at))
+      by e (inr r) = absurd (cc (sym (ap (λ (s : Slot). s.node) r.1 ∙ gone e) ∙ at))
+  gives-verifier _ (moves m k z place W it) n y none at = by (moved_cases c T m k z place W now it n)
+    where
+      by : ((n ≡ k) × (((moved W m k z place now).at n).node ≡ Some (moved_node m place now z))) ⊎ ((n ≢ k) × ((moved W m k z place now).at n ≡ (names_moved W m.d m.e place now).at n)) → y.attributes.verifier ≡ R.verifier
+      by (inl r) = absurd (cc (sym none ∙ ap (λ (i : ℕ). (T.at i).node) r.0 ∙ it.without.kept k z it.at))
+      by (inr r) = let x = others-back c T m k z place W now it n y r.0 at in absurd (cc (sym none ∙ x.1))

@@ -14,14 +14,14 @@ use Rattle.journal_tree.specs.Changes.{touched, touch, opened, touch_place}
 use Rattle.journal_tree.specs.Renames.{Move, rehung, names_moved}
 use Rattle.journal_tree.specs.Op.{Call, Reply, Op, is_refusal}
 use Rattle.journal_tree.specs.Op.Op.{answers_getattr, answers_setattr, answers_lookup, answers_access, answers_readlink, answers_read, answers_write, answers_create, answers_mkdir, answers_symlink, answers_mknod, answers_remove, answers_rmdir, answers_rename, answers_link, answers_readdir, answers_readdirplus, answers_fsstat, answers_fsinfo, answers_pathconf, answers_commit}
-use Rattle.journal_tree.specs.Fit.{IsFitHome, IsFit, HasFit, IsCallable, IsCaller}
+use Rattle.journal_tree.specs.Fit.{IsFitHome, IsFit, HasFit}
 use Rattle.journal_tree.specs.Laws.{TellsTruly, KeepsTrees, KeepsFit, RenamesWhole, RefusalsChangeNothing, RepliesAreTrue}
 use Rattle.journal_tree.proofs.Finding.{find-none, find_place-none}
 pub use Rattle.journal_tree.proofs.Changing.{same_generation}
 use Rattle.journal_tree.proofs.Changing.{at_other, HasTree-same, HasTree-touch, HasTree-cut, HasTree-plant}
 use Rattle.journal_tree.proofs.Hanging.{low, not_root}
 use Rattle.journal_tree.proofs.Bounds.{change-fits, names-fits, grown-body-fits}
-use Rattle.journal_tree.proofs.Steps.{IsWithout, Step, IsRight, own_slot}
+use Rattle.journal_tree.proofs.Steps.{Known, known, IsWithout, Step, IsRight, own_slot}
 use Rattle.journal_tree.proofs.Steps.Step.{stays, sets, plants, cuts, moves}
 use Rattle.journal_tree.proofs.Moving.{moved_node, moved-generation, moved-tree}
 use Rattle.journal_tree.proofs.Renaming.{IsTrueRenamed, rename-right}
@@ -29,84 +29,84 @@ use Rattle.journal_tree.proofs.Calls.{Anything, TrueChange, TrueFound, TrueMade,
 
 -- What is known of each call
 pub record IsDone (call : Call) (c : Caller) (now : Time) (T : Tree) (reply : Reply) (T2 : Tree) : Type 0 where
-  pub step : Step (IsCallable call × IsCaller c) c now T T2
+  pub step : Step (known call c) c now T T2
   pub truth : TellsTruly call reply T T2
   pub refusal : is_refusal reply ≡ true → T2 ≡ T
 
 -- an answer is what was shown of its outcome
-of : (R : Type 0) (c : Caller) (now : Time) (T : Tree) {A : Type 0} (G : A → Tree → Type 0) (o : Outcome A) (r : Result A Status) (T2 : Tree) → (r, T2) ≡ o → IsRight R c now T G o → IsRight R c now T G (r, T2)
+of : (R : Known) (c : Caller) (now : Time) (T : Tree) {A : Type 0} (G : A → Tree → Type 0) (o : Outcome A) (r : Result A Status) (T2 : Tree) → (r, T2) ≡ o → IsRight R c now T G o → IsRight R c now T G (r, T2)
 of R c now T {A} G o r T2 is right = subst (λ (o : Outcome A). IsRight R c now T G o) (sym is) right
 
 pub op-done : (call : Call) (c : Caller) (now : Time) (T T2 : Tree) (reply : Reply) → HasTree T → Op call c now T reply T2 → IsDone call c now T reply T2
 op-done _ c now T T2 _ tree (answers_getattr h _ _ _ _ r is) =
-    let right = of (IsCallable (Call.getattr h) × IsCaller c) c now T Anything _ r T2 is (getattr-right _ c now T h) in record { step = right.step; truth = tt; refusal = right.refusal }
+    let right = of (known (Call.getattr h) c) c now T Anything _ r T2 is (getattr-right _ c now T h) in record { step = right.step; truth = tt; refusal = right.refusal }
 op-done _ c now T T2 _ tree (answers_setattr h s guard _ _ _ _ (Ok a) is) =
-    let right = of (IsCallable (Call.setattr h s guard) × IsCaller c) c now T (TrueChange T h.number) _ (Ok a) T2 is (setattr-right _ c now T h s guard (λ r. r.0)) in record { step = right.step; truth = right.given a refl; refusal = right.refusal }
+    let right = of (known (Call.setattr h s guard) c) c now T (TrueChange T h.number) _ (Ok a) T2 is (setattr-right _ c now T h s guard (λ r. r.0)) in record { step = right.step; truth = right.given a refl; refusal = right.refusal }
 op-done _ c now T T2 _ tree (answers_setattr h s guard _ _ _ _ (Err e) is) =
-    let right = of (IsCallable (Call.setattr h s guard) × IsCaller c) c now T (TrueChange T h.number) _ (Err e) T2 is (setattr-right _ c now T h s guard (λ r. r.0)) in record { step = right.step; truth = tt; refusal = right.refusal }
+    let right = of (known (Call.setattr h s guard) c) c now T (TrueChange T h.number) _ (Err e) T2 is (setattr-right _ c now T h s guard (λ r. r.0)) in record { step = right.step; truth = tt; refusal = right.refusal }
 op-done _ c now T T2 _ tree (answers_lookup h name _ _ _ _ (Ok a) is) =
-    let right = of (IsCallable (Call.lookup h name) × IsCaller c) c now T (TrueFound h.number) _ (Ok a) T2 is (lookup-right _ c now T h name) in record { step = right.step; truth = right.given a refl; refusal = right.refusal }
+    let right = of (known (Call.lookup h name) c) c now T (TrueFound h.number) _ (Ok a) T2 is (lookup-right _ c now T h name) in record { step = right.step; truth = right.given a refl; refusal = right.refusal }
 op-done _ c now T T2 _ tree (answers_lookup h name _ _ _ _ (Err e) is) =
-    let right = of (IsCallable (Call.lookup h name) × IsCaller c) c now T (TrueFound h.number) _ (Err e) T2 is (lookup-right _ c now T h name) in record { step = right.step; truth = tt; refusal = right.refusal }
+    let right = of (known (Call.lookup h name) c) c now T (TrueFound h.number) _ (Err e) T2 is (lookup-right _ c now T h name) in record { step = right.step; truth = tt; refusal = right.refusal }
 op-done _ c now T T2 _ tree (answers_access h asked _ _ _ _ r is) =
-    let right = of (IsCallable (Call.access h asked) × IsCaller c) c now T Anything _ r T2 is (access-right _ c now T h asked) in record { step = right.step; truth = tt; refusal = right.refusal }
+    let right = of (known (Call.access h asked) c) c now T Anything _ r T2 is (access-right _ c now T h asked) in record { step = right.step; truth = tt; refusal = right.refusal }
 op-done _ c now T T2 _ tree (answers_readlink h _ _ _ _ r is) =
-    let right = of (IsCallable (Call.readlink h) × IsCaller c) c now T Anything _ r T2 is (readlink-right _ c now T h) in record { step = right.step; truth = tt; refusal = right.refusal }
+    let right = of (known (Call.readlink h) c) c now T Anything _ r T2 is (readlink-right _ c now T h) in record { step = right.step; truth = tt; refusal = right.refusal }
 op-done _ c now T T2 _ tree (answers_read h offset count _ _ _ _ r is) =
-    let right = of (IsCallable (Call.read h offset count) × IsCaller c) c now T Anything _ r T2 is (read-right _ c now T h offset count) in record { step = right.step; truth = tt; refusal = right.refusal }
+    let right = of (known (Call.read h offset count) c) c now T Anything _ r T2 is (read-right _ c now T h offset count) in record { step = right.step; truth = tt; refusal = right.refusal }
 op-done _ c now T T2 _ tree (answers_write h offset count bs room _ _ _ _ (Ok a) is) =
-    let right = of (IsCallable (Call.write h offset count bs) × IsCaller c) c now T (TrueChange T h.number) _ (Ok a) T2 is (write-right _ c now T h room offset count bs) in record { step = right.step; truth = right.given a refl; refusal = right.refusal }
+    let right = of (known (Call.write h offset count bs) c) c now T (TrueChange T h.number) _ (Ok a) T2 is (write-right _ c now T h room offset count bs) in record { step = right.step; truth = right.given a refl; refusal = right.refusal }
 op-done _ c now T T2 _ tree (answers_write h offset count bs room _ _ _ _ (Err e) is) =
-    let right = of (IsCallable (Call.write h offset count bs) × IsCaller c) c now T (TrueChange T h.number) _ (Err e) T2 is (write-right _ c now T h room offset count bs) in record { step = right.step; truth = tt; refusal = right.refusal }
+    let right = of (known (Call.write h offset count bs) c) c now T (TrueChange T h.number) _ (Err e) T2 is (write-right _ c now T h room offset count bs) in record { step = right.step; truth = tt; refusal = right.refusal }
 op-done _ c now T T2 _ tree (answers_create h name how room _ _ _ _ (Ok a) take is) =
-    let right = of (IsCallable (Call.create h name how) × IsCaller c) c now T (TrueMade T h.number) _ (Ok a) T2 is (create-right _ c now T h name how room (λ r. r.0) (λ r. r.1) take) in record { step = right.step; truth = right.given a refl; refusal = right.refusal }
+    let right = of (known (Call.create h name how) c) c now T (TrueMade T h.number) _ (Ok a) T2 is (create-right _ c now T h name how room refl (λ r. r.0) (λ r. r.1) take) in record { step = right.step; truth = right.given a refl; refusal = right.refusal }
 op-done _ c now T T2 _ tree (answers_create h name how room _ _ _ _ (Err e) take is) =
-    let right = of (IsCallable (Call.create h name how) × IsCaller c) c now T (TrueMade T h.number) _ (Err e) T2 is (create-right _ c now T h name how room (λ r. r.0) (λ r. r.1) take) in record { step = right.step; truth = tt; refusal = right.refusal }
+    let right = of (known (Call.create h name how) c) c now T (TrueMade T h.number) _ (Err e) T2 is (create-right _ c now T h name how room refl (λ r. r.0) (λ r. r.1) take) in record { step = right.step; truth = tt; refusal = right.refusal }
 op-done _ c now T T2 _ tree (answers_mkdir h name s room _ _ _ _ (Ok a) take is) =
-    let right = of (IsCallable (Call.mkdir h name s) × IsCaller c) c now T (TrueMade T h.number) _ (Ok a) T2 is (mkdir-right _ c now T h name s room (λ r. r.0) (λ r. r.1) take) in record { step = right.step; truth = right.given a refl; refusal = right.refusal }
+    let right = of (known (Call.mkdir h name s) c) c now T (TrueMade T h.number) _ (Ok a) T2 is (mkdir-right _ c now T h name s room refl (λ r. r.0) (λ r. r.1) take) in record { step = right.step; truth = right.given a refl; refusal = right.refusal }
 op-done _ c now T T2 _ tree (answers_mkdir h name s room _ _ _ _ (Err e) take is) =
-    let right = of (IsCallable (Call.mkdir h name s) × IsCaller c) c now T (TrueMade T h.number) _ (Err e) T2 is (mkdir-right _ c now T h name s room (λ r. r.0) (λ r. r.1) take) in record { step = right.step; truth = tt; refusal = right.refusal }
+    let right = of (known (Call.mkdir h name s) c) c now T (TrueMade T h.number) _ (Err e) T2 is (mkdir-right _ c now T h name s room refl (λ r. r.0) (λ r. r.1) take) in record { step = right.step; truth = tt; refusal = right.refusal }
 op-done _ c now T T2 _ tree (answers_symlink h name s text room _ _ _ _ (Ok a) take is) =
-    let right = of (IsCallable (Call.symlink h name s text) × IsCaller c) c now T (TrueMade T h.number) _ (Ok a) T2 is (symlink-right _ c now T h name s text room (λ r. r.0) (λ r. r.1) take) in record { step = right.step; truth = right.given a refl; refusal = right.refusal }
+    let right = of (known (Call.symlink h name s text) c) c now T (TrueMade T h.number) _ (Ok a) T2 is (symlink-right _ c now T h name s text room refl (λ r. r.0) (λ r. r.1) take) in record { step = right.step; truth = right.given a refl; refusal = right.refusal }
 op-done _ c now T T2 _ tree (answers_symlink h name s text room _ _ _ _ (Err e) take is) =
-    let right = of (IsCallable (Call.symlink h name s text) × IsCaller c) c now T (TrueMade T h.number) _ (Err e) T2 is (symlink-right _ c now T h name s text room (λ r. r.0) (λ r. r.1) take) in record { step = right.step; truth = tt; refusal = right.refusal }
+    let right = of (known (Call.symlink h name s text) c) c now T (TrueMade T h.number) _ (Err e) T2 is (symlink-right _ c now T h name s text room refl (λ r. r.0) (λ r. r.1) take) in record { step = right.step; truth = tt; refusal = right.refusal }
 op-done _ c now T T2 _ tree (answers_mknod h name _ _ _ _ r is) =
-    let right = of (IsCallable (Call.mknod h name) × IsCaller c) c now T Anything _ r T2 is (other-right _ c now T h name) in record { step = right.step; truth = tt; refusal = right.refusal }
+    let right = of (known (Call.mknod h name) c) c now T Anything _ r T2 is (other-right _ c now T h name) in record { step = right.step; truth = tt; refusal = right.refusal }
 op-done _ c now T T2 _ tree (answers_remove h name _ _ _ _ (Ok a) is) =
-    let right = of (IsCallable (Call.remove h name) × IsCaller c) c now T (TrueChange T h.number) _ (Ok a) T2 is (remove-right _ c now T h name tree) in record { step = right.step; truth = right.given a refl; refusal = right.refusal }
+    let right = of (known (Call.remove h name) c) c now T (TrueChange T h.number) _ (Ok a) T2 is (remove-right _ c now T h name tree) in record { step = right.step; truth = right.given a refl; refusal = right.refusal }
 op-done _ c now T T2 _ tree (answers_remove h name _ _ _ _ (Err e) is) =
-    let right = of (IsCallable (Call.remove h name) × IsCaller c) c now T (TrueChange T h.number) _ (Err e) T2 is (remove-right _ c now T h name tree) in record { step = right.step; truth = tt; refusal = right.refusal }
+    let right = of (known (Call.remove h name) c) c now T (TrueChange T h.number) _ (Err e) T2 is (remove-right _ c now T h name tree) in record { step = right.step; truth = tt; refusal = right.refusal }
 op-done _ c now T T2 _ tree (answers_rmdir h name _ _ _ _ (Ok a) is) =
-    let right = of (IsCallable (Call.rmdir h name) × IsCaller c) c now T (TrueChange T h.number) _ (Ok a) T2 is (rmdir-right _ c now T h name tree) in record { step = right.step; truth = right.given a refl; refusal = right.refusal }
+    let right = of (known (Call.rmdir h name) c) c now T (TrueChange T h.number) _ (Ok a) T2 is (rmdir-right _ c now T h name tree) in record { step = right.step; truth = right.given a refl; refusal = right.refusal }
 op-done _ c now T T2 _ tree (answers_rmdir h name _ _ _ _ (Err e) is) =
-    let right = of (IsCallable (Call.rmdir h name) × IsCaller c) c now T (TrueChange T h.number) _ (Err e) T2 is (rmdir-right _ c now T h name tree) in record { step = right.step; truth = tt; refusal = right.refusal }
+    let right = of (known (Call.rmdir h name) c) c now T (TrueChange T h.number) _ (Err e) T2 is (rmdir-right _ c now T h name tree) in record { step = right.step; truth = tt; refusal = right.refusal }
 op-done _ c now T T2 _ tree (answers_rename h name k new_name below place _ _ _ _ (Ok a) take tells is) =
-    let right = of (IsCallable (Call.rename h name k new_name) × IsCaller c) c now T (IsTrueRenamed T h.number name k.number new_name) _ (Ok a) T2 is (rename-right _ c now T h name k new_name below place tree take tells) in
+    let right = of (known (Call.rename h name k new_name) c) c now T (IsTrueRenamed T h.number name k.number new_name) _ (Ok a) T2 is (rename-right _ c now T h name k new_name below place tree take tells) in
     record { step = right.step; truth = ((right.given a refl).source, (right.given a refl).goal); refusal = right.refusal }
 op-done _ c now T T2 _ tree (answers_rename h name k new_name below place _ _ _ _ (Err e) take tells is) =
-    let right = of (IsCallable (Call.rename h name k new_name) × IsCaller c) c now T (IsTrueRenamed T h.number name k.number new_name) _ (Err e) T2 is (rename-right _ c now T h name k new_name below place tree take tells) in
+    let right = of (known (Call.rename h name k new_name) c) c now T (IsTrueRenamed T h.number name k.number new_name) _ (Err e) T2 is (rename-right _ c now T h name k new_name below place tree take tells) in
     record { step = right.step; truth = tt; refusal = right.refusal }
 op-done _ c now T T2 _ tree (answers_link h k name _ _ _ _ r is) =
-    let right = of (IsCallable (Call.link h k name) × IsCaller c) c now T Anything _ r T2 is (link-right _ c now T h k name) in record { step = right.step; truth = tt; refusal = right.refusal }
+    let right = of (known (Call.link h k name) c) c now T Anything _ r T2 is (link-right _ c now T h k name) in record { step = right.step; truth = tt; refusal = right.refusal }
 op-done _ c now T T2 _ tree (answers_readdir h cookie most _ _ _ _ r is) =
-    let right = of (IsCallable (Call.readdir h cookie most) × IsCaller c) c now T Anything _ r T2 is (readdir-right _ c now T h cookie most) in record { step = right.step; truth = tt; refusal = right.refusal }
+    let right = of (known (Call.readdir h cookie most) c) c now T Anything _ r T2 is (readdir-right _ c now T h cookie most) in record { step = right.step; truth = tt; refusal = right.refusal }
 op-done _ c now T T2 _ tree (answers_readdirplus h cookie names most _ _ _ _ r is) =
-    let right = of (IsCallable (Call.readdirplus h cookie names most) × IsCaller c) c now T Anything _ r T2 is (readdirplus-right _ c now T h cookie names most) in record { step = right.step; truth = tt; refusal = right.refusal }
+    let right = of (known (Call.readdirplus h cookie names most) c) c now T Anything _ r T2 is (readdirplus-right _ c now T h cookie names most) in record { step = right.step; truth = tt; refusal = right.refusal }
 op-done _ c now T T2 _ tree (answers_fsstat h free _ _ _ _ r few is) =
-    let right = of (IsCallable (Call.fsstat h) × IsCaller c) c now T Anything _ r T2 is (fsstat-right _ c now T h free) in record { step = right.step; truth = tt; refusal = right.refusal }
+    let right = of (known (Call.fsstat h) c) c now T Anything _ r T2 is (fsstat-right _ c now T h free) in record { step = right.step; truth = tt; refusal = right.refusal }
 op-done _ c now T T2 _ tree (answers_fsinfo h _ _ _ _ r is) =
-    let right = of (IsCallable (Call.fsinfo h) × IsCaller c) c now T Anything _ r T2 is (fsinfo-right _ c now T h) in record { step = right.step; truth = tt; refusal = right.refusal }
+    let right = of (known (Call.fsinfo h) c) c now T Anything _ r T2 is (fsinfo-right _ c now T h) in record { step = right.step; truth = tt; refusal = right.refusal }
 op-done _ c now T T2 _ tree (answers_pathconf h _ _ _ _ r is) =
-    let right = of (IsCallable (Call.pathconf h) × IsCaller c) c now T Anything _ r T2 is (pathconf-right _ c now T h) in record { step = right.step; truth = tt; refusal = right.refusal }
+    let right = of (known (Call.pathconf h) c) c now T Anything _ r T2 is (pathconf-right _ c now T h) in record { step = right.step; truth = tt; refusal = right.refusal }
 op-done _ c now T T2 _ tree (answers_commit h _ _ _ _ r is) =
-    let right = of (IsCallable (Call.commit h) × IsCaller c) c now T Anything _ r T2 is (commit-right _ c now T h) in record { step = right.step; truth = tt; refusal = right.refusal }
+    let right = of (known (Call.commit h) c) c now T Anything _ r T2 is (commit-right _ c now T h) in record { step = right.step; truth = tt; refusal = right.refusal }
 
 pub replies-are-true : RepliesAreTrue
 replies-are-true call c now T T2 reply tree op = (op-done call c now T T2 reply tree op).truth
 
 pub renames-whole : RenamesWhole
 renames-whole h k name new_name c now T T2 a tree (answers_rename _ _ _ _ below place _ _ _ _ _ take tells is) =
-    let right = of (IsCallable (Call.rename h name k new_name) × IsCaller c) c now T (IsTrueRenamed T h.number name k.number new_name) _ (Ok a) T2 is (rename-right _ c now T h name k new_name below place tree take tells) in
+    let right = of (known (Call.rename h name k new_name) c) c now T (IsTrueRenamed T h.number name k.number new_name) _ (Ok a) T2 is (rename-right _ c now T h name k new_name below place tree take tells) in
     (right.given a refl).whole
 
 pub refusals-change-nothing : RefusalsChangeNothing
@@ -114,7 +114,7 @@ refusals-change-nothing call c now T T2 reply tree op refused = (op-done call c 
 
 -- ── the rule ──
 
-module _ (R : Type 0) (c : Caller) (now : Time) where
+module _ (R : Known) (c : Caller) (now : Time) where
   pub step-keeps : (T T2 : Tree) → HasTree T → Step R c now T T2 → HasTree T2
   step-keeps T _ tree stays = tree
   step-keeps T _ tree (sets n x y is change) = HasTree-same T n (Some y) tree (ap (option_map stem_of) is ∙ ap Some (λ i. record { home = sym change.home i; places = sym change.places i }))
@@ -126,7 +126,7 @@ module _ (R : Type 0) (c : Caller) (now : Time) where
   step-keeps T _ tree (moves m n z place W it) = moved-tree c T m n z place W now it
 
 pub keeps-trees : KeepsTrees
-keeps-trees call c now T T2 reply tree op = step-keeps (IsCallable call × IsCaller c) c now T T2 tree (op-done call c now T T2 reply tree op).step
+keeps-trees call c now T T2 reply tree op = step-keeps (known call c) c now T T2 tree (op-done call c now T T2 reply tree op).step
 
 -- ── the bounds ──
 
@@ -171,17 +171,17 @@ fit_map T n f fit keeps = by (T.at n).node refl
 touched-fits : (now : Time) (x : Node) → IsTime now → IsFit x → IsFit (touched now x)
 touched-fits now x moment f =
     let time = names-fits x.attributes now f.ctime moment in
-    record { home = f.home; place = f.place; body = f.body; mode = f.mode; owner = f.owner; group = f.group; mtime = time; ctime = time }
+    record { home = f.home; place = f.place; body = f.body; mode = f.mode; owner = f.owner; group = f.group; mtime = time; ctime = time; verifier = tt }
 
 opened-fits : (place : ℕ) (now : Time) (x : Node) → place < MOST_PLACES → IsTime now → IsFit x → IsFit (opened place now x)
 opened-fits place now x low moment f =
     let time = names-fits x.attributes now f.ctime moment in
-    record { home = f.home; place = f.place; body = grown-body-fits place x.body low f.body; mode = f.mode; owner = f.owner; group = f.group; mtime = time; ctime = time }
+    record { home = f.home; place = f.place; body = grown-body-fits place x.body low f.body; mode = f.mode; owner = f.owner; group = f.group; mtime = time; ctime = time; verifier = tt }
 
 rehung-fits : (home : Home) (now : Time) (z : Node) → IsFitHome home → home.place < MOST_PLACES → IsTime now → IsFit z → IsFit (rehung home now z)
 rehung-fits home now z named low moment f =
     let time = change-fits z.attributes.ctime now f.ctime moment in
-    record { home = named; place = low; body = f.body; mode = f.mode; owner = f.owner; group = f.group; mtime = f.mtime; ctime = time }
+    record { home = named; place = low; body = f.body; mode = f.mode; owner = f.owner; group = f.group; mtime = f.mtime; ctime = time; verifier = tt }
 
 -- a name that goes from one directory to another
 fit_names : (W : Tree) (d e place : ℕ) (now : Time) → HasFit W → IsTime now → place < MOST_PLACES → HasFit (names_moved W d e place now)
@@ -202,8 +202,8 @@ fit_without c T m W without fit = record {
   young = λ n. (let y = fit.young n in let g = without.generation n in omega (arith, y, g));
 }
 
-module _ (R : Type 0) (c : Caller) (now : Time) where
-  pub step-fits : (T T2 : Tree) → R → IsTime now → HasFit T → Step R c now T T2 → HasFit T2
+module _ (R : Known) (c : Caller) (now : Time) where
+  pub step-fits : (T T2 : Tree) → R.bounds → IsTime now → HasFit T → Step R c now T T2 → HasFit T2
   step-fits T _ r moment fit stays = fit
   step-fits T _ r moment fit (sets n x y is change) = fit_node T n x y fit is (change.fit r moment (fit.nodes n x is))
   step-fits T _ r moment fit (plants d x room y p) = fit_slot (touch_place T d y.home.place now) room.number _ opened_fit
@@ -239,4 +239,4 @@ module _ (R : Type 0) (c : Caller) (now : Time) where
       )
 
 pub keeps-fit : KeepsFit
-keeps-fit call c now T T2 reply callable caller moment tree fit op = step-fits (IsCallable call × IsCaller c) c now T T2 (callable, caller) moment fit (op-done call c now T T2 reply tree op).step
+keeps-fit call c now T T2 reply callable caller moment tree fit op = step-fits (known call c) c now T T2 (callable, caller) moment fit (op-done call c now T T2 reply tree op).step

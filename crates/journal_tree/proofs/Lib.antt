@@ -13,6 +13,7 @@ pub mod Keeping
 pub mod Moments
 pub mod Fates
 pub mod Growing
+pub mod Exclusive
 pub mod Rightful
 pub mod Linking
 pub mod Listing

@@ -8,7 +8,7 @@ use Rattle.journal_tree.specs.Rule.{Stem, Stems, stem_of, stems, HasPlace, IsBel
 use Rattle.journal_tree.specs.Rule.IsBelow.{itself}
 use Rattle.journal_tree.specs.declared.caller.Caller.{Caller}
 use Rattle.journal_tree.specs.Changes.{touched, touch, opened, touch_place}
-use Rattle.journal_tree.specs.Renames.{Move, with_ctime, rehung, names_moved, moved, goal_after}
+use Rattle.journal_tree.specs.Renames.{Move, with_ctime, without_verifier, rehung, names_moved, moved, goal_after}
 use Rattle.journal_tree.specs.Runs.{IsOneNode}
 use Rattle.journal_tree.specs.Laws.{IsRenamed}
 use Rattle.journal_tree.proofs.Finding.{find-some}
@@ -237,11 +237,11 @@ module _ (c : Caller) (T : Tree) (m : Move) (n : ℕ) (z : Node) (place : ℕ) (
       at_n : ((moved W m n z place now).at n).node ≡ Some (moved_node m place now z)
       at_n = ap (λ (s : Slot). s.node) (own_slot (names_moved W m.d m.e place now) n _)
 
-      same : (x y : Node) → IsOneNode T (moved W m n z place now) n x y → (y.body ≡ x.body) × (with_ctime x.attributes y.attributes.ctime ≡ y.attributes)
+      same : (x y : Node) → IsOneNode T (moved W m n z place now) n x y → (y.body ≡ x.body) × (with_ctime x.attributes y.attributes.ctime ≡ without_verifier y.attributes)
       same x y both =
           let was = one (T.at n).node z x (it.without.kept n z it.at) both.before in
           let after = one ((moved W m n z place now).at n).node (moved_node m place now z) y at_n both.after in
-          (sym (ap (λ (y : Node). y.body) after) ∙ ap (λ (x : Node). x.body) was, subst (λ (x : Node). with_ctime x.attributes y.attributes.ctime ≡ y.attributes) was (subst (λ (y : Node). with_ctime z.attributes y.attributes.ctime ≡ y.attributes) after refl))
+          (sym (ap (λ (y : Node). y.body) after) ∙ ap (λ (x : Node). x.body) was, subst (λ (x : Node). with_ctime x.attributes y.attributes.ctime ≡ without_verifier y.attributes) was (subst (λ (y : Node). with_ctime z.attributes y.attributes.ctime ≡ without_verifier y.attributes) after refl))
 
       stay : (i : ℕ) (x : Node) → i ≢ n → ((W.at i).node ≡ Some x) ⊎ IsReplaced c T m i x → (find T m.e m.name ≡ Some i) ⊎ ((y : Node) × (((moved W m n z place now).at i).node ≡ Some y))
       stay i x far (inl there) = let y = others-there i x far there in inr (y.0, y.1)

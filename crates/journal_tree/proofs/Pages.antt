@@ -53,7 +53,7 @@ begins-fit numbers blocks now moment = record {
     nodes i x is (inl same) =
         let e : Some (first_root now) ≡ Some x = ap (λ (i : ℕ). ((first_tree numbers blocks now).at i).node) (sym same) ∙ is in
         let e2 : first_root now ≡ x = cc in
-        subst IsFit e2 (record { home = inl refl; place = omega arith; body = (omega arith, (0, refl)); mode = omega arith; owner = omega arith; group = omega arith; mtime = moment; ctime = moment })
+        subst IsFit e2 (record { home = inl refl; place = omega arith; body = (omega arith, (0, refl)); mode = omega arith; owner = omega arith; group = omega arith; mtime = moment; ctime = moment; verifier = tt })
     nodes i x is (inr other) = absurd (cc (sym (ap (λ (s : Slot). s.node) (none i other)) ∙ is))
 
     born : (i : ℕ) (x : Node) → ((first_tree numbers blocks now).at i).node ≡ Some x → (i ≡ ROOT) ⊎ (i ≡ ROOT → ⊥) → 1 ≤ ((first_tree numbers blocks now).at i).generation

@@ -15,7 +15,7 @@ use Rattle.journal_tree.specs.Rule.IsBelow.{itself}
 use Rattle.journal_tree.specs.Calls.{target, name_kind}
 use Rattle.journal_tree.specs.declared.name.NameKind.TheVariants.{Name}
 use Rattle.journal_tree.specs.Names.{may_remove}
-use Rattle.journal_tree.specs.Renames.{Move, with_ctime, moved, both_changed, both_unchanged, may_move, place_instead, new_place, may_replace, move_to, move_new, move_over, move_node, rename_case}
+use Rattle.journal_tree.specs.Renames.{Move, with_ctime, without_verifier, moved, both_changed, both_unchanged, may_move, place_instead, new_place, may_replace, move_to, move_new, move_over, move_node, rename_case}
 use Rattle.journal_tree.specs.Op.{MayTakePlace, TellsBelow}
 use Rattle.journal_tree.specs.Fit.{HasFit}
 use Rattle.journal_tree.specs.Laws.{IsTrueChange, IsRenamed}
@@ -23,7 +23,7 @@ use Rattle.journal_tree.proofs.Finding.{find-none, find_place-none}
 use Rattle.journal_tree.proofs.Walk.{no-walk-needed}
 use Rattle.journal_tree.proofs.Changing.{stem_from_node, node_from_stem, HasTree-cut, SameHomes, way_back, IsFreeHome, at_other, slot_cases, one, same_generation}
 use Rattle.journal_tree.proofs.Hanging.{low, not_root, leaf, empty, not_itself, one_name}
-use Rattle.journal_tree.proofs.Steps.{IsReplaced, IsWithout, IsMoved, IsRight, right_no, right_yes, right_if, right_allowed, right_target, right_searched, right_name, right_search}
+use Rattle.journal_tree.proofs.Steps.{Known, IsReplaced, IsWithout, IsMoved, IsRight, right_no, right_yes, right_if, right_allowed, right_target, right_searched, right_name, right_search}
 use Rattle.journal_tree.proofs.Steps.Step.{stays, moves}
 use Rattle.journal_tree.proofs.Moving.{moved-source, moved-goal, moved-whole}
 use Rattle.journal_tree.proofs.Calls.{true-of}
@@ -101,7 +101,7 @@ module _ (c : Caller) (T : Tree) (tree : HasTree T) (m : Move) where
 
 -- ── the call ──
 
-module _ (R : Type 0) (c : Caller) (now : Time) (T : Tree) (tree : HasTree T) (m : Move) (name : List ℕ) where
+module _ (R : Known) (c : Caller) (now : Time) (T : Tree) (tree : HasTree T) (m : Move) (name : List ℕ) where
   -- the two directories, the node, and the reply
   record IsMovable (n : ℕ) (z : Node) (below : Bool) (place : Option ℕ) : Type 0 where
     source : (T.at m.d).node ≡ Some m.x
@@ -233,7 +233,7 @@ module _ (R : Type 0) (c : Caller) (now : Time) (T : Tree) (tree : HasTree T) (m
               record {
                 stands = found_j ∙ ap Some same;
                 gone = inr (sym may.home ∙ ap (λ (x : Node). x.home.directory) (sym q) ∙ in_e, sym may.named ∙ ap (λ (x : Node). x.home.name) (sym q) ∙ named_j);
-                same = λ x y both. (let e = one (T.at n).node x y both.before both.after in (sym (ap (λ (x : Node). x.body) e), subst (λ (y : Node). with_ctime x.attributes y.attributes.ctime ≡ y.attributes) e refl));
+                same = λ x y both. (let e = one (T.at n).node x y both.before both.after in (sym (ap (λ (x : Node). x.body) e), subst (λ (y : Node). with_ctime x.attributes y.attributes.ctime ≡ without_verifier y.attributes) e refl));
                 others = λ k y far at. (y, at, refl);
                 stay = λ k x far at. inr (x, at);
               },
@@ -278,7 +278,7 @@ module _ (R : Type 0) (c : Caller) (now : Time) (T : Tree) (tree : HasTree T) (m
       let all = movable (allowed-is z may) in
       right_search R c now T (IsTrueRenamed T m.d name m.e m.name) m.e m.name _ _ (new-right n z below place all) (λ j v found at home named. over-right n z below place all j v found at home named))
 
-pub rename-right : (R : Type 0) (c : Caller) (now : Time) (T : Tree) (h : Handle) (name : List ℕ) (k : Handle) (new_name : List ℕ) (below : Bool) (place : Option ℕ) → HasTree T → MayTakePlace T k.number place → TellsBelow T h.number name k.number below
+pub rename-right : (R : Known) (c : Caller) (now : Time) (T : Tree) (h : Handle) (name : List ℕ) (k : Handle) (new_name : List ℕ) (below : Bool) (place : Option ℕ) → HasTree T → MayTakePlace T k.number place → TellsBelow T h.number name k.number below
     → IsRight R c now T (IsTrueRenamed T h.number name k.number new_name) (rename_case c below place name new_name now T (target T h) (target T k))
 rename-right R c now T h name k new_name below place tree take tells =
     right_target R c now T G h _ (λ x1 is1. right_target R c now T G k _ (λ y1 at1.

@@ -17,18 +17,17 @@ use Rattle.journal_tree.specs.Rule.{HasTree}
 use Rattle.journal_tree.specs.Calls.{Outcome, refused, target, on_node, allowed, node_or_gone}
 use Rattle.journal_tree.specs.Changes.{touched, opened, touch_place, planted, cut}
 use Rattle.journal_tree.specs.Contents.{read_body, write_body}
-use Rattle.journal_tree.specs.Fit.{IsCallable, IsCaller}
 use Rattle.journal_tree.specs.Runs.{IsOneNode, HasSameNames}
 use Rattle.journal_tree.specs.Laws.{IsRightful, IsRightfulMove, IsRightfulEnd, CallsKeepRights, OwnersReadAndWrite}
 use Rattle.journal_tree.proofs.Changing.{slot_cases, map_cases, one}
-use Rattle.journal_tree.proofs.Steps.{Step}
+use Rattle.journal_tree.proofs.Steps.{Known, known, Step}
 use Rattle.journal_tree.proofs.Steps.Step.{stays, sets, plants, cuts, moves}
 use Rattle.journal_tree.proofs.Moving.{moved-gone}
 use Rattle.journal_tree.proofs.Keeping.{op-done}
 use Rattle.journal_tree.proofs.Fates.{Fate, fate}
 use Rattle.journal_tree.proofs.Fates.Fate.{same, set, names, hung}
 
-module _ (R : Type 0) (c : Caller) (now : Time) (T : Tree) (tree : HasTree T) (other : is_root c ≡ false) where
+module _ (R : Known) (c : Caller) (now : Time) (T : Tree) (tree : HasTree T) (other : is_root c ≡ false) where
   rightful : (T2 : Tree) (n : ℕ) (x y : Node) → IsOneNode T T2 n x y → Step R c now T T2 → Fate R c now T T2 n x y → IsRightful c x y
   rightful T2 n x y it step (same e s) = record { owner = ap (λ (x : Node). x.attributes.owner) (sym e); group = inl (ap (λ (x : Node). x.attributes.group) (sym e)); bytes = inl (ap (λ (x : Node). x.body) (sym e)) }
   rightful T2 n x y it step (set change s) = change.rights other
@@ -96,10 +95,10 @@ calls-keep-rights call c now T T2 reply tree other op = record {
   names = λ n x y it. rightful-names R c now T tree other T2 n x y (fate R c now T tree T2 step n x y it);
 }
   where
-    R : Type 0
-    R = IsCallable call × IsCaller c
+    R : Known
+    R = known call c
 
-    step : Step (IsCallable call × IsCaller c) c now T T2
+    step : Step (known call c) c now T T2
     step = (op-done call c now T T2 reply tree op).step
 
 -- ── who is never refused for the mode ──

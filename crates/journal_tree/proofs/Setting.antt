@@ -18,7 +18,7 @@ use Rattle.journal_tree.specs.Contents.{overlaid, written}
 use Rattle.journal_tree.specs.Names.{size_alone}
 use Rattle.journal_tree.specs.Fit.{IsFitBody, IsAsked}
 use Rattle.journal_tree.specs.Laws.{IsRightful}
-use Rattle.journal_tree.proofs.Steps.{IsChange}
+use Rattle.journal_tree.proofs.Steps.{Known, IsChange}
 use Rattle.journal_tree.proofs.Bounds.{change-fits, mtime-fits, asked-low, choice-low, written-low, or-word, resized-fits, length-overlaid}
 
 -- what is asked where nothing of the owner's is asked
@@ -96,12 +96,13 @@ settings-rightful c s x now may may_bytes other = by (owns c s x.attributes othe
       bytes = bytes;
     }
 
-pub settings-change : (R : Type 0) (c : Caller) (now : Time) (s : Settings) (x : Node) → (R → IsAsked s) → is_no_time s.mtime ≡ false → is_too_big s.size ≡ false
+pub settings-change : (R : Known) (c : Caller) (now : Time) (s : Settings) (x : Node) → (R.bounds → IsAsked s) → is_no_time s.mtime ≡ false → is_too_big s.size ≡ false
     → may_set c s x.attributes ≡ true → may_set_bytes c s x.attributes ≡ true → IsChange R c now x (with_settings c s x now)
 settings-change R c now s x asked shown few may may_bytes = record {
   home = refl;
   places = same_places x.body s.size;
   ctime = refl;
+  verifier = refl;
   fit = λ r moment fit. (
       let time = change-fits x.attributes.ctime now fit.ctime moment in
       record {
@@ -113,12 +114,13 @@ settings-change R c now s x asked shown few may may_bytes = record {
         group = or-word s.group x.attributes.group (asked r).group fit.group;
         mtime = mtime-fits (is_some s.size) s.mtime (time_of_change x.attributes.ctime now) x.attributes.mtime shown (asked r).mtime time fit.mtime;
         ctime = time;
+        verifier = tt;
       });
   rights = settings-rightful c s x now may may_bytes;
 }
 
 -- a size alone
-pub size-change : (R : Type 0) (c : Caller) (now : Time) (size : Option ℕ) (x : Node) → is_too_big size ≡ false → may_store c x.attributes ≡ true → IsChange R c now x (with_settings c (size_alone size) x now)
+pub size-change : (R : Known) (c : Caller) (now : Time) (size : Option ℕ) (x : Node) → is_too_big size ≡ false → may_store c x.attributes ≡ true → IsChange R c now x (with_settings c (size_alone size) x now)
 size-change R c now size x few may = settings-change R c now (size_alone size) x (λ r. record { owner = tt; group = tt; mtime = tt }) refl few asks stored
   where
     asks : may_set c (size_alone size) x.attributes ≡ true
@@ -135,12 +137,13 @@ size-change R c now size x few may = settings-change R c now (size_alone size) x
         by true = refl
         by false = may
 
-pub write-change : (R : Type 0) (c : Caller) (now : Time) (x : Node) (bytes : List ℕ) (offset : ℕ) (bs : List ℕ) → x.body ≡ file bytes → offset + length bs ≤ MOST_BYTES → may_store c x.attributes ≡ true
+pub write-change : (R : Known) (c : Caller) (now : Time) (x : Node) (bytes : List ℕ) (offset : ℕ) (bs : List ℕ) → x.body ≡ file bytes → offset + length bs ≤ MOST_BYTES → may_store c x.attributes ≡ true
     → IsChange R c now x (written c x (overlaid bytes offset bs) now)
 write-change R c now x bytes offset bs body few may = record {
   home = refl;
   places = sym (ap places_of body);
   ctime = refl;
+  verifier = refl;
   fit = λ r moment fit. (
       let time = change-fits x.attributes.ctime now fit.ctime moment in
       record {
@@ -152,6 +155,7 @@ write-change R c now x bytes offset bs body few may = record {
         group = fit.group;
         mtime = time;
         ctime = time;
+        verifier = tt;
       });
   rights = λ other. record { owner = refl; group = inl refl; bytes = inr (inl may) };
 }

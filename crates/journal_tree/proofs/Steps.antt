@@ -19,29 +19,39 @@ use Rattle.journal_tree.specs.declared.name.NameKind.TheVariants.{Dot, DotDot, N
 use Rattle.journal_tree.specs.Changes.{touch_place, planted, cut}
 use Rattle.journal_tree.specs.Rule.{stems, IsBelow, HasTree}
 use Rattle.journal_tree.specs.Renames.{Move, moved}
-use Rattle.journal_tree.specs.Op.{IsRoom}
-use Rattle.journal_tree.specs.Fit.{IsFit, HasFit}
-use Rattle.journal_tree.specs.Laws.{IsRightful}
+use Rattle.journal_tree.specs.Op.{Call, IsRoom}
+use Rattle.journal_tree.specs.Fit.{IsFit, HasFit, IsCallable, IsCaller}
+use Rattle.journal_tree.specs.Laws.{IsRightful, verifier_of}
 use Rattle.journal_tree.proofs.Finding.{find-some}
 use Rattle.journal_tree.proofs.Changing.{IsFreeHome}
 
--- What becomes of a node that changes where it hangs. R is what the bytes of the call can say
-pub record IsChange (R : Type 0) (c : Caller) (now : Time) (x y : Node) : Type 0 where
+-- Facts of a call: the bounds of its arguments, and the verifier of the node that it makes
+pub record Known : Type 1 where
+  pub bounds : Type 0
+  pub verifier : Option ℕ
+
+abbrev pub known : Call → Caller → Known
+known call c = record { bounds = IsCallable call × IsCaller c; verifier = verifier_of call }
+
+-- The change of a node that changes where it hangs, by a call of which R is known
+pub record IsChange (R : Known) (c : Caller) (now : Time) (x y : Node) : Type 0 where
   pub home : y.home ≡ x.home
   pub places : places_of y.body ≡ places_of x.body
   pub ctime : y.attributes.ctime ≡ time_of_change x.attributes.ctime now
-  pub fit : R → IsTime now → IsFit x → IsFit y
+  pub verifier : y.attributes.verifier ≡ None
+  pub fit : R.bounds → IsTime now → IsFit x → IsFit y
   pub rights : is_root c ≡ false → IsRightful c x y
 
 -- A new node of a directory
-pub record IsPlanted (R : Type 0) (c : Caller) (now : Time) (T : Tree) (d : ℕ) (x : Node) (given : Room) (y : Node) : Type 0 where
+pub record IsPlanted (R : Known) (c : Caller) (now : Time) (T : Tree) (d : ℕ) (x : Node) (given : Room) (y : Node) : Type 0 where
   pub is : (T.at d).node ≡ Some x
   pub kind : is_directory x.body ≡ true
   pub room : IsRoom T d given
   pub free : find T d y.home.name ≡ None
   pub directory : y.home.directory ≡ d
   pub place : y.home.place ≡ given.place
-  pub fit : R → IsTime now → IsFit x → IsFit y
+  pub verifier : y.attributes.verifier ≡ R.verifier
+  pub fit : R.bounds → IsTime now → IsFit x → IsFit y
   pub rights : may_rename c x.attributes ≡ true
 
 -- A node of a directory that goes
@@ -88,7 +98,7 @@ pub record IsMoved (c : Caller) (T : Tree) (m : Move) (n : ℕ) (z : Node) (plac
   pub goal_rights : may_rename c m.y.attributes ≡ true
 
 -- The tree after one call
-pub data Step (R : Type 0) (c : Caller) (now : Time) (T : Tree) : Tree → Type 0 where
+pub data Step (R : Known) (c : Caller) (now : Time) (T : Tree) : Tree → Type 0 where
   stays : Step R c now T T
   sets : (n : ℕ) (x y : Node) → (T.at n).node ≡ Some x → IsChange R c now x y → Step R c now T (with_node T n (Some y))
   plants : (d : ℕ) (x : Node) (room : Room) (y : Node) → IsPlanted R c now T d x room y → Step R c now T (planted (touch_place T d y.home.place now) room.number y)
@@ -99,7 +109,7 @@ pub data Step (R : Type 0) (c : Caller) (now : Time) (T : Tree) : Tree → Type 
 pub own_slot : (T : Tree) (n : ℕ) (s : Slot) → (with_slot T n s).at n ≡ s
 own_slot T n s = rw (eq-eqb n n refl) refl
 
-module _ (R : Type 0) (c : Caller) (now : Time) (T : Tree) {A : Type 0} (G : A → Tree → Type 0) where
+module _ (R : Known) (c : Caller) (now : Time) (T : Tree) {A : Type 0} (G : A → Tree → Type 0) where
   -- What is to be shown of each call: it is a step, G holds of its answer, and a refusal changes
   -- nothing
   pub record IsRight (o : Outcome A) : Type 0 where

@@ -78,6 +78,7 @@ set_attributes c s kind a now = record {
   group = unwrap_or s.group a.group;
   mtime = new_mtime (is_some s.size) s.mtime (time_of_change a.ctime now) a.mtime;
   ctime = time_of_change a.ctime now;
+  verifier = None;
 }
 
 abbrev pub with_settings : Caller → Settings → Node → Time → Node

@@ -9,7 +9,7 @@ use Rattle.journal_tree.specs.Times.{time_of_names}
 
 -- both times are this one
 abbrev pub with_times : Attributes → Time → Attributes
-with_times a t = record { mode = a.mode; owner = a.owner; group = a.group; mtime = t; ctime = t }
+with_times a t = record { mode = a.mode; owner = a.owner; group = a.group; mtime = t; ctime = t; verifier = None }
 
 -- a directory whose names change at this moment
 abbrev pub touched : Time → Node → Node

@@ -1,5 +1,5 @@
 -- READ, WRITE and COMMIT: of each the cases in their order, the first that holds is answered.
-use Rattle.std.specs.Prelude.{ℕ, ◌+◌, max, min, Bool, not, ◌==◌, nat_le, nat_lt, if◌then◌else◌, List, ◌++◌, length, take, drop, replicate, slice_range, Ok}
+use Rattle.std.specs.Prelude.{ℕ, ◌+◌, max, min, Bool, not, ◌==◌, nat_le, nat_lt, if◌then◌else◌, List, ◌++◌, length, take, drop, replicate, slice_range, None, Ok}
 use Rattle.journal_tree.specs.declared.limits.TheConstants.{MOST_BYTES, TRANSFER_BYTES}
 use Rattle.journal_tree.specs.declared.time.Time.{Time}
 use Rattle.journal_tree.specs.declared.reply.Attributes.{Attributes}
@@ -49,6 +49,7 @@ written_attributes c a now = record {
   group = a.group;
   mtime = time_of_change a.ctime now;
   ctime = time_of_change a.ctime now;
+  verifier = None;
 }
 
 abbrev pub written : Caller → Node → List ℕ → Time → Node

@@ -19,6 +19,18 @@ use Rattle.journal_tree.specs.Op.Call.{setattr, create, mkdir, symlink}
 abbrev pub IsWord : ℕ → Type 0
 IsWord n = n < 4294967296
 
+abbrev pub IsOptionalWord : Option ℕ → Type 0
+IsOptionalWord None = Unit {0}
+IsOptionalWord (Some n) = IsWord n
+
+-- and one of 64 bits, if there is one
+abbrev pub IsLong : ℕ → Type 0
+IsLong n = n < 18446744073709551616
+
+abbrev pub IsOptionalLong : Option ℕ → Type 0
+IsOptionalLong None = Unit {0}
+IsOptionalLong (Some n) = IsLong n
+
 -- a file and a link are not too long, and a directory has whole blocks
 abbrev pub IsFitBody : Body → Type 0
 IsFitBody (directory places) = (places ≤ MOST_PLACES) × ((blocks : ℕ) × (places ≡ BLOCK_PLACES * blocks))
@@ -39,6 +51,7 @@ pub record IsFit (x : Node) : Type 0 where
   pub group : IsWord x.attributes.group
   pub mtime : IsTime x.attributes.mtime
   pub ctime : IsTime x.attributes.ctime
+  pub verifier : IsOptionalLong x.attributes.verifier
 
 -- So is each node of the tree, and each generation
 pub record HasFit (T : Tree) : Type 0 where
@@ -47,10 +60,6 @@ pub record HasFit (T : Tree) : Type 0 where
   pub young : (n : ℕ) → (T.at n).generation ≤ LAST_GENERATION
 
 -- ── what the bytes of a call can say ──
-
-abbrev pub IsOptionalWord : Option ℕ → Type 0
-IsOptionalWord None = Unit {0}
-IsOptionalWord (Some n) = IsWord n
 
 abbrev pub IsAskedTime : NewTime → Type 0
 IsAskedTime (Client t) = t.secs < 4294967296
@@ -66,7 +75,7 @@ pub record IsAsked (s : Settings) : Type 0 where
 abbrev pub IsAskedMode : CreateMode → Type 0
 IsAskedMode (Unchecked s) = IsAsked s
 IsAskedMode (Guarded s) = IsAsked s
-IsAskedMode Exclusive = Unit {0}
+IsAskedMode (Exclusive verifier) = IsLong verifier
 
 -- So has a call
 abbrev pub IsCallable : Call → Type 0

@@ -1,8 +1,11 @@
 -- What holds of all calls.
-use Rattle.std.specs.Prelude.{⊤, Bool, true, false, ◌⊎◌, None, ℕ, ◌≡◌, ◌≢◌, ◌<◌, List, Some, Ok, Err}
+use Rattle.std.specs.Prelude.{⊤, Bool, true, false, ◌⊎◌, Option, None, ℕ, ◌≡◌, ◌≢◌, ◌<◌, List, Some, Result, Ok, Err}
 use Rattle.journal_tree.specs.declared.limits.TheConstants.{ROOT}
 use Rattle.journal_tree.specs.declared.time.Time.{Time}
-use Rattle.journal_tree.specs.declared.status.Status.TheVariants.{NoAccess}
+use Rattle.journal_tree.specs.declared.status.Status.{Status}
+use Rattle.journal_tree.specs.declared.status.Status.TheVariants.{NoAccess, Exists}
+use Rattle.journal_tree.specs.declared.settings.CreateMode.TheVariants.{Exclusive}
+use Rattle.journal_tree.specs.declared.reply.Kind.TheVariants.{File}
 use Rattle.journal_tree.specs.declared.reply.Handle.{Handle}
 use Rattle.journal_tree.specs.declared.reply.Told.{Told}
 use Rattle.journal_tree.specs.declared.reply.Changed.{Changed}
@@ -20,7 +23,7 @@ use Rattle.journal_tree.specs.Fit.{HasFit, IsCaller, IsCallable}
 use Rattle.journal_tree.specs.Calls.{target, told}
 use Rattle.journal_tree.specs.Contents.{read_case, write_case}
 use Rattle.journal_tree.specs.Listing.{IsPage, last_cookie, readdir_case, readdirplus_case, Item, Page, Listed, ListedPlus, Stands, IsIn, Ascends, Step, IsChain, all_told, EachStep, SomeStep}
-use Rattle.journal_tree.specs.Renames.{with_ctime}
+use Rattle.journal_tree.specs.Renames.{with_ctime, without_verifier}
 use Rattle.journal_tree.specs.Op.Call.{setattr, lookup, write, create, mkdir, symlink, remove, rmdir, rename}
 use Rattle.journal_tree.specs.Op.Reply.{set, found, wrote, made, removed, renamed}
 use Rattle.journal_tree.specs.Op.{Call, Reply, Op, is_refusal}
@@ -97,12 +100,12 @@ TellsPagesPlus = (T T2 : Tree) (h : Handle) (c : Caller) (cookie names most : �
 -- ── RENAME ──
 
 -- A RENAME is whole: the node stands under the new name and not under the old one, and is the same
--- but for its ctime; all others hang where they did, and none is lost but what stood under the new
--- name
+-- but for its ctime and its verifier; all others hang where they did, and none is lost but what
+-- stood under the new name
 pub record IsRenamed (T T2 : Tree) (d : ℕ) (name : List ℕ) (e : ℕ) (new_name : List ℕ) (n : ℕ) : Type 0 where
   pub stands : find T2 e new_name ≡ Some n
   pub gone : (find T2 d name ≡ None) ⊎ ((d ≡ e) × (name ≡ new_name))
-  pub same : (x y : Node) → IsOneNode T T2 n x y → (y.body ≡ x.body) × (with_ctime x.attributes y.attributes.ctime ≡ y.attributes)
+  pub same : (x y : Node) → IsOneNode T T2 n x y → (y.body ≡ x.body) × (with_ctime x.attributes y.attributes.ctime ≡ without_verifier y.attributes)
   pub others : (i : ℕ) (y : Node) → i ≢ n → (T2.at i).node ≡ Some y → (x : Node) × ((T.at i).node ≡ Some x) × (x.home ≡ y.home)
   pub stay : (i : ℕ) (x : Node) → i ≢ n → (T.at i).node ≡ Some x → (find T e new_name ≡ Some i) ⊎ ((y : Node) × ((T2.at i).node ≡ Some y))
 
@@ -156,6 +159,49 @@ TellsTruly _ _ T T2 = ⊤
 
 abbrev pub RepliesAreTrue : Type 0
 RepliesAreTrue = (call : Call) (c : Caller) (now : Time) (T T2 : Tree) (reply : Reply) → HasTree T → Op call c now T reply T2 → TellsTruly call reply T T2
+
+-- ── exclusive creation ──
+
+-- An exclusive CREATE that is answered OK has a file of its verifier, which has the name: one that
+-- is there already, and nothing changes, or a new one
+pub record IsExclusive (T T2 : Tree) (d : ℕ) (name : List ℕ) (verifier : ℕ) (m : Made) : Type 0 where
+  pub kind : m.node.kind ≡ File
+  pub verifier_is : m.node.attributes.verifier ≡ Some verifier
+  pub found : find T2 d name ≡ Some m.node.number
+  pub once : (T2 ≡ T) ⊎ (find T d name ≡ None)
+
+abbrev pub ExclusiveMakes : Type 0
+ExclusiveMakes = (h : Handle) (name : List ℕ) (verifier : ℕ) (c : Caller) (now : Time) (T T2 : Tree) (m : Made) → HasTree T
+    → Op (create h name (Exclusive verifier)) c now T (made (Ok m)) T2 → IsExclusive T T2 h.number name verifier m
+
+-- the answer to the same call that comes once more: the same node, and its directory as it is since
+abbrev pub told_again : Made → Made
+told_again m = record { generation = m.generation; node = m.node; directory = record { before = m.directory.after; after = m.directory.after } }
+
+-- It gets that answer, and changes nothing
+abbrev pub ExclusiveAgain : Type 0
+ExclusiveAgain = (h : Handle) (name : List ℕ) (verifier : ℕ) (c : Caller) (now later : Time) (T T2 T3 : Tree) (m : Made) (r : Result Made Status) → HasTree T
+    → Op (create h name (Exclusive verifier)) c now T (made (Ok m)) T2 → Op (create h name (Exclusive verifier)) c later T2 (made r) T3 → (r ≡ Ok (told_again m)) × (T3 ≡ T2)
+
+-- One of another verifier is refused, because the name is there
+abbrev pub ExclusiveOther : Type 0
+ExclusiveOther = (h : Handle) (name : List ℕ) (verifier other : ℕ) (c : Caller) (now later : Time) (T T2 T3 : Tree) (m : Made) (r : Result Made Status) → HasTree T → other ≢ verifier
+    → Op (create h name (Exclusive verifier)) c now T (made (Ok m)) T2 → Op (create h name (Exclusive other)) c later T2 (made r) T3 → (r ≡ Err Exists) × (T3 ≡ T2)
+
+-- the verifier that a call gives to what it makes
+abbrev pub verifier_of : Call → Option ℕ
+verifier_of (create h name (Exclusive verifier)) = Some verifier
+verifier_of _ = None
+
+-- A node that a call makes has the verifier of the call, if it is an exclusive CREATE, and else
+-- none
+abbrev pub CallsGiveVerifiers : Type 0
+CallsGiveVerifiers = (call : Call) (c : Caller) (now : Time) (T T2 : Tree) (reply : Reply) (n : ℕ) (y : Node) → HasTree T → Op call c now T reply T2
+    → (T.at n).node ≡ None → (T2.at n).node ≡ Some y → y.attributes.verifier ≡ verifier_of call
+
+-- Over any calls: a node is as it was, or it has no verifier
+abbrev pub ChangesTakeVerifiers : Type 0
+ChangesTakeVerifiers = (T T2 : Tree) (n : ℕ) (x y : Node) → HasTree T → HasFit T → Run T T2 → IsOneNode T T2 n x y → (x ≡ y) ⊎ (y.attributes.verifier ≡ None)
 
 -- ── times ──
 

@@ -75,7 +75,12 @@ new_attributes c s d kind mode now = record {
   group = new_group c s d;
   mtime = new_mtime false s.mtime now now;
   ctime = now;
+  verifier = None;
 }
+
+-- a file that an exclusive CREATE makes has no rights yet, and the verifier of the call
+abbrev pub exclusive_attributes : Caller → ℕ → Attributes → Time → Attributes
+exclusive_attributes c verifier d now = record { mode = 0; owner = c.user; group = group_within c d; mtime = now; ctime = now; verifier = Some verifier }
 
 abbrev pub new_node : ℕ → Room → List ℕ → Attributes → Body → Node
 new_node d room name a body = record { attributes = a; home = record { directory = d; place = room.place; name = name }; body = body }
@@ -116,11 +121,27 @@ create_new c name s room now T d x =
     else if is_too_big s.size then refused TooBig T
     else born T d x name room (new_attributes c s x.attributes File FILE_MODE now) (file (resized [] s.size)) now)
 
+-- by an exclusive CREATE: an empty file, of which SETATTR sets what is asked for
+abbrev pub create_exclusive : Caller → List ℕ → ℕ → Option Room → Time → Tree → ℕ → Node → Outcome Made
+create_exclusive c name verifier room now T d x =
+    allowed T (may_rename c x.attributes) (born T d x name room (exclusive_attributes c verifier x.attributes now) (file []) now)
+
+-- whether it is a file that an exclusive CREATE of this verifier made, and is as it was made
+abbrev pub is_verifier : Option ℕ → ℕ → Bool
+is_verifier None verifier = false
+is_verifier (Some v) verifier = v == verifier
+
+abbrev pub is_made_by : ℕ → Node → Bool
+is_made_by verifier y = is_file y.body && is_verifier y.attributes.verifier verifier
+
+-- the name is there already: the answer has the file that the same call has made
+abbrev pub create_again : ℕ → Tree → ℕ → Node → ℕ → Node → Outcome Made
+create_again verifier T d x n y = if is_made_by verifier y then made_before T d x n y else refused Exists T
+
 abbrev pub create_case : Caller → List ℕ → CreateMode → Option Room → Time → Tree → Target → Outcome Made
 create_case c name (Unchecked s) room now T t = named c name Exists Exists T t (create_new c name s room now T) (create_over c s now T)
 create_case c name (Guarded s) room now T t = named c name Exists Exists T t (create_new c name s room now T) (λ d x n y. refused Exists T)
-create_case c name Exclusive room now T t =
-    named c name Exists Exists T t (λ d x. allowed T (may_rename c x.attributes) (refused NotSupported T)) (λ d x n y. refused Exists T)
+create_case c name (Exclusive verifier) room now T t = named c name Exists Exists T t (create_exclusive c name verifier room now T) (create_again verifier T)
 
 abbrev pub mkdir_new : Caller → List ℕ → Settings → Option Room → Time → Tree → ℕ → Node → Outcome Made
 mkdir_new c name s room now T d x =
@@ -179,7 +200,8 @@ text_of T n x (link text) = (Ok (record { node = told n x; text = text }), T)
 abbrev pub readlink_case : Tree → Target → Outcome LinkText
 readlink_case T t = on_node T t (λ n x. text_of T n x x.body)
 
--- ── calls that the tree does not have: their checks, and then NOTSUPP. They are never answered OK ──
+-- ── calls that the tree does not have: their checks, and then NOTSUPP. They are never answered OK
+-- ──
 
 -- MKNOD
 abbrev pub make_other_case : Caller → List ℕ → Tree → Target → Outcome ⊥

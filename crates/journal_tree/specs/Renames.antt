@@ -23,8 +23,12 @@ pub record Move : Type 0 where
 
 -- ── the tree after it ──
 
+-- with another ctime it is not as it was made
 abbrev pub with_ctime : Attributes → Time → Attributes
-with_ctime a t = record { mode = a.mode; owner = a.owner; group = a.group; mtime = a.mtime; ctime = t }
+with_ctime a t = record { mode = a.mode; owner = a.owner; group = a.group; mtime = a.mtime; ctime = t; verifier = None }
+
+abbrev pub without_verifier : Attributes → Attributes
+without_verifier a = with_ctime a a.ctime
 
 -- a node with another home since this moment
 abbrev pub rehung : Home → Time → Node → Node

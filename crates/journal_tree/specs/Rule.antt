@@ -51,7 +51,7 @@ HasTree T = IsTree T.numbers (stems T)
 
 -- an empty root, made at this moment, which is root's own
 abbrev pub first_root : Time → Node
-first_root now = record { attributes = record { mode = DIRECTORY_MODE; owner = 0; group = 0; mtime = now; ctime = now }; home = root_home; body = directory 0 }
+first_root now = record { attributes = record { mode = DIRECTORY_MODE; owner = 0; group = 0; mtime = now; ctime = now; verifier = None }; home = root_home; body = directory 0 }
 
 -- the tree that has an empty root alone
 abbrev pub first_tree : ℕ → ℕ → Time → Tree

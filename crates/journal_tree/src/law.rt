@@ -1,5 +1,6 @@
 // What holds of the definitions, for all trees, callers and moments.
 ghost use Rattle.journal_tree.specs.Laws.{KeepsTrees, KeepsFit, BeginsAsTree, BeginsFit, NamesOnce, LinksAreTrees, ListsAll, ListsPlaces, TellsPages, TellsPagesPlus, RenamesWhole, RefusalsChangeNothing, RepliesAreTrue, ChangesMoveCtime, NamesMoveCtime, NamesMoveMtime, CallsKeepRights, OwnersReadAndWrite};
+ghost use Rattle.journal_tree.specs.Laws.{ExclusiveMakes, ExclusiveAgain, ExclusiveOther, CallsGiveVerifiers, ChangesTakeVerifiers};
 ghost use Rattle.journal_tree.specs.Walks.{WalkDecides, NoWalkNeeded};
 
 /// Each call leaves a tree: each node but the root hangs in one directory, no two of a directory
@@ -48,8 +49,8 @@ pub fn listings_are_pages()
 {}
 
 /// A RENAME that is answered OK is whole: the node stands under the new name and no longer under
-/// the old one, and is the same but for its ctime; all others hang where they did, and none is lost
-/// but what stood under the new name.
+/// the old one, and is the same but for its ctime and its verifier; all others hang where they did,
+/// and none is lost but what stood under the new name.
 pub fn renames_are_whole()
     ensures { RenamesWhole }
 {}
@@ -71,10 +72,31 @@ pub fn refusals_change_nothing()
     ensures { RefusalsChangeNothing }
 {}
 
-/// What the replies of SETATTR, WRITE, LOOKUP, CREATE, MKDIR, SYMLINK, REMOVE, RMDIR and RENAME tell
-/// of a node before and after the call is so in the tree before and after it.
+/// What the replies of SETATTR, WRITE, LOOKUP, CREATE, MKDIR, SYMLINK, REMOVE, RMDIR and RENAME
+/// tell of a node before and after the call is so in the tree before and after it.
 pub fn replies_are_true()
     ensures { RepliesAreTrue }
+{}
+
+/// An exclusive CREATE that is answers with a file of its verifier under its name: one that is
+/// there already, and nothing changes, or a new one.
+pub fn exclusive_calls_make_one()
+    ensures { ExclusiveMakes }
+{}
+
+/// The same exclusive CREATE that comes once more is answered OK with the same node, and
+/// changes nothing. One of another verifier is refused, because the name is there.
+pub fn exclusive_calls_come_again()
+    ensures same { ExclusiveAgain }
+    ensures other { ExclusiveOther }
+{}
+
+/// A node that a call makes has a verifier if the call is an exclusive CREATE, and then the one of
+/// the call. Over any calls, a node is as it was, or it has none: nothing that was changed is taken
+/// for what an exclusive CREATE has made.
+pub fn verifiers_are_of_creations()
+    ensures new { CallsGiveVerifiers }
+    ensures changes { ChangesTakeVerifiers }
 {}
 
 /// Over any calls, also where the clock stands or goes back and a client sets mtime: a node of one

@@ -9,11 +9,14 @@ pub const MOST_NAME: usize = 255;
 /// The bytes of a block.
 pub const BLOCK_BYTES: u64 = 4096;
 
-/// The most blocks of a file, and of a directory.
+/// The most blocks of a directory.
 pub const MOST_BLOCKS: u64 = 48;
 
+/// The most blocks of a file: 48, and 1024 for each of 1024 index blocks.
+pub const MOST_FILE_BLOCKS: u64 = 1048624;
+
 /// The most bytes of a file.
-pub const MOST_BYTES: u64 = 196608;
+pub const MOST_BYTES: u64 = 4295163904;
 
 /// The most bytes of the text of a symbolic link.
 pub const MOST_LINK: u64 = 4095;

@@ -1,7 +1,7 @@
 // What replies tell.
 use crate::time::Time;
 
-/// The attributes of a node that calls set.
+/// The attributes of a node.
 #[derive(Clone, Copy, Debug, PartialEq, Eq)]
 pub struct Attributes {
     /// Its mode: set-user-ID, set-group-ID, sticky, and the nine bits of the rights.
@@ -14,6 +14,9 @@ pub struct Attributes {
     pub mtime: Time,
     /// When anything of it last changed. It grows with each change.
     pub ctime: Time,
+    /// The verifier of the exclusive CREATE that made it, as long as nothing of it was changed
+    /// since. No reply has it.
+    pub verifier: Option<u64>,
 }
 
 /// The kinds of node.
@@ -32,7 +35,7 @@ pub struct Handle {
     pub generation: u32,
 }
 
-/// What a reply tells of a node.
+/// A node in a reply.
 #[derive(Clone, Copy, Debug, PartialEq, Eq)]
 pub struct Told {
     pub number: u32,

@@ -6,7 +6,7 @@ ghost use Rattle.journal_tree.specs.Rights.{SET_GROUP_BIT, has_bit, with_bit, wi
 ghost use Rattle.journal_tree.specs.Changes.{with_times};
 ghost use Rattle.journal_tree.specs.Attributes.{new_mtime, plain_mode, group_mode, asked_mode, becomes_plain, set_attributes, asks_nothing, asks_as_owner, is_client_time, is_server_time, keeps_owner, may_give, may_set, may_set_bytes};
 ghost use Rattle.journal_tree.specs.Contents.{written_attributes};
-ghost use Rattle.journal_tree.specs.Names.{group_within, new_group, new_owner, mode_within, new_mode, new_attributes};
+ghost use Rattle.journal_tree.specs.Names.{group_within, new_group, new_owner, mode_within, new_mode, new_attributes, exclusive_attributes, is_verifier};
 
 use crate::caller::{Caller, has_bit};
 use crate::limits::MODES;
@@ -150,6 +150,7 @@ impl Attributes {
             group,
             mtime: new_mtime(settings.size.is_some(), settings.mtime, time, self.mtime),
             ctime: time,
+            verifier: None,
         }
     }
 
@@ -170,6 +171,7 @@ impl Attributes {
             group: self.group,
             mtime: time,
             ctime: time,
+            verifier: None,
         }
     }
 
@@ -192,6 +194,7 @@ impl Attributes {
             group: self.group,
             mtime: time,
             ctime: time,
+            verifier: None,
         }
     }
 
@@ -215,6 +218,33 @@ impl Attributes {
             group,
             mtime: new_mtime(false, settings.mtime, now, now),
             ctime: now,
+            verifier: None,
+        }
+    }
+
+    /// The attributes of a file that an exclusive CREATE of this verifier makes in a directory of
+    /// these attributes: it has no rights yet.
+    pub fn within_exclusive(&self, caller: &Caller, verifier: u64, now: Time) -> Attributes
+        ensures { result ≡ exclusive_attributes caller.now verifier self.now now }
+    {
+        Attributes {
+            mode: 0,
+            owner: caller.user,
+            group: caller.group_within(self),
+            mtime: now,
+            ctime: now,
+            verifier: Some(verifier),
+        }
+    }
+
+    /// True if an exclusive CREATE of this verifier made the node, and nothing of it was changed
+    /// since.
+    pub fn has_verifier(&self, verifier: u64) -> bool
+        ensures { result ≡ is_verifier self.now.verifier verifier }
+    {
+        match self.verifier {
+            None => false,
+            Some(own) => own == verifier,
         }
     }
 

@@ -35,6 +35,7 @@ pub enum CreateMode {
     Unchecked(Settings),
     /// The call is refused.
     Guarded(Settings),
-    /// A verifier decides. It is not supported.
-    Exclusive,
+    /// A file is taken as it is if an exclusive CREATE of this verifier made it and nothing of it
+    /// was changed since. Else the call is refused.
+    Exclusive(u64),
 }

@@ -18,6 +18,7 @@ use Rattle.journal_treestore.specs.Views.Seen.{free, used}
 use Rattle.journal_treestore.specs.Sound.{IsSoundInode, IsSoundView}
 use Rattle.journal_treestore.specs.Steps.{with_moment, Seat, seat_place, IsSeat, Growth, IsGrowth, grown_held, grown_view, IsSameForm, Shows}
 use Rattle.journal_treestore.specs.Moves.{with_put, dropped_view, IsPlaced, rehomed, Goal, goal_place, IsGoal, renamed_view, moved_view, renaming_of}
+use Rattle.journal_treestore.proofs.Indexing.{first-after}
 use Rattle.journal_treestore.proofs.Viewing.{inode-node}
 use Rattle.journal_treestore.proofs.Placed.{at_place}
 use Rattle.journal_treestore.proofs.Renaming.{renaming-shows}
@@ -135,7 +136,7 @@ module _ (V : View) (sound : IsSoundView V) (s : Side) (is : IsSide V s) where
       i = sound.inodes s.number (held s.inode) is.is
 
       by : (4096 * j < s.inode.head.size) ⊎ (s.inode.head.size ≤ 4096 * j) → 512 * j + q < s.inode.head.size / 8
-      by (inr behind) = absurd (there (i.after j behind))
+      by (inr behind) = absurd (there (first-after V s.number (held s.inode) i j behind))
       by (inl inside) = let w = i.whole is.kind in let e = w.1 in omega (arith, e, low, inside)
 
 -- ── each destination ──
@@ -277,6 +278,7 @@ module _ (V : View) (sound : IsSoundView V) (w : Way) (hit : Hit) (name new_name
       kind = w.goal.inode.head.kind;
       size = 4096 * (b.j + 1);
       blocks = λ i. get-set w.goal.inode.head.blocks b.j b.block i (let l = further.few in let n = further.all in omega (arith, l, n)) z;
+      index = w.goal.inode.head.index;
     }
 
     further-is-view : with_move V w hit (Into (Further b)) new_name now ≡ moved_view (grown_view V g) s (further_goal g 0) new_name now

@@ -92,6 +92,7 @@ module _ (V W : View) (h : Handle) (r : Record) (name : List ℕ) (new : NewNode
     kind = new.kind;
     size = new.size;
     blocks = λ j. zeros-get 48 j i;
+    index = 0;
   }
 
   view : W ≡ planted_view V spot name new.attributes new.kind new.size now

@@ -15,7 +15,7 @@ use Rattle.journal_tree.specs.Calls.{Outcome, refused, told, node_or_gone, targe
 use Rattle.journal_tree.specs.Calls.Target.{gone, at}
 use Rattle.journal_tree.proofs.Hanging.{low}
 use Rattle.journal_treecalls.specs.declared.node.Record.{Record}
-use Rattle.journal_treestore.specs.Views.{Held, Seen, View, zero_block, bytes_in, bytes_of, content, body_of, node_of, slot_of, tree_of}
+use Rattle.journal_treestore.specs.Views.{Held, Seen, View, zero_block, block_at, bytes_in, bytes_of, content, body_of, node_of, slot_of, tree_of}
 use Rattle.journal_treestore.specs.Views.Seen.{free, used}
 use Rattle.journal_treestore.specs.Sound.{IsSoundInode, IsSoundView}
 use Rattle.journal_treestore.proofs.Recording.{zero-long}
@@ -48,19 +48,19 @@ target-node V h r n =
 
 -- ── what is told of a node ──
 
-pub length-bytes_of : (V : View) (n : ℕ) (x : Held) → IsSoundInode V n x → (k : ℕ) → length (bytes_of V x.blocks k) ≡ 4096 * k
+pub length-bytes_of : (V : View) (n : ℕ) (x : Held) → IsSoundInode V n x → (k : ℕ) → length (bytes_of V (block_at V x) k) ≡ 4096 * k
 length-bytes_of V n x s zero = refl
 length-bytes_of V n x s (suc k) =
     let rest = length-bytes_of V n x s k in
-    let one = one_long (cases_eq (x.blocks k) 0) in
-    length-append (bytes_of V x.blocks k) (bytes_in V (x.blocks k)) ∙ omega (arith, rest, one)
+    let one = one_long (cases_eq (block_at V x k) 0) in
+    length-append (bytes_of V (block_at V x) k) (bytes_in V (block_at V x k)) ∙ omega (arith, rest, one)
   where
-    one_long : (x.blocks k ≡ 0) ⊎ (x.blocks k ≡ 0 → ⊥) → length (bytes_in V (x.blocks k)) ≡ 4096
-    one_long (inl none) = ap (λ b. length (cond b zero_block (V.block (x.blocks k)))) (eq-eqb (x.blocks k) 0 none) ∙ zero-long
-    one_long (inr some) = ap (λ b. length (cond b zero_block (V.block (x.blocks k)))) (ne_eqb (x.blocks k) 0 some) ∙ s.sized k some
+    one_long : (block_at V x k ≡ 0) ⊎ (block_at V x k ≡ 0 → ⊥) → length (bytes_in V (block_at V x k)) ≡ 4096
+    one_long (inl none) = ap (λ b. length (cond b zero_block (V.block (block_at V x k)))) (eq-eqb (block_at V x k) 0 none) ∙ zero-long
+    one_long (inr some) = ap (λ b. length (cond b zero_block (V.block (block_at V x k)))) (ne_eqb (block_at V x k) 0 some) ∙ s.sized k some
 
 pub length-content : (V : View) (n : ℕ) (x : Held) → IsSoundInode V n x → length (content V x) ≡ x.size
-length-content V n x s = length-take-le x.size (bytes_of V x.blocks ((x.size + 4095) / 4096)) (let l = length-bytes_of V n x s ((x.size + 4095) / 4096) in omega (arith, l))
+length-content V n x s = length-take-le x.size (bytes_of V (block_at V x) ((x.size + 4095) / 4096)) (let l = length-bytes_of V n x s ((x.size + 4095) / 4096) in omega (arith, l))
 
 pub told-is : (V : View) (n : ℕ) (x : Held) → IsSoundInode V n x → told n (node_of V x) ≡ record { number = n; kind = x.kind; size = x.size; attributes = x.attributes }
 told-is V n x s = by x.kind refl

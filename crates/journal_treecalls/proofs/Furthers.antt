@@ -191,6 +191,7 @@ module _ (V W : View) (h : Handle) (r : Record) (name : List ℕ) (new : NewNode
     kind = new.kind;
     size = new.size;
     blocks = λ i. zeros-get 48 i z;
+    index = 0;
   }
 
   directory-is : held_of (moved (with_further r.head b.j b.block) now) (name_from r.bytes) ≡ with_moment (grown_held g) now
@@ -201,6 +202,7 @@ module _ (V W : View) (h : Handle) (r : Record) (name : List ℕ) (new : NewNode
     kind = r.head.kind;
     size = 4096 * (b.j + 1);
     blocks = λ i. get-set r.head.blocks b.j b.block i (let l = further.few in let n = further.all in omega (arith, l, n)) z;
+    index = r.head.index;
   }
 
   abbrev entry : Entry

@@ -7,7 +7,7 @@ use Rattle.journal_treestore.specs.declared.inode.Head.{Head}
 use Rattle.journal_treestore.specs.Bytes.{with_piece}
 use Rattle.journal_treestore.specs.Views.{View}
 use Rattle.journal_treecalls.specs.Disks.{Learns}
-use Rattle.journal_treecalls.specs.Fetches.{is_whole, IsFetched}
+use Rattle.journal_treecalls.specs.Fetches.{is_whole, file_blocks, IsFetched}
 use Rattle.journal_treecalls.specs.Sizes.{cleared}
 use Rattle.journal_treecalls.specs.Overlays.{begin_of, image_bytes, IsBeside, IsImage}
 use Rattle.journal_treecalls.proofs.Learning.{learns-as}
@@ -30,8 +30,8 @@ module _ (v : List ℕ) (from : ℕ) (fits : from ≤ length v) where
 
 -- ── the image ──
 
-module _ (V : View) (h : Head) (offset : ℕ) (bs fetched image : List ℕ) (some : 0 < length bs) (fits : offset + length bs ≤ 196608) (long : length fetched ≡ image_bytes offset (offset + length bs))
-    (f : IsFetched V h.blocks (record { from = offset; to = offset + length bs }) (begin_of offset) 48 fetched)
+module _ (V : View) (h : Head) (offset : ℕ) (bs fetched image : List ℕ) (some : 0 < length bs) (fits : offset + length bs ≤ 4295163904) (long : length fetched ≡ image_bytes offset (offset + length bs))
+    (f : IsFetched V (file_blocks V h) (record { from = offset; to = offset + length bs }) (begin_of offset) 1048624 fetched)
     (is : image ≡ with_piece (cleared fetched (min (h.size - begin_of offset) (length fetched))) (offset - begin_of offset) bs) where
   abbrev kept : ℕ
   kept = min (h.size - begin_of offset) (length fetched)
@@ -87,8 +87,8 @@ module _ (V : View) (h : Head) (offset : ℕ) (bs fetched image : List ℕ) (som
         ∙ clear-back fetched kept (omega arith) k (omega (arith, past)) (low k l);
   }
 
-pub image-learns : (first last : View → Type 0) (h : Head) (offset begin : ℕ) (bs zeros fetched kept image : List ℕ) → 0 < length bs → offset + length bs ≤ 196608 → length zeros ≡ image_bytes offset (offset + length bs) → length fetched ≡ length zeros
-    → Learns first last (λ V. IsFetched V h.blocks (record { from = offset; to = offset + length bs }) begin 48 fetched) → begin ≡ begin_of offset
+pub image-learns : (first last : View → Type 0) (h : Head) (offset begin : ℕ) (bs zeros fetched kept image : List ℕ) → 0 < length bs → offset + length bs ≤ 4295163904 → length zeros ≡ image_bytes offset (offset + length bs) → length fetched ≡ length zeros
+    → Learns first last (λ V. IsFetched V (file_blocks V h) (record { from = offset; to = offset + length bs }) begin 1048624 fetched) → begin ≡ begin_of offset
     → image ≡ with_piece (cleared kept (min (h.size - begin_of offset) (length kept))) (offset - begin_of offset) bs → kept ≡ fetched → Learns first last (λ V. IsImage V h offset bs image)
 image-learns first last h offset begin bs zeros fetched kept image some fits zeros_long same l begin_is is kept_is = learns-as first last _ _ l (λ V m f.
-    image-is V h offset bs fetched image some fits (same ∙ zeros_long) (subst (λ b. IsFetched V h.blocks (record { from = offset; to = offset + length bs }) b 48 fetched) begin_is f) (is ∙ ap (λ (v : List ℕ). with_piece (cleared v (min (h.size - begin_of offset) (length v))) (offset - begin_of offset) bs) kept_is))
+    image-is V h offset bs fetched image some fits (same ∙ zeros_long) (subst (λ b. IsFetched V (file_blocks V h) (record { from = offset; to = offset + length bs }) b 1048624 fetched) begin_is f) (is ∙ ap (λ (v : List ℕ). with_piece (cleared v (min (h.size - begin_of offset) (length v))) (offset - begin_of offset) bs) kept_is))

@@ -1,128 +1,122 @@
 -- Blocks of a file are written, one after another.
-use Rattle.std.proofs.Common.{◌≡◌, ◌≢◌, ℕ, zero, suc, ◌<◌, Bool, true, false, cond, eqb, ◌&&◌, List, get_or, refl, sym, ap, ◌⊎◌, inl, inr, ◌∙◌, arith}
+use Rattle.std.proofs.Common.{◌≡◌, ◌≢◌, ℕ, zero, suc, ◌<◌, Bool, true, false, cond, eqb, List, refl, sym, ap, ◌⊎◌, inl, inr, ◌∙◌, arith}
 use Rattle.std.proofs.lemmas.Bool.{cases_eq, eq-eqb, ne_eqb}
 use Rattle.journal_treestore.specs.declared.owner.Owner.{Owner}
 use Rattle.journal_treestore.specs.Views.{View, with_owner, with_block}
 use Rattle.journal_treecalls.specs.Rooms.{owner_of}
-use Rattle.journal_treecalls.specs.Fetches.{is_in}
-use Rattle.journal_treecalls.specs.Overlays.{is_fresh, piece_of, lay, lay_at, laid}
+use Rattle.journal_treecalls.specs.Overlays.{Laying, lay, lay_at, laid}
 
 -- ── one block ──
 
-lay-block : (X : View) (n was b j : ℕ) (v : List ℕ) (x : ℕ) → (lay X n was b j v).block x ≡ cond (eqb x b) v (X.block x)
-lay-block X n was b j v x = by (eqb was 0)
+lay-block : (X : View) (n was b p : ℕ) (v : List ℕ) (x : ℕ) → (lay X n was b p v).block x ≡ cond (eqb x b) v (X.block x)
+lay-block X n was b p v x = by (eqb was 0)
   where
-    by : (t : Bool) → (cond t (with_owner (with_block X b v) b (owner_of n j)) (with_block X b v)).block x ≡ cond (eqb x b) v (X.block x)
+    by : (t : Bool) → (cond t (with_owner (with_block X b v) b (owner_of n p)) (with_block X b v)).block x ≡ cond (eqb x b) v (X.block x)
     by true = refl
     by false = refl
 
-lay-owner : (X : View) (n was b j : ℕ) (v : List ℕ) (x : ℕ) → (lay X n was b j v).owner x ≡ cond (eqb was 0) (cond (eqb x b) (owner_of n j) (X.owner x)) (X.owner x)
-lay-owner X n was b j v x = by (eqb was 0)
+lay-owner : (X : View) (n was b p : ℕ) (v : List ℕ) (x : ℕ) → (lay X n was b p v).owner x ≡ cond (eqb was 0) (cond (eqb x b) (owner_of n p) (X.owner x)) (X.owner x)
+lay-owner X n was b p v x = by (eqb was 0)
   where
-    by : (t : Bool) → (cond t (with_owner (with_block X b v) b (owner_of n j)) (with_block X b v)).owner x ≡ cond t (cond (eqb x b) (owner_of n j) (X.owner x)) (X.owner x)
+    by : (t : Bool) → (cond t (with_owner (with_block X b v) b (owner_of n p)) (with_block X b v)).owner x ≡ cond t (cond (eqb x b) (owner_of n p) (X.owner x)) (X.owner x)
     by true = refl
     by false = refl
 
 -- what a block and a record have nothing to do with stays
 lay-keeps : {A : Type 0} (f : View → A) → ((X : View) (b : ℕ) (v : List ℕ) → f (with_block X b v) ≡ f X) → ((X : View) (b : ℕ) (o : Owner) → f (with_owner X b o) ≡ f X)
-    → (X : View) (n was b j from to : ℕ) (image : List ℕ) → f (lay_at X n was b j from to image) ≡ f X
-lay-keeps f blocks owners X n was b j from to image = by (is_in from to j) (eqb was 0)
+    → (X : View) (n : ℕ) (l : Laying) → f (lay_at X n l) ≡ f X
+lay-keeps f blocks owners X n l = by l.stays (eqb l.was 0)
   where
-    by : (t u : Bool) → f (cond t (cond u (with_owner (with_block X b (piece_of image from j)) b (owner_of n j)) (with_block X b (piece_of image from j))) X) ≡ f X
-    by true true = owners (with_block X b (piece_of image from j)) b (owner_of n j) ∙ blocks X b (piece_of image from j)
-    by true false = blocks X b (piece_of image from j)
-    by false u = refl
+    by : (t u : Bool) → f (cond t X (cond u (with_owner (with_block X l.block l.bytes) l.block (owner_of n l.place)) (with_block X l.block l.bytes))) ≡ f X
+    by false true = owners (with_block X l.block l.bytes) l.block (owner_of n l.place) ∙ blocks X l.block l.bytes
+    by false false = blocks X l.block l.bytes
+    by true u = refl
 
--- ── the first blocks ──
+-- ── the first ones of a row ──
 
-module _ (U : View) (n : ℕ) (old new : List ℕ) (from to : ℕ) (image : List ℕ) where
-  pub laid-none : laid U n old new from to image 0 ≡ U
+module _ (U : View) (n : ℕ) (row : ℕ → Laying) where
+  pub laid-none : laid U n row 0 ≡ U
   unfolding laid
   laid-none = refl
 
-  pub laid-more : (j : ℕ) → laid U n old new from to image (suc j) ≡ lay_at (laid U n old new from to image j) n (get_or old j 0) (get_or new j 0) j from to image
+  pub laid-more : (m : ℕ) → laid U n row (suc m) ≡ lay_at (laid U n row m) n (row m)
   unfolding laid
-  laid-more j = refl
+  laid-more m = refl
 
-  pub laid-keeps : {A : Type 0} (f : View → A) → ((X : View) (b : ℕ) (v : List ℕ) → f (with_block X b v) ≡ f X) → ((X : View) (b : ℕ) (o : Owner) → f (with_owner X b o) ≡ f X) → (j : ℕ) → f (laid U n old new from to image j) ≡ f U
+  pub laid-keeps : {A : Type 0} (f : View → A) → ((X : View) (b : ℕ) (v : List ℕ) → f (with_block X b v) ≡ f X) → ((X : View) (b : ℕ) (o : Owner) → f (with_owner X b o) ≡ f X) → (m : ℕ) → f (laid U n row m) ≡ f U
   laid-keeps f blocks owners zero = ap f laid-none
-  laid-keeps f blocks owners (suc j) =
-      ap f (laid-more j)
-      ∙ lay-keeps f blocks owners (laid U n old new from to image j) n (get_or old j 0) (get_or new j 0) j from to image
-      ∙ laid-keeps f blocks owners j
+  laid-keeps f blocks owners (suc m) = ap f (laid-more m) ∙ lay-keeps f blocks owners (laid U n row m) n (row m) ∙ laid-keeps f blocks owners m
 
   -- block after block
-  at-block : (j x : ℕ) → (t : Bool) → is_in from to j ≡ t → (laid U n old new from to image (suc j)).block x ≡ cond t (cond (eqb x (get_or new j 0)) (piece_of image from j) ((laid U n old new from to image j).block x)) ((laid U n old new from to image j).block x)
-  at-block j x t is =
-      ap (λ (W : View). W.block x) (laid-more j)
-      ∙ ap (λ t. (cond t (lay (laid U n old new from to image j) n (get_or old j 0) (get_or new j 0) j (piece_of image from j)) (laid U n old new from to image j)).block x) is
+  at-block : (m x : ℕ) → (t : Bool) → (row m).stays ≡ t → (laid U n row (suc m)).block x ≡ cond t ((laid U n row m).block x) (cond (eqb x (row m).block) (row m).bytes ((laid U n row m).block x))
+  at-block m x t is =
+      ap (λ (W : View). W.block x) (laid-more m)
+      ∙ ap (λ t. (cond t (laid U n row m) (lay (laid U n row m) n (row m).was (row m).block (row m).place (row m).bytes)).block x) is
       ∙ by t
     where
-      by : (t : Bool) → (cond t (lay (laid U n old new from to image j) n (get_or old j 0) (get_or new j 0) j (piece_of image from j)) (laid U n old new from to image j)).block x
-          ≡ cond t (cond (eqb x (get_or new j 0)) (piece_of image from j) ((laid U n old new from to image j).block x)) ((laid U n old new from to image j).block x)
-      by true = lay-block (laid U n old new from to image j) n (get_or old j 0) (get_or new j 0) j (piece_of image from j) x
-      by false = refl
+      by : (t : Bool) → (cond t (laid U n row m) (lay (laid U n row m) n (row m).was (row m).block (row m).place (row m).bytes)).block x
+          ≡ cond t ((laid U n row m).block x) (cond (eqb x (row m).block) (row m).bytes ((laid U n row m).block x))
+      by false = lay-block (laid U n row m) n (row m).was (row m).block (row m).place (row m).bytes x
+      by true = refl
 
-  pub block-unlaid : (x j : ℕ) → ((i : ℕ) → i < j → is_in from to i ≡ true → x ≢ get_or new i 0) → (laid U n old new from to image j).block x ≡ U.block x
+  pub block-unlaid : (x m : ℕ) → ((i : ℕ) → i < m → (row i).stays ≡ false → x ≢ (row i).block) → (laid U n row m).block x ≡ U.block x
   block-unlaid x zero other = ap (λ (W : View). W.block x) laid-none
-  block-unlaid x (suc j) other = by (is_in from to j) refl ∙ block-unlaid x j (λ i low. other i (omega (arith, low)))
+  block-unlaid x (suc m) other = by (row m).stays refl ∙ block-unlaid x m (λ i low. other i (omega (arith, low)))
     where
-      by : (t : Bool) → is_in from to j ≡ t → (laid U n old new from to image (suc j)).block x ≡ (laid U n old new from to image j).block x
-      by false is = at-block j x false is
-      by true is = at-block j x true is ∙ ap (λ t. cond t (piece_of image from j) ((laid U n old new from to image j).block x)) (ne_eqb x (get_or new j 0) (other j (omega arith) is))
+      by : (t : Bool) → (row m).stays ≡ t → (laid U n row (suc m)).block x ≡ (laid U n row m).block x
+      by true is = at-block m x true is
+      by false is = at-block m x false is ∙ ap (λ t. cond t (row m).bytes ((laid U n row m).block x)) (ne_eqb x (row m).block (other m (omega arith) is))
 
-  pub block-laid : (i j : ℕ) → i < j → is_in from to i ≡ true → ((k : ℕ) → is_in from to k ≡ true → k ≢ i → get_or new i 0 ≢ get_or new k 0) → (laid U n old new from to image j).block (get_or new i 0) ≡ piece_of image from i
+  pub block-laid : (i m : ℕ) → i < m → (row i).stays ≡ false → ((k : ℕ) → k < m → k ≢ i → (row i).block ≢ (row k).block) → (laid U n row m).block (row i).block ≡ (row i).bytes
   block-laid i zero low is apart = absurd (omega (arith, low))
-  block-laid i (suc j) low is apart = by (cases_eq j i) (λ low. block-laid i j low is apart)
+  block-laid i (suc m) low is apart = by (cases_eq m i) (λ low. block-laid i m low is (λ k l. apart k (omega (arith, l))))
     where
-      by : (j ≡ i) ⊎ (j ≡ i → ⊥) → (i < j → (laid U n old new from to image j).block (get_or new i 0) ≡ piece_of image from i) → (laid U n old new from to image (suc j)).block (get_or new i 0) ≡ piece_of image from i
+      by : (m ≡ i) ⊎ (m ≡ i → ⊥) → (i < m → (laid U n row m).block (row i).block ≡ (row i).bytes) → (laid U n row (suc m)).block (row i).block ≡ (row i).bytes
       by (inl same) before =
-          at-block j (get_or new i 0) true (ap (is_in from to) same ∙ is)
-          ∙ ap (λ t. cond t (piece_of image from j) ((laid U n old new from to image j).block (get_or new i 0))) (eq-eqb (get_or new i 0) (get_or new j 0) (ap (λ j. get_or new j 0) (sym same)))
-          ∙ ap (piece_of image from) same
-      by (inr other) before = rest (is_in from to j) refl ∙ before (omega (arith, low, other))
+          at-block m (row i).block false (ap (λ m. (row m).stays) same ∙ is)
+          ∙ ap (λ t. cond t (row m).bytes ((laid U n row m).block (row i).block)) (eq-eqb (row i).block (row m).block (ap (λ m. (row m).block) (sym same)))
+          ∙ ap (λ m. (row m).bytes) same
+      by (inr other) before = rest (row m).stays refl ∙ before (omega (arith, low, other))
         where
-          rest : (t : Bool) → is_in from to j ≡ t → (laid U n old new from to image (suc j)).block (get_or new i 0) ≡ (laid U n old new from to image j).block (get_or new i 0)
-          rest false at = at-block j (get_or new i 0) false at
-          rest true at = at-block j (get_or new i 0) true at ∙ ap (λ t. cond t (piece_of image from j) ((laid U n old new from to image j).block (get_or new i 0))) (ne_eqb (get_or new i 0) (get_or new j 0) (apart j at other))
+          rest : (t : Bool) → (row m).stays ≡ t → (laid U n row (suc m)).block (row i).block ≡ (laid U n row m).block (row i).block
+          rest true at = at-block m (row i).block true at
+          rest false at = at-block m (row i).block false at ∙ ap (λ t. cond t (row m).bytes ((laid U n row m).block (row i).block)) (ne_eqb (row i).block (row m).block (apart m (omega arith) other))
 
   -- record after record
-  at-owner : (j x : ℕ) → (t : Bool) → is_fresh old from to j ≡ t → (laid U n old new from to image (suc j)).owner x ≡ cond t (cond (eqb x (get_or new j 0)) (owner_of n j) ((laid U n old new from to image j).owner x)) ((laid U n old new from to image j).owner x)
-  at-owner j x t is =
-      ap (λ (W : View). W.owner x) (laid-more j)
-      ∙ by (eqb (get_or old j 0) 0) (is_in from to j) refl
-      ∙ ap (λ t. cond t (cond (eqb x (get_or new j 0)) (owner_of n j) ((laid U n old new from to image j).owner x)) ((laid U n old new from to image j).owner x)) is
+  at-owner : (m x : ℕ) → (t u : Bool) → (row m).stays ≡ t → eqb (row m).was 0 ≡ u
+      → (laid U n row (suc m)).owner x ≡ cond t ((laid U n row m).owner x) (cond u (cond (eqb x (row m).block) (owner_of n (row m).place) ((laid U n row m).owner x)) ((laid U n row m).owner x))
+  at-owner m x t u is was =
+      ap (λ (W : View). W.owner x) (laid-more m)
+      ∙ ap (λ t. (cond t (laid U n row m) (lay (laid U n row m) n (row m).was (row m).block (row m).place (row m).bytes)).owner x) is
+      ∙ by t
+      ∙ ap (λ u. cond t ((laid U n row m).owner x) (cond u (cond (eqb x (row m).block) (owner_of n (row m).place) ((laid U n row m).owner x)) ((laid U n row m).owner x))) was
     where
-      by : (u t : Bool) → eqb (get_or old j 0) 0 ≡ u → (cond t (lay (laid U n old new from to image j) n (get_or old j 0) (get_or new j 0) j (piece_of image from j)) (laid U n old new from to image j)).owner x
-          ≡ cond (u && t) (cond (eqb x (get_or new j 0)) (owner_of n j) ((laid U n old new from to image j).owner x)) ((laid U n old new from to image j).owner x)
-      by true true u =
-          lay-owner (laid U n old new from to image j) n (get_or old j 0) (get_or new j 0) j (piece_of image from j) x
-          ∙ ap (λ u. cond u (cond (eqb x (get_or new j 0)) (owner_of n j) ((laid U n old new from to image j).owner x)) ((laid U n old new from to image j).owner x)) u
-      by true false u = refl
-      by false true u =
-          lay-owner (laid U n old new from to image j) n (get_or old j 0) (get_or new j 0) j (piece_of image from j) x
-          ∙ ap (λ u. cond u (cond (eqb x (get_or new j 0)) (owner_of n j) ((laid U n old new from to image j).owner x)) ((laid U n old new from to image j).owner x)) u
-      by false false u = refl
+      by : (t : Bool) → (cond t (laid U n row m) (lay (laid U n row m) n (row m).was (row m).block (row m).place (row m).bytes)).owner x
+          ≡ cond t ((laid U n row m).owner x) (cond (eqb (row m).was 0) (cond (eqb x (row m).block) (owner_of n (row m).place) ((laid U n row m).owner x)) ((laid U n row m).owner x))
+      by false = lay-owner (laid U n row m) n (row m).was (row m).block (row m).place (row m).bytes x
+      by true = refl
 
-  pub owner-unlaid : (x j : ℕ) → ((i : ℕ) → i < j → is_fresh old from to i ≡ true → x ≢ get_or new i 0) → (laid U n old new from to image j).owner x ≡ U.owner x
+  pub owner-unlaid : (x m : ℕ) → ((i : ℕ) → i < m → (row i).stays ≡ false → (row i).was ≡ 0 → x ≢ (row i).block) → (laid U n row m).owner x ≡ U.owner x
   owner-unlaid x zero other = ap (λ (W : View). W.owner x) laid-none
-  owner-unlaid x (suc j) other = by (is_fresh old from to j) refl ∙ owner-unlaid x j (λ i low. other i (omega (arith, low)))
+  owner-unlaid x (suc m) other = by (row m).stays refl (cases_eq (row m).was 0) ∙ owner-unlaid x m (λ i low. other i (omega (arith, low)))
     where
-      by : (t : Bool) → is_fresh old from to j ≡ t → (laid U n old new from to image (suc j)).owner x ≡ (laid U n old new from to image j).owner x
-      by false is = at-owner j x false is
-      by true is = at-owner j x true is ∙ ap (λ t. cond t (owner_of n j) ((laid U n old new from to image j).owner x)) (ne_eqb x (get_or new j 0) (other j (omega arith) is))
+      by : (t : Bool) → (row m).stays ≡ t → ((row m).was ≡ 0) ⊎ ((row m).was ≡ 0 → ⊥) → (laid U n row (suc m)).owner x ≡ (laid U n row m).owner x
+      by true is _ = at-owner m x true (eqb (row m).was 0) is refl
+      by false is (inr some) = at-owner m x false false is (ne_eqb (row m).was 0 some)
+      by false is (inl none) = at-owner m x false true is (eq-eqb (row m).was 0 none) ∙ ap (λ t. cond t (owner_of n (row m).place) ((laid U n row m).owner x)) (ne_eqb x (row m).block (other m (omega arith) is none))
 
-  pub owner-laid : (i j : ℕ) → i < j → is_fresh old from to i ≡ true → ((k : ℕ) → is_fresh old from to k ≡ true → k ≢ i → get_or new i 0 ≢ get_or new k 0) → (laid U n old new from to image j).owner (get_or new i 0) ≡ owner_of n i
-  owner-laid i zero low is apart = absurd (omega (arith, low))
-  owner-laid i (suc j) low is apart = by (cases_eq j i) (λ low. owner-laid i j low is apart)
+  pub owner-laid : (i m : ℕ) → i < m → (row i).stays ≡ false → (row i).was ≡ 0 → ((k : ℕ) → k < m → k ≢ i → (row i).block ≢ (row k).block) → (laid U n row m).owner (row i).block ≡ owner_of n (row i).place
+  owner-laid i zero low is none apart = absurd (omega (arith, low))
+  owner-laid i (suc m) low is none apart = by (cases_eq m i) (λ low. owner-laid i m low is none (λ k l. apart k (omega (arith, l))))
     where
-      by : (j ≡ i) ⊎ (j ≡ i → ⊥) → (i < j → (laid U n old new from to image j).owner (get_or new i 0) ≡ owner_of n i) → (laid U n old new from to image (suc j)).owner (get_or new i 0) ≡ owner_of n i
+      by : (m ≡ i) ⊎ (m ≡ i → ⊥) → (i < m → (laid U n row m).owner (row i).block ≡ owner_of n (row i).place) → (laid U n row (suc m)).owner (row i).block ≡ owner_of n (row i).place
       by (inl same) before =
-          at-owner j (get_or new i 0) true (ap (is_fresh old from to) same ∙ is)
-          ∙ ap (λ t. cond t (owner_of n j) ((laid U n old new from to image j).owner (get_or new i 0))) (eq-eqb (get_or new i 0) (get_or new j 0) (ap (λ j. get_or new j 0) (sym same)))
-          ∙ ap (owner_of n) same
-      by (inr other) before = rest (is_fresh old from to j) refl ∙ before (omega (arith, low, other))
+          at-owner m (row i).block false true (ap (λ m. (row m).stays) same ∙ is) (eq-eqb (row m).was 0 (ap (λ m. (row m).was) same ∙ none))
+          ∙ ap (λ t. cond t (owner_of n (row m).place) ((laid U n row m).owner (row i).block)) (eq-eqb (row i).block (row m).block (ap (λ m. (row m).block) (sym same)))
+          ∙ ap (λ m. owner_of n (row m).place) same
+      by (inr other) before = rest (row m).stays (eqb (row m).was 0) refl refl ∙ before (omega (arith, low, other))
         where
-          rest : (t : Bool) → is_fresh old from to j ≡ t → (laid U n old new from to image (suc j)).owner (get_or new i 0) ≡ (laid U n old new from to image j).owner (get_or new i 0)
-          rest false at = at-owner j (get_or new i 0) false at
-          rest true at = at-owner j (get_or new i 0) true at ∙ ap (λ t. cond t (owner_of n j) ((laid U n old new from to image j).owner (get_or new i 0))) (ne_eqb (get_or new i 0) (get_or new j 0) (apart j at other))
+          rest : (t u : Bool) → (row m).stays ≡ t → eqb (row m).was 0 ≡ u → (laid U n row (suc m)).owner (row i).block ≡ (laid U n row m).owner (row i).block
+          rest true u at is_u = at-owner m (row i).block true u at is_u
+          rest false false at is_u = at-owner m (row i).block false false at is_u
+          rest false true at is_u = at-owner m (row i).block false true at is_u ∙ ap (λ t. cond t (owner_of n (row m).place) ((laid U n row m).owner (row i).block)) (ne_eqb (row i).block (row m).block (apart m (omega arith) other))

@@ -1,5 +1,5 @@
 -- What is learned, step by step.
-use Rattle.std.proofs.Common.{◌≡◌, List, [], sym, subst, ◌∷◌, ap, ◌∙◌}
+use Rattle.std.proofs.Common.{◌≡◌, ℕ, suc, ◌+◌, ◌≤◌, List, [], length, sym, subst, ◌∷◌, ap, ◌∙◌, arith}
 use Rattle.journal_tree.specs.declared.time.Time.{Time}
 use Rattle.journal_tree.specs.declared.caller.Caller.{Caller}
 use Rattle.journal_tree.specs.Op.{Call, Reply, Op}
@@ -41,3 +41,10 @@ writes-three before first second third a b c x y z none = z ∙ ap (λ ws. c ∷
 -- and four
 pub writes-four : (before first second third fourth : List Write) (a b c d : Write) → first ≡ a ∷ before → second ≡ b ∷ first → third ≡ c ∷ second → fourth ≡ d ∷ third → before ≡ [] → fourth ≡ d ∷ c ∷ b ∷ a ∷ []
 writes-four before first second third fourth a b c d w x y z none = z ∙ ap (λ ws. d ∷ ws) (writes-three before first second third a b c w x y none)
+
+-- the number of objects that are written
+pub none-few : (ws : List Write) (k : ℕ) → ws ≡ [] → length ws ≤ k
+none-few ws k is = let e : length ws ≡ 0 = ap length is in omega (arith, e)
+
+pub one-more : (ws before : List Write) (w : Write) (k : ℕ) → ws ≡ w ∷ before → length before ≤ k → length ws ≤ k + 1
+one-more ws before w k is few = let e : length ws ≡ suc (length before) = ap length is in omega (arith, e, few)

@@ -1,8 +1,7 @@
 -- Each step of MKDIR and CREATE: its knowledge, and its writes.
-use Rattle.std.proofs.Common.{◌≡◌, ◌≢◌, ℕ, ◌+◌, ◌-◌, ◌*◌, ◌/◌, ◌<◌, ◌≤◌, Bool, true, false, cond, List, [], ◌∷◌, length, get_or, Option, Some, None, Ok, Err, refl, sym, ap, subst, ◌⊎◌, inl, inr, ◌∙◌, arith}
-use Rattle.std.specs.Prelude.{Result, nat_lt, ◌==◌}
-use Rattle.std.proofs.lemmas.Bool.{ltb-true, cases_lt, lt-ltb, eq-eqb, and_from, false≢true}
-use Rattle.std.proofs.lemmas.List.{get_or_past}
+use Rattle.std.proofs.Common.{◌≡◌, ◌≢◌, ℕ, ◌+◌, ◌-◌, ◌*◌, ◌/◌, ◌<◌, Bool, true, false, cond, List, [], ◌∷◌, length, Option, Some, None, Ok, Err, refl, sym, ap, subst, ◌∙◌}
+use Rattle.std.specs.Prelude.{Result, nat_lt}
+use Rattle.std.proofs.lemmas.Bool.{ltb-true}
 use Rattle.journal_tree.specs.declared.limits.TheConstants.{LAST_GENERATION, MOST_BLOCKS}
 use Rattle.journal_tree.specs.declared.time.Time.{Time}
 use Rattle.journal_tree.specs.declared.reply.Handle.{Handle}
@@ -20,13 +19,12 @@ use Rattle.journal_tree.specs.Op.Reply.{made as made_reply}
 use Rattle.journal_treestore.specs.declared.entry.Entry.{Entry}
 use Rattle.journal_treestore.specs.declared.inode.Head.{Head}
 use Rattle.journal_treestore.specs.declared.inode.Inode.{Inode}
-use Rattle.journal_treestore.specs.declared.inode.Inode.TheVariants.{Free, Used}
+use Rattle.journal_treestore.specs.declared.inode.Inode.TheVariants.{Free}
 use Rattle.journal_treestore.specs.declared.inode.TheConstants.{DIRECT_BLOCKS}
-use Rattle.journal_treestore.specs.declared.owner.Owner.{Owner}
 use Rattle.journal_treestore.specs.Entries.{with_entry, tag_of}
 use Rattle.journal_treestore.specs.Inodes.{name_from}
 use Rattle.journal_treestore.specs.Owners.{owner_from}
-use Rattle.journal_treestore.specs.Views.{Held, View, zero_block, with_inode, with_owner, with_block, held_of, seen, node_of, tree_of}
+use Rattle.journal_treestore.specs.Views.{View, zero_block, with_inode, with_owner, with_block, held_of, seen, node_of, tree_of}
 use Rattle.journal_treestore.specs.Views.Seen.{used}
 use Rattle.journal_treestore.specs.Sound.{IsSoundView}
 use Rattle.journal_treestore.specs.Steps.{with_moment}
@@ -49,7 +47,7 @@ use Rattle.journal_treecalls.specs.Disks.{Write, inode_seen, written, Learns, Do
 use Rattle.journal_treecalls.specs.Disks.Write.{inode_write, owner_write, block_write}
 use Rattle.journal_treecalls.specs.Targets.{held, IsInode}
 use Rattle.journal_treecalls.specs.Names.{moved, IsNamed, IsNameFor}
-use Rattle.journal_treecalls.specs.Rooms.{IsFreeNumber, if_young, IsYoung, IsEmptyIn, IsPlaceIn, IsPlaceOf, HasFreeNumber, HasFreeBlock, IsFreeBlock, IsThis, if_nobodys, has_at, IsHad, IsPlaceFor, IsFitPlace, HasRoomFor, IsRoomFor, IsFitRoom, room_of, owner_of, with_further, new_head, with_new, with_new_block, making_call, mkdir_plan, create_plan, plan_for, Plants, IsMakingNode, MakesNode, MakesPlanned, IsMaking, Makes}
+use Rattle.journal_treecalls.specs.Rooms.{IsFreeNumber, if_young, IsYoung, IsEmptyIn, IsPlaceIn, IsPlaceOf, HasFreeNumber, IsFreeBlock, IsPlaceFor, IsFitPlace, HasRoomFor, IsRoomFor, IsFitRoom, room_of, owner_of, with_further, new_head, with_new, with_new_block, making_call, mkdir_plan, create_plan, plan_for, Plants, IsMakingNode, MakesNode, MakesPlanned, IsMaking, Makes}
 use Rattle.journal_treecalls.specs.Rooms.IsMakingNode.{full, makes}
 use Rattle.journal_treecalls.specs.Rooms.IsMakingPlanned.{kept, tried}
 use Rattle.journal_treecalls.specs.Rooms.IsMaking.{there, missing}
@@ -92,62 +90,6 @@ place-some old new b j v w o at place l same some empty is place_is = learns-as 
 
 pub place-here : (old new : View → Type 0) (h : Head) (o : Option FreePlace) (p : FreePlace) → Learns old new (λ V. IsPlaceOf V h.blocks o) → o ≡ Some p → Learns old new (λ V. IsPlaceFor V h (Some (Here p)))
 place-here old new h o p l is = learns-as old new _ _ l (λ V m at. subst (IsPlaceOf V h.blocks) is at)
-
--- ── a block that nobody has ──
-
-pub had-high : (old : View → Type 0) → AreSound old → (b : ℕ) (o : Owner) (count number : ℕ) → ((V : View) → old V → V.numbers ≡ count) → number ≡ o.number → count ≤ number → Learns old old (λ V. IsHad V b o false)
-had-high old sound b o count number counts is high = record {
-  before = λ V m. m;
-  now = λ V m some h at. let l = low (tree_of V) o.number (node_of V h) (sound V m).tree (inode-node V o.number h at) in let c = counts V m in absurd (omega (arith, l, c, is, high));
-}
-
-pub had-free : (old new : View → Type 0) (b generation : ℕ) (o : Owner) (x : Inode) → Learns old new (λ V. IsInode V o.number x) → x ≡ Free generation → Learns old new (λ V. IsHad V b o false)
-had-free old new b generation o x l is = learns-as old new _ _ l (λ V m at some h here. absurd (cc (sym (at.1 ∙ ap (λ x. seen x at.0) is) ∙ here)))
-
-pub had-used : (old new : View → Type 0) (b : ℕ) (o : Owner) (x : Inode) (head : Head) (had : Bool) → Learns old new (λ V. IsInode V o.number x) → x ≡ Used head → had ≡ has_at head.blocks o.place b → length head.blocks ≡ DIRECT_BLOCKS → Learns old new (λ V. IsHad V b o had)
-had-used old new b o x head had l is had_is all = learns-as old new _ _ l (λ V m at. by V at had refl)
-  where
-    not-had : (V : View) → IsInode V o.number x → had ≡ false → b ≢ 0 → (h : Held) → V.inode o.number ≡ used h → h.blocks o.place ≢ b
-    not-had V at t some h here has = cases (cases_lt o.place DIRECT_BLOCKS)
-      where
-        same : held_of head at.0 ≡ h
-        same = let e : used (held_of head at.0) ≡ used h = sym (at.1 ∙ ap (λ x. seen x at.0) is) ∙ here in cc
-
-        in_head : get_or head.blocks o.place 0 ≡ b
-        in_head = ap (λ (h : Held). h.blocks o.place) same ∙ has
-
-        cases : (o.place < DIRECT_BLOCKS) ⊎ (DIRECT_BLOCKS ≤ o.place) → ⊥
-        cases (inl inside) = absurd (false≢true (sym t ∙ had_is ∙ and_from (nat_lt o.place DIRECT_BLOCKS) (get_or head.blocks o.place 0 == b) (lt-ltb o.place DIRECT_BLOCKS inside) (eq-eqb (get_or head.blocks o.place 0) b in_head)))
-        cases (inr past) = absurd (some (sym in_head ∙ get_or_past head.blocks o.place 0 (let a = all in omega (arith, a, past))))
-
-    by : (V : View) → IsInode V o.number x → (t : Bool) → had ≡ t → IsHad V b o t
-    by V at true t = tt
-    by V at false t = not-had V at t
-
-pub block-free : (old new : View → Type 0) (b begin count index : ℕ) (owner : Owner) (had : Bool) (o : Option ℕ) → Learns old new (λ V. (V.owner b ≡ owner) × IsHad V b owner had) → AreSound new
-    → ((V : View) → old V → V.first_data ≡ begin) → ((V : View) → old V → V.data_blocks ≡ count) → index ≡ b → begin ≤ index → index - begin < count → o ≡ if_nobodys b had → Learns old new (λ V. IsFreeBlock V o)
-block-free old new b begin count index owner had o l sound begins counts is from to o_is = learns-as old new _ _ l (λ V m k. subst (IsFreeBlock V) (sym o_is) (by V m had k))
-  where
-    free : (V : View) → new V → (V.owner b ≡ owner) × IsHad V b owner false → HasFreeBlock V b
-    free V m k = record {
-      from = (let x = begins V (l.before V m) in omega (arith, x, is, from));
-      to = (let x = begins V (l.before V m) in let y = counts V (l.before V m) in omega (arith, x, y, is, from, to));
-      unowned = record { not_at = λ h at. subst (λ (o : Owner). h.blocks o.place ≢ b) (sym k.0) (k.1 some h (ap (λ (o : Owner). V.inode o.number) (sym k.0) ∙ at)) };
-    }
-      where
-        some : b ≢ 0
-        some e = let x = begins V (l.before V m) in let n = (sound V m).no_data in absurd (omega (arith, e, x, n, is, from))
-
-    by : (V : View) → new V → (had : Bool) → (V.owner b ≡ owner) × IsHad V b owner had → IsFreeBlock V (if_nobodys b had)
-    by V m true k = tt
-    by V m false k = free V m k
-
-pub this-block : (b : ℕ) (had : Bool) (o : Option ℕ) → o ≡ if_nobodys b had → IsThis b o
-this-block b had o is = subst (IsThis b) (sym is) (by had)
-  where
-    by : (had : Bool) → IsThis b (if_nobodys b had)
-    by true = tt
-    by false = refl
 
 pub place-further : (old new : View → Type 0) (h : Head) (j b : ℕ) (o : Option ℕ) → Learns old new (λ V. IsFreeBlock V o) → o ≡ Some b → j ≡ h.size / 4096 → j < MOST_BLOCKS → length h.blocks ≡ DIRECT_BLOCKS
     → Learns old new (λ V. IsPlaceFor V h (Some (Further (record { block = b; j = j }))))

@@ -1,7 +1,8 @@
--- A file is written: its inode, the blocks in which the bytes lie, and the block in which it ended.
-use Rattle.std.proofs.Common.{◌≡◌, ◌≢◌, ℕ, ◌+◌, ◌-◌, ◌*◌, ◌/◌, ◌%◌, ◌<◌, ◌≤◌, max, Bool, true, false, cond, eqb, List, ◌++◌, length, take, drop, get_or, replicate, Option, Some, None, refl, sym, ap, subst, ◌⊎◌, inl, inr, ◌∙◌, arith, length-append}
-use Rattle.std.specs.Prelude.{◌==◌, nat_lt}
-use Rattle.std.proofs.lemmas.Bool.{cases_eq, cases_lt, eq-eqb, ne_eqb, eqb-true, lt-ltb, ltb-true, and_from, and_right, and_parts, false≢true}
+-- A file is written: its inode, the blocks in which the bytes lie, the index blocks with their
+-- numbers, and the block in which it ended.
+use Rattle.std.proofs.Common.{◌≡◌, ◌≢◌, ℕ, zero, suc, ◌+◌, ◌-◌, ◌*◌, ◌/◌, ◌%◌, ◌<◌, ◌≤◌, max, Bool, true, false, cond, eqb, List, [], ◌++◌, length, take, drop, get_or, replicate, Option, Some, None, refl, sym, ap, subst, ◌⊎◌, inl, inr, ◌∙◌, arith, length-append}
+use Rattle.std.specs.Prelude.{◌==◌, nat_lt, nat_le}
+use Rattle.std.proofs.lemmas.Bool.{cases_eq, cases_lt, eq-eqb, ne_eqb, eqb-true, eqb-false, lt-ltb, ltb-true, lt-leb, leb-false, and_from, and_parts, false≢true}
 use Rattle.std.proofs.lemmas.List.{length-take-le, length-drop, length-replicate, get_or_append_left, get_or-append_right, get_or-take, get_or-drop, get_or-replicate, get_or_past, ext_get_or}
 use Rattle.journal_tree.specs.declared.time.Time.{Time}
 use Rattle.journal_tree.specs.declared.reply.Kind.TheVariants.{File}
@@ -10,25 +11,28 @@ use Rattle.journal_tree.specs.Times.{IsTime}
 use Rattle.journal_tree.specs.Trees.Body.{file}
 use Rattle.journal_tree.specs.Contents.{overlaid, written as written_node}
 use Rattle.journal_treestore.specs.declared.inode.Head.{Head}
+use Rattle.journal_treestore.specs.Bytes.{word_at}
 use Rattle.journal_treestore.specs.Inodes.{name_from}
-use Rattle.journal_treestore.specs.Views.{Held, View, with_block, held_of, bytes_in, content, body_of, node_of, entry_by}
+use Rattle.journal_treestore.specs.Views.{Held, View, with_inode, with_block, held_of, number_in, index_block, block_at, begin_at, bytes_in, content, body_of, node_of, entry_by}
 use Rattle.journal_treestore.specs.Views.Seen.{used}
 use Rattle.journal_treestore.specs.Sound.{IsSoundInode, IsSoundView}
+use Rattle.journal_treestore.proofs.Indexing.{PlaceOf, place_kind, at-direct, at-indexed, at-index, at-leaf, at-none, begin-content, same-named}
 use Rattle.journal_treestore.proofs.Viewing.{inode-node}
 use Rattle.journal_treestore.proofs.Changing.{one_owner, inode-same, inode-other}
 use Rattle.journal_treestore.proofs.Spare.{nobody_has}
 use Rattle.journal_treecalls.specs.declared.node.Record.{Record}
+use Rattle.journal_treecalls.specs.declared.reach.Numbers.{Numbers}
 use Rattle.journal_treecalls.specs.declared.setting.Tail.{Tail}
 use Rattle.journal_treecalls.specs.Targets.{held}
 use Rattle.journal_treecalls.specs.Rooms.{HasFreeBlock}
-use Rattle.journal_treecalls.specs.Fetches.{is_in}
-use Rattle.journal_treecalls.specs.Sizes.{tail_of, cleared}
-use Rattle.journal_treecalls.specs.Overlays.{is_fresh, AreTaken, begin_of, image_bytes, IsImage, piece_of, IsWrittenHead, gap_of, with_gap, laid, with_written}
+use Rattle.journal_treecalls.specs.Fetches.{is_in, file_blocks}
+use Rattle.journal_treecalls.specs.Sizes.{cleared}
+use Rattle.journal_treecalls.specs.Overlays.{begin_of, image_bytes, IsImage, piece_of, IsWrittenHead, gap_of, with_gap, Laying, laid}
 use Rattle.journal_treecalls.proofs.Cases.{length-content}
 use Rattle.journal_treecalls.proofs.Holding.{byte_at, in-some, in-none, content-at}
 use Rattle.journal_treecalls.proofs.Stepping.{IsNodeStep}
-use Rattle.journal_treecalls.proofs.Resizing.{cleared-long, cleared-front, cleared-back, no-tail, is-tail}
-use Rattle.journal_treecalls.proofs.Fetching.{range-long, range-at}
+use Rattle.journal_treecalls.proofs.Zeroing.{cleared-long, cleared-front, cleared-back}
+use Rattle.journal_treecalls.proofs.Fetching.{range-at}
 use Rattle.journal_treecalls.proofs.Laying.{laid-keeps, block-unlaid, block-laid, owner-unlaid, owner-laid}
 
 -- ── bytes over others ──
@@ -73,19 +77,66 @@ module _ (c : List ℕ) (offset : ℕ) (bs : List ℕ) where
 
 -- ── blocks in which bytes lie ──
 
-in-parts : (from to j : ℕ) → is_in from to j ≡ true → (4096 * j < to) × (from < 4096 * (j + 1))
+pub in-parts : (from to j : ℕ) → is_in from to j ≡ true → (4096 * j < to) × (from < 4096 * (j + 1))
 in-parts from to j is =
     let b = and_parts (nat_lt (4096 * j) to) (nat_lt from (4096 * (j + 1))) is in
     (ltb-true (4096 * j) to b.0, ltb-true from (4096 * (j + 1)) b.1)
 
-in-both : (from to j : ℕ) → 4096 * j < to → from < 4096 * (j + 1) → is_in from to j ≡ true
+pub in-both : (from to j : ℕ) → 4096 * j < to → from < 4096 * (j + 1) → is_in from to j ≡ true
 in-both from to j before after = and_from (nat_lt (4096 * j) to) (nat_lt from (4096 * (j + 1))) (lt-ltb (4096 * j) to before) (lt-ltb from (4096 * (j + 1)) after)
+
+-- ── blocks of a row ──
+
+-- One of the first of a row is put at a place
+record IsAt (row : ℕ → Laying) (count p : ℕ) : Type 0 where
+  i : ℕ
+  low : i < count
+  is : (row i).place ≡ p
+
+is-at : (row : ℕ → Laying) (count p : ℕ) → IsAt row count p ⊎ ((i : ℕ) → i < count → (row i).place ≢ p)
+is-at row zero p = inr (λ i low. absurd (omega (arith, low)))
+is-at row (suc m) p = by (cases_eq (row m).place p) (is-at row m p)
+  where
+    by : ((row m).place ≡ p) ⊎ ((row m).place ≡ p → ⊥) → IsAt row m p ⊎ ((i : ℕ) → i < m → (row i).place ≢ p) → IsAt row (suc m) p ⊎ ((i : ℕ) → i < suc m → (row i).place ≢ p)
+    by (inl same) _ = inl (record { i = m; low = omega arith; is = same })
+    by (inr other) (inl f) = inl (record { i = f.i; low = let l = f.low in omega (arith, l); is = f.is })
+    by (inr other) (inr none) = inr (λ i low. each i low (cases_eq i m))
+      where
+        each : (i : ℕ) → i < suc m → (i ≡ m) ⊎ (i ≡ m → ⊥) → (row i).place ≢ p
+        each i low (inl last) = λ e. other (ap (λ i. (row i).place) (sym last) ∙ e)
+        each i low (inr before) = none i (omega (arith, low, before))
+
+-- A row gives a file its blocks for bytes from one to before another: where it has none, one that
+-- nobody has, and none twice. Those in which bytes lie have the pieces of an image
+pub record IsOverlay (V : View) (H : Held) (N : ℕ → ℕ) (row : ℕ → Laying) (count from to : ℕ) (image : List ℕ) : Type 0 where
+  pub kept : (p : ℕ) → ((i : ℕ) → i < count → (row i).place ≡ p → block_at V H p ≢ 0) → N p ≡ block_at V H p
+  pub free : (i : ℕ) → i < count → block_at V H (row i).place ≡ 0 → HasFreeBlock V (N (row i).place)
+  pub apart : (i k : ℕ) → i < count → k < count → i ≢ k → block_at V H (row i).place ≡ 0 → block_at V H (row k).place ≡ 0 → N (row i).place ≢ N (row k).place
+  pub once : (i k : ℕ) → i < count → k < count → i ≢ k → (row i).place ≢ (row k).place
+  pub was : (i : ℕ) → i < count → (row i).was ≡ block_at V H (row i).place
+  pub block : (i : ℕ) → i < count → (row i).block ≡ N (row i).place
+  pub whole : (i : ℕ) → i < count → length (row i).bytes ≡ 4096
+  pub stays : (i : ℕ) → i < count → (row i).stays ≡ true → ((row i).was ≡ (row i).block) × ((row i).was ≢ 0 → V.block (row i).was ≡ (row i).bytes) × (2147483648 ≤ (row i).place)
+  pub at : (j : ℕ) → is_in from to j ≡ true → (j - from / 4096 < count) × ((row (j - from / 4096)).place ≡ j)
+  pub piece : (j : ℕ) → is_in from to j ≡ true → (row (j - from / 4096)).bytes ≡ piece_of image from j
+  pub out : (j : ℕ) → is_in from to j ≡ false → j < 2147483648 → (i : ℕ) → i < count → (row i).place ≢ j
+  pub early : (i : ℕ) → i < count → begin_at (row i).place < to
+
+-- The numbers in its inode and in its index blocks are those
+pub record IsIndexed (V : View) (H : Held) (N : ℕ → ℕ) (row : ℕ → Laying) (count : ℕ) (k : Head) : Type 0 where
+  pub direct : (j : ℕ) → j < 48 → get_or k.blocks j 0 ≡ N j
+  pub count_is : length k.blocks ≡ 48
+  pub index : k.index ≡ N 2147483648
+  pub root : (m i : ℕ) → m < count → (row m).place ≡ 2147483648 → i < 1024 → word_at (row m).bytes (4 * i) ≡ N (2147483649 + i)
+  pub leaf : (m i l : ℕ) → m < count → (row m).place ≡ 2147483649 + i → i < 1024 → l < 1024 → word_at (row m).bytes (4 * l) ≡ N (48 + 1024 * i + l)
+  pub no_root : ((m : ℕ) → m < count → (row m).place ≢ 2147483648) → (i : ℕ) → i < 1024 → N (2147483649 + i) ≡ block_at V H (2147483649 + i)
+  pub no_leaf : (i : ℕ) → i < 1024 → ((m : ℕ) → m < count → (row m).place ≢ 2147483649 + i) → (l : ℕ) → l < 1024 → N (48 + 1024 * i + l) ≡ block_at V H (48 + 1024 * i + l)
+  pub none : (p : ℕ) → 1048624 ≤ p → p ≢ 2147483648 → (p < 2147483649) ⊎ (2147484673 ≤ p) → N p ≡ 0
 
 -- ── the step ──
 
-module _ (V : View) (n : ℕ) (r : Record) (k : Head) (c : Caller) (now : Time) (offset : ℕ) (bs image : List ℕ) (sound : IsSoundView V) (is : V.inode n ≡ used (held r)) (a_file : r.head.kind ≡ File)
-    (some : 0 < length bs) (fits : offset + length bs ≤ 196608) (small : r.head.size ≤ 196608) (taken : AreTaken V r.head.blocks offset (offset + length bs) 48 k.blocks) (count : length k.blocks ≡ 48)
-    (set : IsWrittenHead c now r.head k.blocks (offset + length bs) k) (im : IsImage V r.head offset bs image) (long : length image ≡ image_bytes offset (offset + length bs)) where
+module _ (V : View) (n : ℕ) (r : Record) (k : Head) (offset : ℕ) (bs image : List ℕ) (N : ℕ → ℕ) (row : ℕ → Laying) (count : ℕ) (sound : IsSoundView V) (is : V.inode n ≡ used (held r)) (a_file : r.head.kind ≡ File)
+    (some : 0 < length bs) (fits : offset + length bs ≤ 4295163904) (small : r.head.size ≤ 4295163904) (lays : IsOverlay V (held r) N row count offset (offset + length bs) image) where
   abbrev H : Held
   H = held r
 
@@ -95,372 +146,492 @@ module _ (V : View) (n : ℕ) (r : Record) (k : Head) (c : Caller) (now : Time) 
   abbrev to : ℕ
   to = offset + length bs
 
-  abbrev old : ℕ → ℕ
-  old j = get_or r.head.blocks j 0
+  -- what the file has at a place
+  abbrev O : ℕ → ℕ
+  O = block_at V (held r)
 
-  abbrev new : ℕ → ℕ
-  new j = get_or k.blocks j 0
+  abbrev gap : Option Tail
+  gap = gap_of V r.head offset
+
+  -- the block in which it ends
+  abbrev last : ℕ
+  last = r.head.size / 4096
 
   abbrev V1 : View
-  V1 = with_gap V (gap_of r.head offset)
+  V1 = with_gap V (gap_of V r.head offset)
 
   abbrev U : View
-  U = laid (with_gap V (gap_of r.head offset)) n r.head.blocks k.blocks offset (offset + length bs) image 48
+  U = laid (with_gap V (gap_of V r.head offset)) n row count
 
   abbrev W : View
-  W = with_written V n r k offset (offset + length bs) image
+  W = with_inode (laid (with_gap V (gap_of V r.head offset)) n row count) n (used (held_of k (name_from r.bytes)))
 
-  was : IsSoundInode V n H
+  was : IsSoundInode V n (held r)
   was = sound.inodes n (held r) is
-
-  ctime : IsTime r.head.attributes.ctime
-  ctime = (sound.fit.nodes n (node_of V (held r)) (inode-node V n (held r) is)).ctime
 
   -- ── which blocks are whose ──
 
-  low-in : (j : ℕ) → is_in offset (offset + length bs) j ≡ true → j < 48
-  low-in j in_it = let p = (in-parts offset (offset + length bs) j in_it).0 in omega (arith, p, fits)
+  free-some : (i : ℕ) → i < count → block_at V (held r) (row i).place ≡ 0 → N (row i).place ≢ 0
+  free-some i low none e = let l = (lays.free i low none).from in let d = sound.no_data in absurd (omega (arith, e, l, d))
 
-  fresh-in : (j : ℕ) → is_fresh r.head.blocks offset (offset + length bs) j ≡ true → (get_or r.head.blocks j 0 ≡ 0) × (is_in offset (offset + length bs) j ≡ true)
-  fresh-in j f = let p = and_parts (get_or r.head.blocks j 0 == 0) (is_in offset (offset + length bs) j) f in (eqb-true (get_or r.head.blocks j 0) 0 p.0, p.1)
+  stale : (p : ℕ) → block_at V (held r) p ≢ 0 → N p ≡ block_at V (held r) p
+  stale p had = lays.kept p (λ i low same. had)
 
-  free : (j : ℕ) → is_fresh r.head.blocks offset (offset + length bs) j ≡ true → HasFreeBlock V (get_or k.blocks j 0)
-  free j f = taken.free j (low-in j (fresh-in j f).1) f
+  unreached : (p : ℕ) → ((i : ℕ) → i < count → (row i).place ≢ p) → N p ≡ block_at V (held r) p
+  unreached p other = lays.kept p (λ i low same. absurd (other i low same))
 
-  free-some : (j : ℕ) → is_fresh r.head.blocks offset (offset + length bs) j ≡ true → get_or k.blocks j 0 ≢ 0
-  free-some j f e = let l = (free j f).from in let n = sound.no_data in absurd (omega (arith, e, l, n))
-
-  stale : (j : ℕ) → is_fresh r.head.blocks offset (offset + length bs) j ≡ false → get_or k.blocks j 0 ≡ get_or r.head.blocks j 0
-  stale j f = taken.kept j (λ low. f)
-
-  -- a block in which bytes lie that the file had is one
-  had : (j : ℕ) → is_fresh r.head.blocks offset (offset + length bs) j ≡ false → is_in offset (offset + length bs) j ≡ true → get_or r.head.blocks j 0 ≢ 0
-  had j f in_it none = false≢true (sym f ∙ and_from (get_or r.head.blocks j 0 == 0) (is_in offset (offset + length bs) j) (eq-eqb (get_or r.head.blocks j 0) 0 none) in_it)
-
-  out-stale : (j : ℕ) → is_in offset (offset + length bs) j ≡ false → is_fresh r.head.blocks offset (offset + length bs) j ≡ false
-  out-stale j out = and_right (get_or r.head.blocks j 0 == 0) (is_in offset (offset + length bs) j) out
-
-  in-some-block : (j : ℕ) → is_in offset (offset + length bs) j ≡ true → get_or k.blocks j 0 ≢ 0
-  in-some-block j in_it = by (is_fresh r.head.blocks offset (offset + length bs) j) refl
+  place-some : (i : ℕ) → i < count → N (row i).place ≢ 0
+  place-some i low = by (cases_eq (O (row i).place) 0)
     where
-      by : (t : Bool) → is_fresh r.head.blocks offset (offset + length bs) j ≡ t → get_or k.blocks j 0 ≢ 0
-      by true f = free-some j f
-      by false f = λ e. had j f in_it (sym (stale j f) ∙ e)
+      by : (O (row i).place ≡ 0) ⊎ (O (row i).place ≡ 0 → ⊥) → N (row i).place ≢ 0
+      by (inl none) = free-some i low none
+      by (inr had) = λ e. had (sym (stale (row i).place had) ∙ e)
+
+  -- a place is one that gets a block, or has what it had
+  fresh-or : (p : ℕ) → ((f : IsAt row count p) × (block_at V (held r) p ≡ 0)) ⊎ (N p ≡ block_at V (held r) p)
+  fresh-or p = by (cases_eq (O p) 0) (is-at row count p)
+    where
+      by : (O p ≡ 0) ⊎ (O p ≡ 0 → ⊥) → IsAt row count p ⊎ ((i : ℕ) → i < count → (row i).place ≢ p) → ((f : IsAt row count p) × (O p ≡ 0)) ⊎ (N p ≡ O p)
+      by (inr had) _ = inr (stale p had)
+      by (inl none) (inl f) = inl (f, none)
+      by (inl none) (inr other) = inr (unreached p other)
 
   -- no other node has one of them
-  apart : (i : ℕ) (g : Held) (j l : ℕ) → i ≢ n → V.inode i ≡ used g → g.blocks j ≢ 0 → is_in offset (offset + length bs) l ≡ true → g.blocks j ≢ get_or k.blocks l 0
-  apart i g j l other at there in_it = by (is_fresh r.head.blocks offset (offset + length bs) l) refl
+  apart : (i : ℕ) (g : Held) (p m : ℕ) → i ≢ n → V.inode i ≡ used g → block_at V g p ≢ 0 → m < count → block_at V g p ≢ N (row m).place
+  apart i g p m other at there low = by (cases_eq (O (row m).place) 0)
     where
-      by : (t : Bool) → is_fresh r.head.blocks offset (offset + length bs) l ≡ t → g.blocks j ≢ get_or k.blocks l 0
-      by true f = nobody_has V (get_or k.blocks l 0) sound (free-some l f) (free l f).unowned i g j at
-      by false f = λ e. other (sym (one_owner V n i H g l j was (sound.inodes i g at) (had l f in_it) (sym (e ∙ stale l f))).0)
+      by : (O (row m).place ≡ 0) ⊎ (O (row m).place ≡ 0 → ⊥) → block_at V g p ≢ N (row m).place
+      by (inl none) = nobody_has V (N (row m).place) sound (free-some m low none) (lays.free m low none).unowned i g p at
+      by (inr had) = λ e. other (sym (one_owner V n i H g (row m).place p was (sound.inodes i g at) had (sym (e ∙ stale (row m).place had))).0)
 
   -- and the file has none of them twice
-  apart-own : (j l : ℕ) → is_in offset (offset + length bs) l ≡ true → l ≢ j → get_or k.blocks j 0 ≢ 0 → get_or k.blocks j 0 ≢ get_or k.blocks l 0
-  apart-own j l in_it other there = by (is_fresh r.head.blocks offset (offset + length bs) l) (is_fresh r.head.blocks offset (offset + length bs) j) refl refl
+  apart-own : (p m : ℕ) → m < count → (row m).place ≢ p → N p ≢ 0 → N p ≢ N (row m).place
+  apart-own p m low other there = by (cases_eq (O (row m).place) 0) (fresh-or p)
     where
-      low : (j < 48) ⊎ (48 ≤ j) → j < 48
-      low (inl l) = l
-      low (inr past) = absurd (there (get_or_past k.blocks j 0 (omega (arith, count, past))))
+      by : (O (row m).place ≡ 0) ⊎ (O (row m).place ≡ 0 → ⊥) → ((f : IsAt row count p) × (O p ≡ 0)) ⊎ (N p ≡ O p) → N p ≢ N (row m).place
+      by (inl none) (inl f) = λ e. lays.apart f.0.i m f.0.low low (λ same. other (ap (λ i. (row i).place) (sym same) ∙ f.0.is)) (ap O f.0.is ∙ f.1) none (ap N f.0.is ∙ e)
+      by (inl none) (inr kept) = λ e. nobody_has V (N (row m).place) sound (free-some m low none) (lays.free m low none).unowned n H p is (sym kept ∙ e)
+      by (inr had) (inl f) = λ e. nobody_has V (N (row f.0.i).place) sound (free-some f.0.i f.0.low (ap O f.0.is ∙ f.1)) (lays.free f.0.i f.0.low (ap O f.0.is ∙ f.1)).unowned n H (row m).place is (sym (stale (row m).place had) ∙ sym e ∙ ap N (sym f.0.is))
+      by (inr had) (inr kept) = λ e. other (sym (one_owner V n n H H p (row m).place was was (λ z. there (kept ∙ z)) (sym kept ∙ e ∙ stale (row m).place had)).1)
 
-      by : (t u : Bool) → is_fresh r.head.blocks offset (offset + length bs) l ≡ t → is_fresh r.head.blocks offset (offset + length bs) j ≡ u → get_or k.blocks j 0 ≢ get_or k.blocks l 0
-      by true u f g = taken.apart l j (low-in l in_it) f (low (cases_lt j 48)) (λ e. other (sym e))
-      by false true f g = λ e. taken.apart j l (low-in j (fresh-in j g).1) g (low-in l in_it) other (sym e)
-      by false false f g = λ e. other (sym (one_owner V n n H H j l was was (λ z. there (stale j g ∙ z)) (sym (stale j g) ∙ e ∙ stale l f)).1)
+  rows-apart : (i m : ℕ) → i < count → m < count → m ≢ i → (row i).block ≢ (row m).block
+  rows-apart i m low inside other e = apart-own (row i).place m inside (lays.once m i inside low other) (place-some i low) (sym (lays.block i low) ∙ e ∙ lays.block m inside)
 
   -- ── the block in which the file ended ──
 
-  gap-some : (t : Tail) → gap_of r.head offset ≡ Some t → (r.head.size < offset) × (r.head.size / 4096 ≢ offset / 4096) × (get_or r.head.blocks (r.head.size / 4096) 0 ≢ 0)
-      × (t ≡ record { block = get_or r.head.blocks (r.head.size / 4096) 0; from = r.head.size % 4096 })
-  gap-some t g = by (eqb (r.head.size / 4096) (offset / 4096)) refl g
+  file-is : (p : ℕ) → file_blocks V r.head p ≡ block_at V (held r) p
+  file-is p = same-named V r.head [] (name_from r.bytes) p
+
+  abbrev gap_by : Bool → Bool → Option Tail
+  gap_by past none = cond past None (cond none None (Some (record { block = file_blocks V r.head (r.head.size / 4096); from = r.head.size % 4096 })))
+
+  gap-some : (t : Tail) → gap_of V r.head offset ≡ Some t → (r.head.size / 4096 < offset / 4096) × (block_at V (held r) (r.head.size / 4096) ≢ 0) × (t.block ≡ block_at V (held r) (r.head.size / 4096)) × (t.from ≡ r.head.size % 4096)
+  gap-some t g = by (nat_le (offset / 4096) last) (eqb (file_blocks V r.head last) 0) refl refl g
     where
-      by : (b : Bool) → eqb (r.head.size / 4096) (offset / 4096) ≡ b → cond b None (tail_of r.head offset) ≡ Some t
-          → (r.head.size < offset) × (r.head.size / 4096 ≢ offset / 4096) × (get_or r.head.blocks (r.head.size / 4096) 0 ≢ 0) × (t ≡ record { block = get_or r.head.blocks (r.head.size / 4096) 0; from = r.head.size % 4096 })
-      by true b g = absurd (cc (g))
-      by false b g = let q = is-tail r.head offset t g in (q.0, (λ e. false≢true (sym b ∙ eq-eqb (r.head.size / 4096) (offset / 4096) e)), q.1, q.2)
+      by : (past none : Bool) → nat_le (offset / 4096) last ≡ past → eqb (file_blocks V r.head last) 0 ≡ none → gap_by past none ≡ Some t → (last < offset / 4096) × (O last ≢ 0) × (t.block ≡ O last) × (t.from ≡ r.head.size % 4096)
+      by true none p q e = absurd (cc (e))
+      by false true p q e = absurd (cc (e))
+      by false false p q e =
+          let same : record { block = file_blocks V r.head last; from = r.head.size % 4096 } ≡ t = cc in
+          (leb-false (offset / 4096) last p, (λ z. eqb-false (file_blocks V r.head last) 0 q (file-is last ∙ z)), ap (λ (t : Tail). t.block) (sym same) ∙ file-is last, ap (λ (t : Tail). t.from) (sym same))
+
+  gap-none : (b : ℕ) → gap_of V r.head offset ≡ None → r.head.size / 4096 < offset / 4096 → block_at V (held r) (r.head.size / 4096) ≡ 0
+  gap-none b g low = by (eqb (file_blocks V r.head last) 0) refl (sym (ap (λ past. gap_by past (eqb (file_blocks V r.head last) 0)) (lt-leb (offset / 4096) last low)) ∙ g)
+    where
+      by : (none : Bool) → eqb (file_blocks V r.head last) 0 ≡ none → gap_by false none ≡ None → O last ≡ 0
+      by true q e = sym (file-is last) ∙ eqb-true (file_blocks V r.head last) 0 q
+      by false q e = absurd (cc (e))
 
   -- it is none of the others
-  gap-out : (t : Tail) → gap_of r.head offset ≡ Some t → is_in offset (offset + length bs) (r.head.size / 4096) ≡ false
-  gap-out t g = by (is_in offset (offset + length bs) (r.head.size / 4096)) refl
+  gap-out : (t : Tail) → gap_of V r.head offset ≡ Some t → (i : ℕ) → i < count → (row i).place ≢ r.head.size / 4096
+  gap-out t g = lays.out last (by (is_in offset to last) refl) (omega (arith, small))
     where
-      by : (b : Bool) → is_in offset (offset + length bs) (r.head.size / 4096) ≡ b → b ≡ false
-      by false b = refl
-      by true b = let p = in-parts offset (offset + length bs) (r.head.size / 4096) b in let q = gap-some t g in let less = q.0 in let other = q.1 in let last = p.1 in absurd (omega (arith, less, other, last))
-
-  gap-number : (t : Tail) → gap_of r.head offset ≡ Some t → t.block ≡ get_or r.head.blocks (r.head.size / 4096) 0
-  gap-number t g = ap (λ (t : Tail). t.block) (gap-some t g).3
+      by : (b : Bool) → is_in offset to last ≡ b → is_in offset to last ≡ false
+      by false b = b
+      by true b = let p = (in-parts offset to last b).1 in let q = (gap-some t g).0 in absurd (omega (arith, p, q))
 
   -- what a block has before the others are written
-  before-other : (x : ℕ) → ((t : Tail) → gap_of r.head offset ≡ Some t → x ≢ t.block) → (with_gap V (gap_of r.head offset)).block x ≡ V.block x
-  before-other x other = by (gap_of r.head offset) refl
+  before-other : (x : ℕ) → ((t : Tail) → gap_of V r.head offset ≡ Some t → x ≢ t.block) → (with_gap V (gap_of V r.head offset)).block x ≡ V.block x
+  before-other x other = by (gap_of V r.head offset) refl
     where
-      by : (o : Option Tail) → gap_of r.head offset ≡ o → (with_gap V o).block x ≡ V.block x
+      by : (o : Option Tail) → gap_of V r.head offset ≡ o → (with_gap V o).block x ≡ V.block x
       by None g = refl
       by (Some t) g = ap (λ b. cond b (cleared (V.block t.block) t.from) (V.block x)) (ne_eqb x t.block (other t g))
 
-  before-gap : (t : Tail) → gap_of r.head offset ≡ Some t → (with_gap V (gap_of r.head offset)).block (get_or r.head.blocks (r.head.size / 4096) 0) ≡ cleared (V.block (get_or r.head.blocks (r.head.size / 4096) 0)) (r.head.size % 4096)
+  before-own : (p : ℕ) → block_at V (held r) p ≢ 0 → p ≢ r.head.size / 4096 → (with_gap V (gap_of V r.head offset)).block (block_at V (held r) p) ≡ V.block (block_at V (held r) p)
+  before-own p there other = before-other (O p) (λ t g e. other (one_owner V n n H H p last was was there (e ∙ (gap-some t g).2)).1)
+
+  before-gap : (t : Tail) → gap_of V r.head offset ≡ Some t → (with_gap V (gap_of V r.head offset)).block (block_at V (held r) (r.head.size / 4096)) ≡ cleared (V.block (block_at V (held r) (r.head.size / 4096))) (r.head.size % 4096)
   before-gap t g =
-      ap (λ o. (with_gap V o).block (get_or r.head.blocks (r.head.size / 4096) 0)) (g ∙ ap Some (gap-some t g).3)
-      ∙ ap (λ b. cond b (cleared (V.block (get_or r.head.blocks (r.head.size / 4096) 0)) (r.head.size % 4096)) (V.block (get_or r.head.blocks (r.head.size / 4096) 0)))
-      (eq-eqb (get_or r.head.blocks (r.head.size / 4096) 0) (get_or r.head.blocks (r.head.size / 4096) 0) refl)
+      ap (λ o. (with_gap V o).block (O last)) g
+      ∙ ap (λ b. cond b (cleared (V.block t.block) t.from) (V.block (O last))) (eq-eqb (O last) t.block (sym (gap-some t g).2))
+      ∙ (λ z. cleared (V.block ((gap-some t g).2 z)) ((gap-some t g).3 z))
 
   -- ── blocks and records of the disk after it ──
 
-  gap-keeps : {A : Type 0} (f : View → A) → ((X : View) (b : ℕ) (v : List ℕ) → f (with_block X b v) ≡ f X) → f (with_gap V (gap_of r.head offset)) ≡ f V
-  gap-keeps f blocks = by (gap_of r.head offset)
+  gap-keeps : {A : Type 0} (f : View → A) → ((X : View) (b : ℕ) (v : List ℕ) → f (with_block X b v) ≡ f X) → f (with_gap V (gap_of V r.head offset)) ≡ f V
+  gap-keeps f blocks = by (gap_of V r.head offset)
     where
       by : (o : Option Tail) → f (with_gap V o) ≡ f V
       by None = refl
       by (Some t) = blocks V t.block (cleared (V.block t.block) t.from)
 
-  inodes-are : (laid (with_gap V (gap_of r.head offset)) n r.head.blocks k.blocks offset (offset + length bs) image 48).inode ≡ V.inode
-  inodes-are = laid-keeps (with_gap V (gap_of r.head offset)) n r.head.blocks k.blocks offset (offset + length bs) image (λ (X : View). X.inode) (λ X b v. refl) (λ X b o. refl) 48 ∙ gap-keeps (λ (X : View). X.inode) (λ X b v. refl)
+  inodes-are : (laid (with_gap V (gap_of V r.head offset)) n row count).inode ≡ V.inode
+  inodes-are = laid-keeps V1 n row (λ (X : View). X.inode) (λ X b v. refl) (λ X b o. refl) count ∙ gap-keeps (λ (X : View). X.inode) (λ X b v. refl)
 
-  numbers-are : (laid (with_gap V (gap_of r.head offset)) n r.head.blocks k.blocks offset (offset + length bs) image 48).numbers ≡ V.numbers
-  numbers-are = laid-keeps (with_gap V (gap_of r.head offset)) n r.head.blocks k.blocks offset (offset + length bs) image (λ (X : View). X.numbers) (λ X b v. refl) (λ X b o. refl) 48 ∙ gap-keeps (λ (X : View). X.numbers) (λ X b v. refl)
+  numbers-are : (laid (with_gap V (gap_of V r.head offset)) n row count).numbers ≡ V.numbers
+  numbers-are = laid-keeps V1 n row (λ (X : View). X.numbers) (λ X b v. refl) (λ X b o. refl) count ∙ gap-keeps (λ (X : View). X.numbers) (λ X b v. refl)
 
-  first-is : (laid (with_gap V (gap_of r.head offset)) n r.head.blocks k.blocks offset (offset + length bs) image 48).first_data ≡ V.first_data
-  first-is = laid-keeps (with_gap V (gap_of r.head offset)) n r.head.blocks k.blocks offset (offset + length bs) image (λ (X : View). X.first_data) (λ X b v. refl) (λ X b o. refl) 48 ∙ gap-keeps (λ (X : View). X.first_data) (λ X b v. refl)
+  first-is : (laid (with_gap V (gap_of V r.head offset)) n row count).first_data ≡ V.first_data
+  first-is = laid-keeps V1 n row (λ (X : View). X.first_data) (λ X b v. refl) (λ X b o. refl) count ∙ gap-keeps (λ (X : View). X.first_data) (λ X b v. refl)
 
-  many-are : (laid (with_gap V (gap_of r.head offset)) n r.head.blocks k.blocks offset (offset + length bs) image 48).data_blocks ≡ V.data_blocks
-  many-are = laid-keeps (with_gap V (gap_of r.head offset)) n r.head.blocks k.blocks offset (offset + length bs) image (λ (X : View). X.data_blocks) (λ X b v. refl) (λ X b o. refl) 48 ∙ gap-keeps (λ (X : View). X.data_blocks) (λ X b v. refl)
+  many-are : (laid (with_gap V (gap_of V r.head offset)) n row count).data_blocks ≡ V.data_blocks
+  many-are = laid-keeps V1 n row (λ (X : View). X.data_blocks) (λ X b v. refl) (λ X b o. refl) count ∙ gap-keeps (λ (X : View). X.data_blocks) (λ X b v. refl)
 
-  owners-before : (with_gap V (gap_of r.head offset)).owner ≡ V.owner
+  owners-before : (with_gap V (gap_of V r.head offset)).owner ≡ V.owner
   owners-before = gap-keeps (λ (X : View). X.owner) (λ X b v. refl)
 
-  -- in which bytes lie
-  block-in : (j : ℕ) → is_in offset (offset + length bs) j ≡ true → W.block (get_or k.blocks j 0) ≡ piece_of image offset j
-  block-in j in_it = block-laid (with_gap V (gap_of r.head offset)) n r.head.blocks k.blocks offset (offset + length bs) image j 48 (low-in j in_it) in_it (λ l other_in other. apart-own j l other_in other (in-some-block j in_it))
+  -- what is not written
+  block-out : (x : ℕ) → ((m : ℕ) → m < count → x ≢ N (row m).place) → W.block x ≡ (with_gap V (gap_of V r.head offset)).block x
+  block-out x other = block-unlaid V1 n row x count (λ m low _ e. other m low (e ∙ lays.block m low))
 
-  -- and in which none lie
-  block-out : (x : ℕ) → ((l : ℕ) → is_in offset (offset + length bs) l ≡ true → x ≢ get_or k.blocks l 0) → W.block x ≡ (with_gap V (gap_of r.head offset)).block x
-  block-out x other = block-unlaid (with_gap V (gap_of r.head offset)) n r.head.blocks k.blocks offset (offset + length bs) image x 48 (λ l low in_it. other l in_it)
+  block-own-out : (p : ℕ) → ((m : ℕ) → m < count → (row m).place ≢ p) → N p ≢ 0 → W.block (N p) ≡ (with_gap V (gap_of V r.head offset)).block (N p)
+  block-own-out p out there = block-out (N p) (λ m low. apart-own p m low (out m low) there)
 
-  block-own-out : (j : ℕ) → is_in offset (offset + length bs) j ≡ false → get_or k.blocks j 0 ≢ 0 → W.block (get_or k.blocks j 0) ≡ (with_gap V (gap_of r.head offset)).block (get_or k.blocks j 0)
-  block-own-out j out there = block-out (get_or k.blocks j 0) (λ l in_it. apart-own j l in_it (λ e. false≢true (sym out ∙ ap (is_in offset (offset + length bs)) (sym e) ∙ in_it)) there)
+  -- an index block that is not written, and any block but the last one
+  block-stays : (p : ℕ) → ((m : ℕ) → m < count → (row m).place ≢ p) → block_at V (held r) p ≢ 0 → p ≢ r.head.size / 4096 → W.block (block_at V (held r) p) ≡ V.block (block_at V (held r) p)
+  block-stays p out there other = subst (λ b. W.block b ≡ V1.block b) (unreached p out) (block-own-out p out (λ z. there (sym (unreached p out) ∙ z))) ∙ before-own p there other
 
-  piece-long : (j : ℕ) → is_in offset (offset + length bs) j ≡ true → length (piece_of image offset j) ≡ 4096
-  piece-long j in_it = let p = in-parts offset (offset + length bs) j in_it in let a = p.0 in let b = p.1 in
-      range-long image (4096 * j - begin_of offset) (4096 * j - begin_of offset + 4096) (omega (arith, long, a, b)) ∙ omega arith
-
-  -- ── the inode is sound ──
-
-  size-is : k.size ≡ max r.head.size (offset + length bs)
-  size-is = set.size
-
-  after : (j : ℕ) → k.size ≤ 4096 * j → get_or k.blocks j 0 ≡ 0
-  after j far = by (is_in offset (offset + length bs) j) refl
+  -- what is
+  block-at : (m : ℕ) → m < count → W.block (N (row m).place) ≡ (row m).bytes
+  block-at m low = by (row m).stays refl
     where
-      by : (b : Bool) → is_in offset (offset + length bs) j ≡ b → get_or k.blocks j 0 ≡ 0
-      by true b = let p = (in-parts offset (offset + length bs) j b).0 in let s = size-is in absurd (omega (arith, p, s, far))
-      by false b = stale j (out-stale j b) ∙ was.after j (let s = size-is in omega (arith, s, far))
+      differ : (i : ℕ) → (row m).stays ≡ true → (row i).stays ≡ false → i ≢ m
+      differ i a b e = false≢true (sym b ∙ ap (λ i. (row i).stays) e ∙ a)
 
-  sound-written : IsSoundInode W n K
-  sound-written = record {
-    owned = λ j there. owned j there (is_fresh r.head.blocks offset (offset + length bs) j) refl;
-    there = λ j there. subst (λ f. (f ≤ get_or k.blocks j 0) × (get_or k.blocks j 0 < f + W.data_blocks)) (sym first-is) (subst (λ d. (V.first_data ≤ get_or k.blocks j 0) × (get_or k.blocks j 0 < V.first_data + d)) (sym many-are) (within j there (is_fresh r.head.blocks offset (offset + length bs) j) refl));
-    after = after;
-    sized = λ j there. sized j there (is_in offset (offset + length bs) j) refl;
-    whole = λ d. absurd (cc (sym d ∙ set.kind ∙ a_file));
-  }
-    where
-      owned : (j : ℕ) → get_or k.blocks j 0 ≢ 0 → (t : Bool) → is_fresh r.head.blocks offset (offset + length bs) j ≡ t → W.owner (get_or k.blocks j 0) ≡ record { number = n; place = j }
-      owned j there true f = owner-laid (with_gap V (gap_of r.head offset)) n r.head.blocks k.blocks offset (offset + length bs) image j 48 (low-in j (fresh-in j f).1) f (λ l other_fresh other. apart-own j l (fresh-in l other_fresh).1 other there)
-      owned j there false f =
-          owner-unlaid (with_gap V (gap_of r.head offset)) n r.head.blocks k.blocks offset (offset + length bs) image (get_or k.blocks j 0) 48
-          (λ l low other_fresh. apart-own j l (fresh-in l other_fresh).1 (λ e. false≢true (sym f ∙ ap (is_fresh r.head.blocks offset (offset + length bs)) (sym e) ∙ other_fresh)) there)
-          ∙ ap (λ o. o (get_or k.blocks j 0)) owners-before
-          ∙ ap V.owner (stale j f)
-          ∙ was.owned j (λ z. there (stale j f ∙ z))
+      by : (t : Bool) → (row m).stays ≡ t → W.block (N (row m).place) ≡ (row m).bytes
+      by false t = ap W.block (sym (lays.block m low)) ∙ block-laid V1 n row m count low t (λ i inside other. rows-apart m i low inside other)
+      by true t =
+          let s = lays.stays m low t in
+          let own : N (row m).place ≡ O (row m).place = sym (lays.block m low) ∙ sym s.0 ∙ lays.was m low in
+          let there : O (row m).place ≢ 0 = λ z. place-some m low (own ∙ z) in
+          block-unlaid V1 n row (N (row m).place) count (λ i inside writes e. apart-own (row m).place i inside (lays.once i m inside low (differ i t writes)) (place-some m low) (e ∙ lays.block i inside))
+          ∙ ap V1.block own
+          ∙ before-own (row m).place there (λ e. let high = s.2 in absurd (omega (arith, e, high, small)))
+          ∙ ap V.block (sym (lays.was m low))
+          ∙ s.1 (λ z. there (sym (lays.was m low) ∙ z))
 
-      within : (j : ℕ) → get_or k.blocks j 0 ≢ 0 → (t : Bool) → is_fresh r.head.blocks offset (offset + length bs) j ≡ t → (V.first_data ≤ get_or k.blocks j 0) × (get_or k.blocks j 0 < V.first_data + V.data_blocks)
-      within j there true f = ((free j f).from, (free j f).to)
-      within j there false f = subst (λ b. (V.first_data ≤ b) × (b < V.first_data + V.data_blocks)) (sym (stale j f)) (was.there j (λ z. there (stale j f ∙ z)))
+  -- ── the numbers ──
 
-      before-sized : (x : ℕ) → length (V.block x) ≡ 4096 → length ((with_gap V (gap_of r.head offset)).block x) ≡ 4096
-      before-sized x whole = by (gap_of r.head offset) refl
+  module _ (numbers : IsIndexed V (held r) N row count k) where
+    number-some : (X : View) (b i : ℕ) → b ≢ 0 → number_in X b i ≡ word_at (X.block b) (4 * i)
+    number-some X b i there = ap (λ t. cond t 0 (word_at (X.block b) (4 * i))) (ne_eqb b 0 there)
+
+    number-none : (X : View) (b i : ℕ) → b ≡ 0 → number_in X b i ≡ 0
+    number-none X b i none = ap (λ t. cond t 0 (word_at (X.block b) (4 * i))) (eq-eqb b 0 none)
+
+    -- a block of numbers that is not written has the same
+    same-number : (p i : ℕ) → ((m : ℕ) → m < count → (row m).place ≢ p) → 2147483648 ≤ p → number_in W (block_at V (held r) p) i ≡ number_in V (block_at V (held r) p) i
+    same-number p i out high = by (cases_eq (O p) 0)
+      where
+        by : (O p ≡ 0) ⊎ (O p ≡ 0 → ⊥) → number_in W (O p) i ≡ number_in V (O p) i
+        by (inl none) = number-none W (O p) i none ∙ sym (number-none V (O p) i none)
+        by (inr there) = ap (λ v. cond (eqb (O p) 0) 0 (word_at v (4 * i))) (block-stays p out there (λ e. absurd (omega (arith, e, high, small))))
+
+    leaf-is : (i : ℕ) → i < 1024 → index_block W K i ≡ N (2147483649 + i)
+    leaf-is i low = ap (λ b. number_in W b i) numbers.index ∙ by (is-at row count 2147483648)
+      where
+        by : IsAt row count 2147483648 ⊎ ((m : ℕ) → m < count → (row m).place ≢ 2147483648) → number_in W (N 2147483648) i ≡ N (2147483649 + i)
+        by (inl f) =
+            number-some W (N 2147483648) i (λ z. place-some f.i f.low (ap N f.is ∙ z))
+            ∙ ap (λ p. word_at (W.block (N p)) (4 * i)) (sym f.is)
+            ∙ ap (λ v. word_at v (4 * i)) (block-at f.i f.low)
+            ∙ numbers.root f.i i f.low f.is low
+        by (inr out) =
+            ap (λ b. number_in W b i) (unreached 2147483648 out)
+            ∙ same-number 2147483648 i out (omega arith)
+            ∙ ap (λ b. number_in V b i) (at-index V H)
+            ∙ sym (at-leaf V H i low)
+            ∙ sym (numbers.no_root out i low)
+
+    indexed-is : (i l : ℕ) → i < 1024 → l < 1024 → number_in W (index_block W K i) l ≡ N (48 + 1024 * i + l)
+    indexed-is i l low inside = ap (λ b. number_in W b l) (leaf-is i low) ∙ by (is-at row count (2147483649 + i))
+      where
+        by : IsAt row count (2147483649 + i) ⊎ ((m : ℕ) → m < count → (row m).place ≢ 2147483649 + i) → number_in W (N (2147483649 + i)) l ≡ N (48 + 1024 * i + l)
+        by (inl f) =
+            number-some W (N (2147483649 + i)) l (λ z. place-some f.i f.low (ap N f.is ∙ z))
+            ∙ ap (λ p. word_at (W.block (N p)) (4 * l)) (sym f.is)
+            ∙ ap (λ v. word_at v (4 * l)) (block-at f.i f.low)
+            ∙ numbers.leaf f.i i l f.low f.is low inside
+        by (inr out) =
+            ap (λ b. number_in W b l) (unreached (2147483649 + i) out)
+            ∙ same-number (2147483649 + i) l out (omega arith)
+            ∙ ap (λ b. number_in V b l) (at-leaf V H i low)
+            ∙ sym (at-indexed V H i l low inside)
+            ∙ sym (numbers.no_leaf i low out l inside)
+
+    -- the inode has the blocks that it is to have
+    pub blocks-are : (p : ℕ) → block_at W (held_of k (name_from r.bytes)) p ≡ N p
+    blocks-are p = by (place_kind p)
+      where
+        by : PlaceOf p → block_at W K p ≡ N p
+        by (PlaceOf.direct_place low) = at-direct W K p low ∙ numbers.direct p low
+        by (PlaceOf.content_place i l low inside same) = ap (block_at W K) same ∙ at-indexed W K i l low inside ∙ indexed-is i l low inside ∙ ap N (sym same)
+        by (PlaceOf.index_place same) = ap (block_at W K) same ∙ at-index W K ∙ numbers.index ∙ ap N (sym same)
+        by (PlaceOf.leaf_place i low same) = ap (block_at W K) same ∙ at-leaf W K i low ∙ leaf-is i low ∙ ap N (sym same)
+        by (PlaceOf.no_place past other far) = at-none W K p past other far ∙ sym (numbers.none p past other far)
+
+    module _ (c : Caller) (now : Time) (s : Numbers) (set : IsWrittenHead c now r.head s (offset + length bs) k) where
+      -- ── the inode is sound ──
+
+      size-is : k.size ≡ max r.head.size (offset + length bs)
+      size-is = set.size
+
+      -- a new block is written, and its record
+      writes : (i : ℕ) → i < count → block_at V (held r) (row i).place ≡ 0 → (row i).stays ≡ false
+      writes i low none = by (row i).stays refl
         where
-          by : (o : Option Tail) → gap_of r.head offset ≡ o → length ((with_gap V o).block x) ≡ 4096
+          by : (t : Bool) → (row i).stays ≡ t → t ≡ false
+          by false t = refl
+          by true t = let q = lays.stays i low t in absurd (place-some i low (sym (lays.block i low) ∙ sym q.0 ∙ lays.was i low ∙ none))
+
+      owned : (p : ℕ) → N p ≢ 0 → W.owner (N p) ≡ record { number = n; place = p }
+      owned p there = by (fresh-or p)
+        where
+          by : ((f : IsAt row count p) × (O p ≡ 0)) ⊎ (N p ≡ O p) → W.owner (N p) ≡ record { number = n; place = p }
+          by (inl f) =
+              let none : O (row f.0.i).place ≡ 0 = ap O f.0.is ∙ f.1 in
+              ap (λ p. W.owner (N p)) (sym f.0.is)
+              ∙ ap W.owner (sym (lays.block f.0.i f.0.low))
+              ∙ owner-laid V1 n row f.0.i count f.0.low (writes f.0.i f.0.low none) (lays.was f.0.i f.0.low ∙ none) (λ m inside other. rows-apart f.0.i m f.0.low inside other)
+              ∙ (λ z. record { number = n; place = f.0.is z })
+          by (inr kept) =
+              owner-unlaid V1 n row (N p) count (λ m inside _ none e. apart-own p m inside (λ same. there (kept ∙ ap O (sym same) ∙ sym (lays.was m inside) ∙ none)) there (e ∙ lays.block m inside))
+              ∙ ap (λ o. o (N p)) owners-before
+              ∙ ap V.owner kept
+              ∙ was.owned p (λ z. there (kept ∙ z))
+
+      within : (p : ℕ) → N p ≢ 0 → (V.first_data ≤ N p) × (N p < V.first_data + V.data_blocks)
+      within p there = by (fresh-or p)
+        where
+          by : ((f : IsAt row count p) × (O p ≡ 0)) ⊎ (N p ≡ O p) → (V.first_data ≤ N p) × (N p < V.first_data + V.data_blocks)
+          by (inl f) = let q = lays.free f.0.i f.0.low (ap O f.0.is ∙ f.1) in subst (λ p. (V.first_data ≤ N p) × (N p < V.first_data + V.data_blocks)) f.0.is (q.from, q.to)
+          by (inr kept) = subst (λ b. (V.first_data ≤ b) × (b < V.first_data + V.data_blocks)) (sym kept) (was.there p (λ z. there (kept ∙ z)))
+
+      after : (p : ℕ) → k.size ≤ begin_at p → N p ≡ 0
+      after p far = by (fresh-or p)
+        where
+          by : ((f : IsAt row count p) × (O p ≡ 0)) ⊎ (N p ≡ O p) → N p ≡ 0
+          by (inl f) = let early = lays.early f.0.i f.0.low in let same = ap begin_at f.0.is in let z = size-is in absurd (omega (arith, early, same, z, far))
+          by (inr kept) = kept ∙ was.after p (let z = size-is in omega (arith, z, far))
+
+      before-sized : (x : ℕ) → length (V.block x) ≡ 4096 → length ((with_gap V (gap_of V r.head offset)).block x) ≡ 4096
+      before-sized x whole = by (gap_of V r.head offset) refl
+        where
+          by : (o : Option Tail) → gap_of V r.head offset ≡ o → length ((with_gap V o).block x) ≡ 4096
           by None g = whole
           by (Some t) g = at (cases_eq x t.block)
             where
               at : (x ≡ t.block) ⊎ (x ≡ t.block → ⊥) → length (cond (eqb x t.block) (cleared (V.block t.block) t.from) (V.block x)) ≡ 4096
               at (inl same) =
                   ap (λ b. length (cond b (cleared (V.block t.block) t.from) (V.block x))) (eq-eqb x t.block same)
-                  ∙ cleared-long (V.block t.block) t.from (ap (λ x. length (V.block x)) (sym same) ∙ whole) (let e = ap (λ (t : Tail). t.from) (gap-some t g).3 in omega (arith, e))
+                  ∙ cleared-long (V.block t.block) t.from (ap (λ x. length (V.block x)) (sym same) ∙ whole) (let e = (gap-some t g).3 in omega (arith, e))
               at (inr other) = ap (λ b. length (cond b (cleared (V.block t.block) t.from) (V.block x))) (ne_eqb x t.block other) ∙ whole
 
-      sized : (j : ℕ) → get_or k.blocks j 0 ≢ 0 → (t : Bool) → is_in offset (offset + length bs) j ≡ t → length (W.block (get_or k.blocks j 0)) ≡ 4096
-      sized j there true in_it = ap length (block-in j in_it) ∙ piece-long j in_it
-      sized j there false out = ap length (block-own-out j out there) ∙ before-sized (get_or k.blocks j 0) (ap (λ x. length (V.block x)) (stale j (out-stale j out)) ∙ was.sized j (λ z. there (stale j (out-stale j out) ∙ z)))
-
-  -- ── the step ──
-
-  pub step-written : IsNodeStep V W n H K
-  step-written = record {
-    form = record { numbers = numbers-are; first_data = first-is; data_blocks = many-are };
-    is = is;
-    new = inode-same U n (used K);
-    others = λ i other. inode-other U n i (used K) other ∙ ap (λ f. f i) inodes-are;
-    blocks = λ i g j other at there. block-out (g.blocks j) (λ l in_it. apart i g j l other at there in_it) ∙ before-other (g.blocks j) (λ t gap same. apart-gap i g j other at there t gap same);
-    owners = λ i g j other at there.
-        owner-unlaid (with_gap V (gap_of r.head offset)) n r.head.blocks k.blocks offset (offset + length bs) image (g.blocks j) 48 (λ l low other_fresh. apart i g j l other at there (fresh-in l other_fresh).1)
-        ∙ ap (λ o. o (g.blocks j)) owners-before;
-    sound = sound-written;
-    home = λ z. record { directory = set.directory z; place = set.place z; name = name_from r.bytes };
-    generation = set.generation;
-    entries = λ place. ap (λ kind. entry_by W kind K place) (set.kind ∙ a_file) ∙ sym (ap (λ kind. entry_by V kind H place) a_file);
-  }
-    where
-      apart-gap : (i : ℕ) (g : Held) (j : ℕ) → i ≢ n → V.inode i ≡ used g → g.blocks j ≢ 0 → (t : Tail) → gap_of r.head offset ≡ Some t → g.blocks j ≡ t.block → ⊥
-      apart-gap i g j other at there t gap same =
-          let e = same ∙ gap-number t gap in
-          other (sym (one_owner V n i H g (r.head.size / 4096) j was (sound.inodes i g at) (gap-some t gap).2 (sym e)).0)
-
-  -- ── its bytes ──
-
-  -- in a block in which bytes lie
-  byte-in : (i : ℕ) → is_in offset (offset + length bs) (i / 4096) ≡ true → byte_at W K i ≡ get_or image (i - begin_of offset) 0
-  byte-in i in_it =
-      let p = in-parts offset (offset + length bs) (i / 4096) in_it in let a = p.0 in let b = p.1 in
-      in-some W (get_or k.blocks (i / 4096) 0) (i % 4096) (in-some-block (i / 4096) in_it)
-      ∙ ap (λ v. get_or v (i % 4096) 0) (block-in (i / 4096) in_it)
-      ∙ range-at image (4096 * (i / 4096) - begin_of offset) (4096 * (i / 4096) - begin_of offset + 4096) (i % 4096) (omega arith)
-      ∙ ap (λ k. get_or image k 0) (let e : 4096 * (i / 4096) - begin_of offset + i % 4096 ≡ i - begin_of offset = omega (arith, a, b) in e)
-
-  -- in another, before the file's end as it was
-  byte-out : (i : ℕ) → is_in offset (offset + length bs) (i / 4096) ≡ false → i < r.head.size → byte_at W K i ≡ byte_at V H i
-  byte-out i out inside = ap (λ b. get_or (bytes_in W b) (i % 4096) 0) (stale (i / 4096) (out-stale (i / 4096) out)) ∙ by (cases_eq (get_or r.head.blocks (i / 4096) 0) 0)
-    where
-      same-block : get_or r.head.blocks (i / 4096) 0 ≢ 0 → W.block (get_or r.head.blocks (i / 4096) 0) ≡ (with_gap V (gap_of r.head offset)).block (get_or r.head.blocks (i / 4096) 0)
-      same-block there = subst (λ b. W.block b ≡ (with_gap V (gap_of r.head offset)).block b) (stale (i / 4096) (out-stale (i / 4096) out)) (block-own-out (i / 4096) out (λ z. there (sym (stale (i / 4096) (out-stale (i / 4096) out)) ∙ z)))
-
-      at-end : (t : Tail) → gap_of r.head offset ≡ Some t → get_or r.head.blocks (i / 4096) 0 ≢ 0 → (get_or r.head.blocks (i / 4096) 0 ≡ get_or r.head.blocks (r.head.size / 4096) 0) ⊎ (get_or r.head.blocks (i / 4096) 0 ≡ get_or r.head.blocks (r.head.size / 4096) 0 → ⊥)
-          → get_or ((with_gap V (gap_of r.head offset)).block (get_or r.head.blocks (i / 4096) 0)) (i % 4096) 0 ≡ get_or (V.block (get_or r.head.blocks (i / 4096) 0)) (i % 4096) 0
-      at-end t g there (inl same) =
-          ap (λ b. get_or ((with_gap V (gap_of r.head offset)).block b) (i % 4096) 0) same
-          ∙ ap (λ v. get_or v (i % 4096) 0) (before-gap t g)
-          ∙ cleared-front (V.block (get_or r.head.blocks (r.head.size / 4096) 0)) (r.head.size % 4096) (i % 4096) (was.sized (r.head.size / 4096) (λ z. there (same ∙ z))) (omega arith) low
-          ∙ ap (λ b. get_or (V.block b) (i % 4096) 0) (sym same)
+      sized : (p : ℕ) → N p ≢ 0 → length (W.block (N p)) ≡ 4096
+      sized p there = by (is-at row count p)
         where
-          one : i / 4096 ≡ r.head.size / 4096
-          one = (one_owner V n n H H (i / 4096) (r.head.size / 4096) was was there same).1
+          by : IsAt row count p ⊎ ((i : ℕ) → i < count → (row i).place ≢ p) → length (W.block (N p)) ≡ 4096
+          by (inl f) = ap (λ p. length (W.block (N p))) (sym f.is) ∙ ap length (block-at f.i f.low) ∙ lays.whole f.i f.low
+          by (inr out) = ap length (block-own-out p out there) ∙ before-sized (N p) (ap (λ x. length (V.block x)) (unreached p out) ∙ was.sized p (λ z. there (unreached p out ∙ z)))
 
-          low : i % 4096 < r.head.size % 4096
-          low = let o = one in omega (arith, o, inside)
-      at-end t g there (inr other) = ap (λ v. get_or v (i % 4096) 0) (before-other (get_or r.head.blocks (i / 4096) 0) (λ t g e. other (e ∙ gap-number t g)))
+      sound-written : IsSoundInode W n (held_of k (name_from r.bytes))
+      sound-written = record {
+        owned = λ p there. subst (λ b. W.owner b ≡ record { number = n; place = p }) (sym (blocks-are p)) (owned p (λ z. there (blocks-are p ∙ z)));
+        there = λ p there. subst (λ b. (W.first_data ≤ b) × (b < W.first_data + W.data_blocks)) (sym (blocks-are p))
+            (subst (λ f. (f ≤ N p) × (N p < f + W.data_blocks)) (sym first-is) (subst (λ d. (V.first_data ≤ N p) × (N p < V.first_data + d)) (sym many-are) (within p (λ z. there (blocks-are p ∙ z)))));
+        after = λ p far. blocks-are p ∙ after p far;
+        sized = λ p there. ap (λ b. length (W.block b)) (blocks-are p) ∙ sized p (λ z. there (blocks-are p ∙ z));
+        whole = λ d. absurd (cc (sym d ∙ set.kind ∙ a_file));
+        plain = λ other. absurd (other (set.kind ∙ a_file));
+        first = λ j past. get_or_past k.blocks j 0 (let l = numbers.count_is in omega (arith, l, past));
+      }
 
-      before-is : get_or r.head.blocks (i / 4096) 0 ≢ 0 → get_or ((with_gap V (gap_of r.head offset)).block (get_or r.head.blocks (i / 4096) 0)) (i % 4096) 0 ≡ get_or (V.block (get_or r.head.blocks (i / 4096) 0)) (i % 4096) 0
-      before-is there = at (gap_of r.head offset) refl
+      -- ── the step ──
+
+      pub step-written : IsNodeStep V W n (held r) (held_of k (name_from r.bytes))
+      step-written = record {
+        form = record { numbers = numbers-are; first_data = first-is; data_blocks = many-are };
+        is = is;
+        new = inode-same U n (used K);
+        others = λ i other. inode-other U n i (used K) other ∙ ap (λ f. f i) inodes-are;
+        blocks = λ i g p other at there. block-out (block_at V g p) (λ m low. apart i g p m other at there low) ∙ before-other (block_at V g p) (λ t g_is same. apart-gap i g p other at there t g_is same);
+        owners = λ i g p other at there. owner-unlaid V1 n row (block_at V g p) count (λ m low _ none e. apart i g p m other at there low (e ∙ lays.block m low)) ∙ ap (λ o. o (block_at V g p)) owners-before;
+        sound = sound-written;
+        home = λ z. record { directory = set.directory z; place = set.place z; name = name_from r.bytes };
+        generation = set.generation;
+        entries = λ place. ap (λ kind. entry_by W kind K place) (set.kind ∙ a_file) ∙ sym (ap (λ kind. entry_by V kind H place) a_file);
+      }
         where
-          at : (o : Option Tail) → gap_of r.head offset ≡ o → get_or ((with_gap V (gap_of r.head offset)).block (get_or r.head.blocks (i / 4096) 0)) (i % 4096) 0 ≡ get_or (V.block (get_or r.head.blocks (i / 4096) 0)) (i % 4096) 0
-          at None g = ap (λ o. get_or ((with_gap V o).block (get_or r.head.blocks (i / 4096) 0)) (i % 4096) 0) g
-          at (Some t) g = at-end t g there (cases_eq (get_or r.head.blocks (i / 4096) 0) (get_or r.head.blocks (r.head.size / 4096) 0))
+          apart-gap : (i : ℕ) (g : Held) (p : ℕ) → i ≢ n → V.inode i ≡ used g → block_at V g p ≢ 0 → (t : Tail) → gap_of V r.head offset ≡ Some t → block_at V g p ≡ t.block → ⊥
+          apart-gap i g p other at there t g_is same =
+              let e : block_at V g p ≡ O last = same ∙ (gap-some t g_is).2 in
+              other (sym (one_owner V n i H g last p was (sound.inodes i g at) (gap-some t g_is).1 (sym e)).0)
 
-      by : (get_or r.head.blocks (i / 4096) 0 ≡ 0) ⊎ (get_or r.head.blocks (i / 4096) 0 ≡ 0 → ⊥) → get_or (bytes_in W (get_or r.head.blocks (i / 4096) 0)) (i % 4096) 0 ≡ byte_at V H i
-      by (inl none) = in-none W (get_or r.head.blocks (i / 4096) 0) (i % 4096) none (omega arith) ∙ sym (in-none V (get_or r.head.blocks (i / 4096) 0) (i % 4096) none (omega arith))
-      by (inr there) =
-          in-some W (get_or r.head.blocks (i / 4096) 0) (i % 4096) there
-          ∙ ap (λ v. get_or v (i % 4096) 0) (same-block there)
-          ∙ before-is there
-          ∙ sym (in-some V (get_or r.head.blocks (i / 4096) 0) (i % 4096) there)
+      -- ── its bytes ──
 
-  -- and after it
-  byte-gap : (i : ℕ) → is_in offset (offset + length bs) (i / 4096) ≡ false → r.head.size ≤ i → i < offset → byte_at W K i ≡ 0
-  byte-gap i out past low = ap (λ b. get_or (bytes_in W b) (i % 4096) 0) (stale (i / 4096) (out-stale (i / 4096) out)) ∙ by (cases_eq (get_or r.head.blocks (i / 4096) 0) 0)
-    where
-      last : get_or r.head.blocks (i / 4096) 0 ≢ 0 → 4096 * (i / 4096) < r.head.size
-      last there = at (cases_lt (4096 * (i / 4096)) r.head.size)
-        where
-          at : (4096 * (i / 4096) < r.head.size) ⊎ (r.head.size ≤ 4096 * (i / 4096)) → 4096 * (i / 4096) < r.head.size
-          at (inl before) = before
-          at (inr far) = absurd (there (was.after (i / 4096) far))
+      module _ (im : IsImage V r.head offset bs image) (long : length image ≡ image_bytes offset (offset + length bs)) where
+        byte-is : (i : ℕ) → byte_at W (held_of k (name_from r.bytes)) i ≡ get_or (bytes_in W (N (i / 4096))) (i % 4096) 0
+        byte-is i = ap (λ b. get_or (bytes_in W b) (i % 4096) 0) (blocks-are (i / 4096))
 
-      same : get_or r.head.blocks (i / 4096) 0 ≢ 0 → i / 4096 ≡ r.head.size / 4096
-      same there = let l = last there in omega (arith, l, past)
+        -- in a block in which bytes lie
+        byte-in : (i : ℕ) → is_in offset (offset + length bs) (i / 4096) ≡ true → get_or (bytes_in W (N (i / 4096))) (i % 4096) 0 ≡ get_or image (i - begin_of offset) 0
+        byte-in i in_it =
+            let p = in-parts offset to (i / 4096) in_it in let a = p.0 in let b = p.1 in
+            let q = lays.at (i / 4096) in_it in
+            in-some W (N (i / 4096)) (i % 4096) (λ z. place-some (i / 4096 - offset / 4096) q.0 (ap N q.1 ∙ z))
+            ∙ ap (λ p. get_or (W.block (N p)) (i % 4096) 0) (sym q.1)
+            ∙ ap (λ v. get_or v (i % 4096) 0) (block-at (i / 4096 - offset / 4096) q.0 ∙ lays.piece (i / 4096) in_it)
+            ∙ range-at image (4096 * (i / 4096) - begin_of offset) (4096 * (i / 4096) - begin_of offset + 4096) (i % 4096) (omega arith)
+            ∙ ap (λ k. get_or image k 0) (let e : 4096 * (i / 4096) - begin_of offset + i % 4096 ≡ i - begin_of offset = omega (arith, a, b) in e)
 
-      not_first : get_or r.head.blocks (i / 4096) 0 ≢ 0 → r.head.size / 4096 ≢ offset / 4096
-      not_first there e = false≢true (sym out ∙ in-both offset (offset + length bs) (i / 4096) (omega (arith, low)) (let s = same there in omega (arith, s, e)))
+        out-at : (i : ℕ) → i < 4295163904 → is_in offset (offset + length bs) (i / 4096) ≡ false → (m : ℕ) → m < count → (row m).place ≢ i / 4096
+        out-at i low out = lays.out (i / 4096) out (omega (arith, low))
 
-      gap-is : get_or r.head.blocks (i / 4096) 0 ≢ 0 → gap_of r.head offset ≡ tail_of r.head offset
-      gap-is there = ap (λ b. cond b None (tail_of r.head offset)) (ne_eqb (r.head.size / 4096) (offset / 4096) (not_first there))
+        -- in another, before the file's end as it was
+        byte-out : (i : ℕ) → is_in offset (offset + length bs) (i / 4096) ≡ false → i < r.head.size → get_or (bytes_in W (N (i / 4096))) (i % 4096) 0 ≡ byte_at V (held r) i
+        byte-out i out inside = ap (λ b. get_or (bytes_in W b) (i % 4096) 0) (unreached (i / 4096) others) ∙ by (cases_eq (O (i / 4096)) 0)
+          where
+            others : (m : ℕ) → m < count → (row m).place ≢ i / 4096
+            others = out-at i (omega (arith, inside, small)) out
 
-      is-zero : get_or r.head.blocks (i / 4096) 0 ≢ 0 → (o : Option Tail) → gap_of r.head offset ≡ o → get_or (bytes_in W (get_or r.head.blocks (i / 4096) 0)) (i % 4096) 0 ≡ 0
-      is-zero there None g = absurd (there (ap (λ j. get_or r.head.blocks j 0) (same there) ∙ no-tail r.head offset small (sym (gap-is there) ∙ g) (omega (arith, past, low)) (let l = last there in let s = same there in omega (arith, l, s))))
-      is-zero there (Some t) g =
-          in-some W (get_or r.head.blocks (i / 4096) 0) (i % 4096) there
-          ∙ ap (λ v. get_or v (i % 4096) 0) (subst (λ b. W.block b ≡ (with_gap V (gap_of r.head offset)).block b) (stale (i / 4096) (out-stale (i / 4096) out)) (block-own-out (i / 4096) out (λ z. there (sym (stale (i / 4096) (out-stale (i / 4096) out)) ∙ z))))
-          ∙ ap (λ j. get_or ((with_gap V (gap_of r.head offset)).block (get_or r.head.blocks j 0)) (i % 4096) 0) (same there)
-          ∙ ap (λ v. get_or v (i % 4096) 0) (before-gap t g)
-          ∙ cleared-back (V.block (get_or r.head.blocks (r.head.size / 4096) 0)) (r.head.size % 4096) (i % 4096) (was.sized (r.head.size / 4096) (gap-some t g).2) (omega arith) (let s = same there in omega (arith, s, past)) (omega arith)
+            same-block : O (i / 4096) ≢ 0 → W.block (O (i / 4096)) ≡ V1.block (O (i / 4096))
+            same-block there = subst (λ b. W.block b ≡ V1.block b) (unreached (i / 4096) others) (block-own-out (i / 4096) others (λ z. there (sym (unreached (i / 4096) others) ∙ z)))
 
-      by : (get_or r.head.blocks (i / 4096) 0 ≡ 0) ⊎ (get_or r.head.blocks (i / 4096) 0 ≡ 0 → ⊥) → get_or (bytes_in W (get_or r.head.blocks (i / 4096) 0)) (i % 4096) 0 ≡ 0
-      by (inl none) = in-none W (get_or r.head.blocks (i / 4096) 0) (i % 4096) none (omega arith)
-      by (inr there) = is-zero there (gap_of r.head offset) refl
+            before-is : O (i / 4096) ≢ 0 → get_or (V1.block (O (i / 4096))) (i % 4096) 0 ≡ get_or (V.block (O (i / 4096))) (i % 4096) 0
+            before-is there = at (cases_eq (i / 4096) last) (gap_of V r.head offset) refl
+              where
+                at : (i / 4096 ≡ last) ⊎ (i / 4096 ≡ last → ⊥) → (o : Option Tail) → gap_of V r.head offset ≡ o → get_or (V1.block (O (i / 4096))) (i % 4096) 0 ≡ get_or (V.block (O (i / 4096))) (i % 4096) 0
+                at (inr other) o g = ap (λ v. get_or v (i % 4096) 0) (before-own (i / 4096) there other)
+                at (inl same) None g = ap (λ o. get_or ((with_gap V o).block (O (i / 4096))) (i % 4096) 0) g
+                at (inl same) (Some t) g =
+                    ap (λ p. get_or (V1.block (O p)) (i % 4096) 0) same
+                    ∙ ap (λ v. get_or v (i % 4096) 0) (before-gap t g)
+                    ∙ cleared-front (V.block (O last)) (r.head.size % 4096) (i % 4096) (was.sized last (gap-some t g).1) (omega arith) (omega (arith, same, inside))
+                    ∙ ap (λ p. get_or (V.block (O p)) (i % 4096) 0) (sym same)
 
-  held-long : length (content V H) ≡ r.head.size
-  held-long = length-content V n H was
+            by : (O (i / 4096) ≡ 0) ⊎ (O (i / 4096) ≡ 0 → ⊥) → get_or (bytes_in W (O (i / 4096))) (i % 4096) 0 ≡ byte_at V H i
+            by (inl none) = in-none W (O (i / 4096)) (i % 4096) none (omega arith) ∙ sym (in-none V (O (i / 4096)) (i % 4096) none (omega arith))
+            by (inr there) =
+                in-some W (O (i / 4096)) (i % 4096) there
+                ∙ ap (λ v. get_or v (i % 4096) 0) (same-block there)
+                ∙ before-is there
+                ∙ sym (in-some V (O (i / 4096)) (i % 4096) there)
 
-  each : (i : ℕ) → i < k.size → get_or (content W K) i 0 ≡ get_or (overlaid (content V H) offset bs) i 0
-  each i low = content-at W n K sound-written i low ∙ by (cases_lt i offset) (cases_lt i (offset + length bs)) (cases_lt i r.head.size) (is_in offset (offset + length bs) (i / 4096)) refl
-    where
-      there : is_in offset (offset + length bs) (i / 4096) ≡ true → i - begin_of offset < length image
-      there in_it = let p = in-parts offset (offset + length bs) (i / 4096) in_it in let a = p.0 in let b = p.1 in omega (arith, long, a, b)
+        -- and after it
+        byte-gap : (i : ℕ) → is_in offset (offset + length bs) (i / 4096) ≡ false → r.head.size ≤ i → i < offset → get_or (bytes_in W (N (i / 4096))) (i % 4096) 0 ≡ 0
+        byte-gap i out past low = ap (λ b. get_or (bytes_in W b) (i % 4096) 0) (unreached (i / 4096) others) ∙ by (cases_eq (O (i / 4096)) 0)
+          where
+            others : (m : ℕ) → m < count → (row m).place ≢ i / 4096
+            others = out-at i (omega (arith, low, fits)) out
 
-      back : is_in offset (offset + length bs) (i / 4096) ≡ true → begin_of offset + (i - begin_of offset) ≡ i
-      back in_it = let p = in-parts offset (offset + length bs) (i / 4096) in_it in let b = p.1 in omega (arith, b)
+            begins : O (i / 4096) ≢ 0 → 4096 * (i / 4096) < r.head.size
+            begins there = at (cases_lt (4096 * (i / 4096)) r.head.size)
+              where
+                at : (4096 * (i / 4096) < r.head.size) ⊎ (r.head.size ≤ 4096 * (i / 4096)) → 4096 * (i / 4096) < r.head.size
+                at (inl before) = before
+                at (inr far) = absurd (there (was.after (i / 4096) (subst (λ b. r.head.size ≤ b) (sym (begin-content (i / 4096) (omega (arith, low, fits)))) far)))
 
-      -- where it was before
-      stays : (i < offset) ⊎ (offset + length bs ≤ i) → i < r.head.size → (t : Bool) → is_in offset (offset + length bs) (i / 4096) ≡ t → byte_at W K i ≡ byte_at V H i
-      stays beside inside false out = byte-out i out inside
-      stays beside inside true in_it =
-          let e = back in_it in
-          byte-in i in_it
-          ∙ im.old (i - begin_of offset) (there in_it) (subst (λ k. (k < offset) ⊎ (offset + length bs ≤ k)) (sym e) beside) (subst (λ k. k < r.head.size) (sym e) inside)
-          ∙ ap (byte_at V H) e
+            same : O (i / 4096) ≢ 0 → i / 4096 ≡ r.head.size / 4096
+            same there = let l = begins there in omega (arith, l, past)
 
-      goes : i < offset → r.head.size ≤ i → (t : Bool) → is_in offset (offset + length bs) (i / 4096) ≡ t → byte_at W K i ≡ 0
-      goes before past false out = byte-gap i out past before
-      goes before past true in_it =
-          let e = back in_it in
-          byte-in i in_it
-          ∙ im.blank (i - begin_of offset) (there in_it) (subst (λ k. (k < offset) ⊎ (offset + length bs ≤ k)) (sym e) (inl before)) (subst (λ k. r.head.size ≤ k) (sym e) past)
+            before_it : O (i / 4096) ≢ 0 → r.head.size / 4096 < offset / 4096
+            before_it there = at (cases_lt last (offset / 4096))
+              where
+                at : (last < offset / 4096) ⊎ (offset / 4096 ≤ last) → last < offset / 4096
+                at (inl l) = l
+                at (inr l) = absurd (false≢true (sym out ∙ in-both offset to (i / 4096) (omega (arith, low)) (let s = same there in omega (arith, s, l))))
 
-      -- where it is new
-      comes : offset ≤ i → i < offset + length bs → byte_at W K i ≡ get_or bs (i - offset) 0
-      comes past before =
-          let in_it = in-both offset (offset + length bs) (i / 4096) (omega (arith, before)) (omega (arith, past)) in
-          let e = back in_it in
-          byte-in i in_it
-          ∙ im.new (i - begin_of offset) (there in_it) (subst (λ k. offset ≤ k) (sym e) past) (subst (λ k. k < offset + length bs) (sym e) before)
-          ∙ ap (λ k. get_or bs (k - offset) 0) e
+            is-zero : O (i / 4096) ≢ 0 → (o : Option Tail) → gap_of V r.head offset ≡ o → get_or (bytes_in W (O (i / 4096))) (i % 4096) 0 ≡ 0
+            is-zero there None g = absurd (there (ap O (same there) ∙ gap-none 0 g (before_it there)))
+            is-zero there (Some t) g =
+                in-some W (O (i / 4096)) (i % 4096) there
+                ∙ ap (λ v. get_or v (i % 4096) 0) (subst (λ b. W.block b ≡ V1.block b) (unreached (i / 4096) others) (block-own-out (i / 4096) others (λ z. there (sym (unreached (i / 4096) others) ∙ z))))
+                ∙ ap (λ p. get_or (V1.block (O p)) (i % 4096) 0) (same there)
+                ∙ ap (λ v. get_or v (i % 4096) 0) (before-gap t g)
+                ∙ cleared-back (V.block (O last)) (r.head.size % 4096) (i % 4096) (was.sized last (gap-some t g).1) (omega arith) (let s = same there in omega (arith, s, past)) (omega arith)
 
-      was-inside : i < r.head.size → i < length (content V H)
-      was-inside inside = let l = held-long in omega (arith, l, inside)
+            by : (O (i / 4096) ≡ 0) ⊎ (O (i / 4096) ≡ 0 → ⊥) → get_or (bytes_in W (O (i / 4096))) (i % 4096) 0 ≡ 0
+            by (inl none) = in-none W (O (i / 4096)) (i % 4096) none (omega arith)
+            by (inr there) = is-zero there (gap_of V r.head offset) refl
 
-      was-past : r.head.size ≤ i → length (content V H) ≤ i
-      was-past past = let l = held-long in omega (arith, l, past)
+        held-long : length (content V (held r)) ≡ r.head.size
+        held-long = length-content V n (held r) was
 
-      by : (i < offset) ⊎ (offset ≤ i) → (i < offset + length bs) ⊎ (offset + length bs ≤ i) → (i < r.head.size) ⊎ (r.head.size ≤ i) → (t : Bool) → is_in offset (offset + length bs) (i / 4096) ≡ t
-          → byte_at W K i ≡ get_or (overlaid (content V H) offset bs) i 0
-      by (inl before) _ (inl inside) t is_t = stays (inl before) inside t is_t ∙ sym (overlaid-front (content V H) offset bs i before (was-inside inside) ∙ content-at V n H was i inside)
-      by (inl before) _ (inr past) t is_t = goes before past t is_t ∙ sym (overlaid-gap (content V H) offset bs i before (was-past past))
-      by (inr after_it) (inl before) _ t is_t = comes after_it before ∙ sym (overlaid-new (content V H) offset bs i after_it before)
-      by (inr after_it) (inr past) (inl inside) t is_t = stays (inr past) inside t is_t ∙ sym (overlaid-back (content V H) offset bs i past ∙ content-at V n H was i inside)
-      by (inr after_it) (inr past) (inr far) t is_t = let s = size-is in absurd (omega (arith, s, low, past, far))
+        each : (i : ℕ) → i < k.size → get_or (content W (held_of k (name_from r.bytes))) i 0 ≡ get_or (overlaid (content V (held r)) offset bs) i 0
+        each i low = content-at W n K sound-written i low ∙ byte-is i ∙ by (cases_lt i offset) (cases_lt i (offset + length bs)) (cases_lt i r.head.size) (is_in offset (offset + length bs) (i / 4096)) refl
+          where
+            there : is_in offset (offset + length bs) (i / 4096) ≡ true → i - begin_of offset < length image
+            there in_it = let p = in-parts offset (offset + length bs) (i / 4096) in_it in let a = p.0 in let b = p.1 in omega (arith, long, a, b)
 
-  bytes-are : content W K ≡ overlaid (content V H) offset bs
-  bytes-are = ext_get_or 0 (content W K) (overlaid (content V H) offset bs) (is_long ∙ sym new_long) (λ i low. each i (let l = is_long in omega (arith, l, low)))
-    where
-      is_long : length (content W K) ≡ k.size
-      is_long = length-content W n K sound-written
+            back : is_in offset (offset + length bs) (i / 4096) ≡ true → begin_of offset + (i - begin_of offset) ≡ i
+            back in_it = let p = in-parts offset (offset + length bs) (i / 4096) in_it in let b = p.1 in omega (arith, b)
 
-      new_long : length (overlaid (content V H) offset bs) ≡ k.size
-      new_long = overlaid-long (content V H) offset bs ∙ ap (λ n. max n (offset + length bs)) held-long ∙ sym size-is
+            -- where it was before
+            stays : (i < offset) ⊎ (offset + length bs ≤ i) → i < r.head.size → (t : Bool) → is_in offset (offset + length bs) (i / 4096) ≡ t → get_or (bytes_in W (N (i / 4096))) (i % 4096) 0 ≡ byte_at V H i
+            stays beside inside false out = byte-out i out inside
+            stays beside inside true in_it =
+                let e = back in_it in
+                byte-in i in_it
+                ∙ im.old (i - begin_of offset) (there in_it) (subst (λ k. (k < offset) ⊎ (offset + length bs ≤ k)) (sym e) beside) (subst (λ k. k < r.head.size) (sym e) inside)
+                ∙ ap (λ i. get_or (bytes_in V (file_blocks V r.head (i / 4096))) (i % 4096) 0) e
+                ∙ ap (λ b. get_or (bytes_in V b) (i % 4096) 0) (file-is (i / 4096))
 
-  pub node-written : node_of W K ≡ written_node c (node_of V H) (overlaid (content V H) offset bs) now
-  node-written = λ z. record {
-    attributes = set.attributes ctime z;
-    home = record { directory = set.directory z; place = set.place z; name = name_from r.bytes };
-    body = (ap (λ kind. body_of W kind K) (set.kind ∙ a_file) ∙ ap file bytes-are) z;
-  }
+            goes : i < offset → r.head.size ≤ i → (t : Bool) → is_in offset (offset + length bs) (i / 4096) ≡ t → get_or (bytes_in W (N (i / 4096))) (i % 4096) 0 ≡ 0
+            goes before past false out = byte-gap i out past before
+            goes before past true in_it =
+                let e = back in_it in
+                byte-in i in_it
+                ∙ im.blank (i - begin_of offset) (there in_it) (subst (λ k. (k < offset) ⊎ (offset + length bs ≤ k)) (sym e) (inl before)) (subst (λ k. r.head.size ≤ k) (sym e) past)
+
+            -- where it is new
+            comes : offset ≤ i → i < offset + length bs → get_or (bytes_in W (N (i / 4096))) (i % 4096) 0 ≡ get_or bs (i - offset) 0
+            comes past before =
+                let in_it = in-both offset (offset + length bs) (i / 4096) (omega (arith, before)) (omega (arith, past)) in
+                let e = back in_it in
+                byte-in i in_it
+                ∙ im.new (i - begin_of offset) (there in_it) (subst (λ k. offset ≤ k) (sym e) past) (subst (λ k. k < offset + length bs) (sym e) before)
+                ∙ ap (λ k. get_or bs (k - offset) 0) e
+
+            was-inside : i < r.head.size → i < length (content V H)
+            was-inside inside = let l = held-long in omega (arith, l, inside)
+
+            was-past : r.head.size ≤ i → length (content V H) ≤ i
+            was-past past = let l = held-long in omega (arith, l, past)
+
+            by : (i < offset) ⊎ (offset ≤ i) → (i < offset + length bs) ⊎ (offset + length bs ≤ i) → (i < r.head.size) ⊎ (r.head.size ≤ i) → (t : Bool) → is_in offset (offset + length bs) (i / 4096) ≡ t
+                → get_or (bytes_in W (N (i / 4096))) (i % 4096) 0 ≡ get_or (overlaid (content V H) offset bs) i 0
+            by (inl before) _ (inl inside) t is_t = stays (inl before) inside t is_t ∙ sym (overlaid-front (content V H) offset bs i before (was-inside inside) ∙ content-at V n H was i inside)
+            by (inl before) _ (inr past) t is_t = goes before past t is_t ∙ sym (overlaid-gap (content V H) offset bs i before (was-past past))
+            by (inr after_it) (inl before) _ t is_t = comes after_it before ∙ sym (overlaid-new (content V H) offset bs i after_it before)
+            by (inr after_it) (inr past) (inl inside) t is_t = stays (inr past) inside t is_t ∙ sym (overlaid-back (content V H) offset bs i past ∙ content-at V n H was i inside)
+            by (inr after_it) (inr past) (inr far) t is_t = let s = size-is in absurd (omega (arith, s, low, past, far))
+
+        bytes-are : content W (held_of k (name_from r.bytes)) ≡ overlaid (content V (held r)) offset bs
+        bytes-are = ext_get_or 0 (content W K) (overlaid (content V H) offset bs) (is_long ∙ sym new_long) (λ i low. each i (let l = is_long in omega (arith, l, low)))
+          where
+            is_long : length (content W K) ≡ k.size
+            is_long = length-content W n K sound-written
+
+            new_long : length (overlaid (content V H) offset bs) ≡ k.size
+            new_long = overlaid-long (content V H) offset bs ∙ ap (λ n. max n (offset + length bs)) held-long ∙ sym size-is
+
+        ctime : IsTime r.head.attributes.ctime
+        ctime = (sound.fit.nodes n (node_of V (held r)) (inode-node V n (held r) is)).ctime
+
+        pub node-written : node_of W (held_of k (name_from r.bytes)) ≡ written_node c (node_of V (held r)) (overlaid (content V (held r)) offset bs) now
+        node-written = λ z. record {
+          attributes = set.attributes ctime z;
+          home = record { directory = set.directory z; place = set.place z; name = name_from r.bytes };
+          body = (ap (λ kind. body_of W kind K) (set.kind ∙ a_file) ∙ ap file bytes-are) z;
+        }

@@ -1,8 +1,9 @@
 -- READ.
-use Rattle.std.proofs.Common.{◌≡◌, ℕ, ◌+◌, ◌-◌, ◌*◌, ◌/◌, ◌<◌, ◌≤◌, Bool, true, false, cond, List, [], length, get_or, take, drop, Option, Some, None, Ok, Err, refl, sym, ap, subst, ◌⊎◌, inl, inr, ◌∙◌, arith}
+use Rattle.std.proofs.Common.{◌≡◌, ℕ, ◌+◌, ◌-◌, ◌*◌, ◌/◌, ◌%◌, ◌<◌, ◌≤◌, Bool, true, false, cond, List, [], length, get_or, take, drop, Option, Some, None, Ok, Err, refl, sym, ap, subst, ◌⊎◌, inl, inr, ◌∙◌, arith}
 use Rattle.std.specs.Prelude.{Result, nat_le, slice_range}
 use Rattle.std.proofs.lemmas.Bool.{cases_lt, and_right, lt-leb}
 use Rattle.std.proofs.lemmas.List.{ext_get_or, nil_from_length}
+use Rattle.journal_tree.specs.declared.limits.TheConstants.{MOST_BYTES, MOST_FILE_BLOCKS}
 use Rattle.journal_tree.specs.declared.time.Time.{Time}
 use Rattle.journal_tree.specs.declared.reply.Handle.{Handle}
 use Rattle.journal_tree.specs.declared.reply.Kind.{Kind}
@@ -20,7 +21,8 @@ use Rattle.journal_tree.specs.Op.Call.{read}
 use Rattle.journal_tree.specs.Op.Reply.{bytes_read}
 use Rattle.journal_tree.specs.Op.Op.{answers_read}
 use Rattle.journal_treestore.specs.declared.inode.Head.{Head}
-use Rattle.journal_treestore.specs.Views.{Held, View, content, body_of, node_of, tree_of}
+use Rattle.journal_treestore.specs.Inodes.{name_from}
+use Rattle.journal_treestore.specs.Views.{Held, View, bytes_in, content, body_of, node_of, tree_of}
 use Rattle.journal_treestore.specs.Views.Seen.{used}
 use Rattle.journal_treestore.specs.Sound.{IsSoundInode, IsSoundView}
 use Rattle.journal_treestore.proofs.Viewing.{inode-node}
@@ -28,13 +30,14 @@ use Rattle.journal_treecalls.specs.declared.node.Record.{Record}
 use Rattle.journal_treecalls.specs.declared.portion.ReadReply.{ReadReply}
 use Rattle.journal_treecalls.specs.Disks.{Write, Learns, Does}
 use Rattle.journal_treecalls.specs.Targets.{held, IsNode, IsTarget, told_of}
-use Rattle.journal_treecalls.specs.Fetches.{is_whole, IsFetched}
+use Rattle.journal_treecalls.specs.Fetches.{is_whole, file_blocks, IsFetched}
 use Rattle.journal_treecalls.specs.Portions.{reading_by, reading_status, reach_of, portion_told, no_span, HasPortion, ReadsNode}
 use Rattle.journal_treecalls.specs.Portions.ReadsNode.{kept, fetches}
 use Rattle.journal_treecalls.proofs.Learning.{learns-as, does-reads}
 use Rattle.journal_treecalls.proofs.Learned.{AreSound}
 use Rattle.journal_treecalls.proofs.Cases.{at-gone, at-node, node-told, length-content}
 use Rattle.journal_treecalls.proofs.Holding.{content-at}
+use Rattle.journal_treecalls.proofs.Numbers.{file-named}
 use Rattle.journal_treecalls.proofs.Fetching.{range-long, range-at}
 
 -- ── the bytes ──
@@ -43,12 +46,12 @@ use Rattle.journal_treecalls.proofs.Fetching.{range-long, range-at}
 none-whole : (j : ℕ) → is_whole (record { from = 0; to = 0 }) j ≡ false
 none-whole j = and_right (nat_le 0 (4096 * j)) (nat_le (4096 * (j + 1)) 0) (lt-leb (4096 * (j + 1)) 0 (omega arith))
 
-pub small-file : (V : View) (n : ℕ) (x : Held) → IsSoundView V → V.inode n ≡ used x → x.kind ≡ File → x.size ≤ 196608
-small-file V n x sound is file_is = subst (λ l. l ≤ 196608) (length-content V n x (sound.inodes n x is))
+pub small-file : (V : View) (n : ℕ) (x : Held) → IsSoundView V → V.inode n ≡ used x → x.kind ≡ File → x.size ≤ MOST_BYTES
+small-file V n x sound is file_is = subst (λ l. l ≤ MOST_BYTES) (length-content V n x (sound.inodes n x is))
     (subst IsFitBody (ap (λ kind. body_of V kind x) file_is) (sound.fit.nodes n (node_of V x) (inode-node V n x is)).body)
 
-module _ (V : View) (n : ℕ) (r : Record) (offset count : ℕ) (bytes : List ℕ) (sound : IsSoundInode V n (held r)) (small : r.head.size ≤ 196608)
-    (long : length bytes ≡ reach_of r.head.size offset count - offset) (fetched : IsFetched V r.head.blocks no_span offset 48 bytes) where
+module _ (V : View) (n : ℕ) (r : Record) (offset count : ℕ) (bytes : List ℕ) (sound : IsSoundInode V n (held r)) (small : r.head.size ≤ MOST_BYTES)
+    (long : length bytes ≡ reach_of r.head.size offset count - offset) (fetched : IsFetched V (file_blocks V r.head) no_span offset MOST_FILE_BLOCKS bytes) where
   abbrev reach : ℕ
   reach = reach_of r.head.size offset count
 
@@ -62,6 +65,7 @@ module _ (V : View) (n : ℕ) (r : Record) (offset count : ℕ) (bytes : List �
   each : (k : ℕ) → k < length bytes → get_or bytes k 0 ≡ get_or (content V (held r)) (offset + k) 0
   each k low =
       fetched.done k low (omega (arith, long, low, small)) (none-whole ((offset + k) / 4096))
+      ∙ ap (λ b. get_or (bytes_in V b) ((offset + k) % 4096) 0) (sym (file-named V r.head (name_from r.bytes) ((offset + k) / 4096)))
       ∙ sym (content-at V n (held r) sound (offset + k) (omega (arith, long, low)))
 
   pub bytes-read : bytes ≡ slice_range (content V (held r)) offset (reach_of r.head.size offset count)
@@ -151,7 +155,7 @@ pub node-read : (old new : View → Type 0) (c : Caller) (n : ℕ) (r : Record) 
 node-read old new c n r offset count o reply is on l = learns-as old new _ _ l (λ V m has. fetches reply (sym is ∙ on) has)
 
 pub file-read : (first old : View → Type 0) (n : ℕ) (h : Head) (offset count reach : ℕ) (zeros : List ℕ) (reply : ReadReply) → reply.file ≡ told_of n h → reach ≡ reach_of h.size offset count → length zeros ≡ reach - offset
-    → length reply.bytes.items ≡ length zeros → reply.is_end ≡ nat_le h.size reach → Learns first old (λ V. IsFetched V h.blocks no_span offset 48 reply.bytes.items) → Learns first old (λ V. HasPortion V n h offset count reply)
+    → length reply.bytes.items ≡ length zeros → reply.is_end ≡ nat_le h.size reach → Learns first old (λ V. IsFetched V (file_blocks V h) no_span offset MOST_FILE_BLOCKS reply.bytes.items) → Learns first old (λ V. HasPortion V n h offset count reply)
 file-read first old n h offset count reach zeros reply file_is reach_is zeros_long long ends l = learns-as first old _ _ l (λ V m f. record {
   file = file_is;
   long = long ∙ zeros_long ∙ ap (λ k. k - offset) reach_is;

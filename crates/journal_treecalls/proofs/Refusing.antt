@@ -3,7 +3,6 @@ use Rattle.std.proofs.Common.{◌≡◌, Bool, true, false, cond, List, [], ℕ,
 use Rattle.std.specs.Prelude.{Result}
 use Rattle.journal_tree.specs.declared.time.Time.{Time}
 use Rattle.journal_tree.specs.declared.reply.Handle.{Handle}
-use Rattle.journal_tree.specs.declared.settings.CreateMode.TheVariants.{Exclusive}
 use Rattle.journal_tree.specs.declared.caller.Caller.{Caller}
 use Rattle.journal_tree.specs.declared.status.Status.{Status}
 use Rattle.journal_tree.specs.declared.status.Status.TheVariants.{Exists, NoAccess, NotSupported, Stale}
@@ -11,9 +10,9 @@ use Rattle.journal_tree.specs.Trees.{Node}
 use Rattle.journal_tree.specs.Rights.{may_rename}
 use Rattle.journal_tree.specs.Calls.{Outcome, refused, target, allowed, named as named_case}
 use Rattle.journal_tree.specs.Names.{make_other_case}
-use Rattle.journal_tree.specs.Op.Call.{create, mknod, link}
-use Rattle.journal_tree.specs.Op.Reply.{made, not_done}
-use Rattle.journal_tree.specs.Op.Op.{answers_create, answers_mknod, answers_link}
+use Rattle.journal_tree.specs.Op.Call.{mknod, link}
+use Rattle.journal_tree.specs.Op.Reply.{not_done}
+use Rattle.journal_tree.specs.Op.Op.{answers_mknod, answers_link}
 use Rattle.journal_treestore.specs.Views.{View, tree_of}
 use Rattle.journal_treestore.specs.Sound.{IsSoundView}
 use Rattle.journal_treecalls.specs.declared.node.Record.{Record}
@@ -67,10 +66,6 @@ module _ (first old : View → Type 0) (c : Caller) (h : Handle) (name : List �
 -- ── the calls ──
 
 module _ (old new : View → Type 0) (ws : List Write) (none : ws ≡ []) (sound : AreSound new) (c : Caller) (h : Handle) (name : List ℕ) (now : Time) (status : Status) (l : Learns old new (λ V. IsRefused V c h name status)) where
-  pub exclusive-does : Does new ws (create h name Exclusive) c now (made (Err status))
-  exclusive-does = does-reads new ws (create h name Exclusive) c now (made (Err status)) none sound (λ V m.
-      answers_create h name Exclusive None c now (tree_of V) (tree_of V) (Err status) tt (sym (making-refused V h c name (sound V m) status (l.now V m))))
-
   pub mknod-does : Does new ws (mknod h name) c now (not_done (Err status))
   mknod-does = does-reads new ws (mknod h name) c now (not_done (Err status)) none sound (λ V m.
       answers_mknod h name c now (tree_of V) (tree_of V) (Err status) (sym (making-refused V h c name (sound V m) status (l.now V m))))

@@ -27,11 +27,13 @@ use Rattle.journal_treestore.specs.Views.Seen.{used}
 use Rattle.journal_treestore.specs.Sound.{IsSoundView}
 use Rattle.journal_treecalls.specs.declared.node.Record.{Record}
 use Rattle.journal_treecalls.specs.declared.setting.Tail.{Tail}
+use Rattle.journal_treecalls.specs.declared.setting.Tails.{Tails}
+use Rattle.journal_treecalls.specs.declared.setting.Tails.TheVariants.{NoTail, OneTail, TwoTails}
 use Rattle.journal_treecalls.specs.Disks.{Write, inode_seen, written, Learns, Does}
 use Rattle.journal_treecalls.specs.Disks.Write.{inode_write, block_write}
 use Rattle.journal_treecalls.specs.Targets.{held, IsNode, IsTarget, told_of}
 use Rattle.journal_treecalls.specs.Names.{is_file_kind}
-use Rattle.journal_treecalls.specs.Sizes.{setting_status, IsSetHead, tail_of, cleared, changed_told, with_head, with_cleared, with_set, PutsPlain, PutsCleared, SetsHead, SetsAllowed, IsSetting, SetsNode}
+use Rattle.journal_treecalls.specs.Sizes.{setting_status, IsSetHead, tails_of, cleared, changed_told, with_set, PutsHead, SetsHead, SetsAllowed, IsSetting, SetsNode}
 use Rattle.journal_treecalls.specs.Sizes.IsSet.{stays, sets}
 use Rattle.journal_treecalls.specs.Sizes.IsSetting.{kept, done}
 use Rattle.journal_treecalls.proofs.Learning.{does-reads}
@@ -63,14 +65,14 @@ module _ (V : View) (h : Handle) (c : Caller) (s : Settings) (guard : Option Tim
   refuses false false true true false true status rest is = ap (λ s. refused s (tree_of V)) (cc)
   refuses false false true true false false status rest is = absurd (cc (is))
 
-  passes : (a b d e f g : Bool) (rest : Outcome Changed) → status_by a b d e f g ≡ None → (a ≡ false) × (chain a b d e f g rest ≡ rest)
+  passes : (a b d e f g : Bool) (rest : Outcome Changed) → status_by a b d e f g ≡ None → (a ≡ false) × (g ≡ false) × (chain a b d e f g rest ≡ rest)
   passes true b d e f g rest is = absurd (cc (is))
   passes false true d e f g rest is = absurd (cc (is))
   passes false false false e f g rest is = absurd (cc (is))
   passes false false true false f g rest is = absurd (cc (is))
   passes false false true true true g rest is = absurd (cc (is))
   passes false false true true false true rest is = absurd (cc (is))
-  passes false false true true false false rest is = (refl, refl)
+  passes false false true true false false rest is = (refl, refl, refl)
 
   module _ (r : Record) (sound : IsSoundView V) (node : IsNode V h r) where
     abbrev rest : Outcome Changed
@@ -95,8 +97,8 @@ module _ (V : View) (h : Handle) (c : Caller) (s : Settings) (guard : Option Tim
         ∙ refuses (is_some s.size && not (is_file_kind r.head.kind)) (is_no_time s.mtime) (may_set c s r.head.attributes) (may_set_bytes c s r.head.attributes) (is_other_time guard r.head.attributes.ctime) (is_too_big s.size) status rest why))
 
     module _ (on : setting_status c s guard r.head ≡ None) where
-      all : (is_some s.size && not (is_file_kind r.head.kind) ≡ false) × (setattr_case c s guard now (tree_of V) (target (tree_of V) h) ≡ rest)
-      all = let p = passes (is_some s.size && not (is_file_kind r.head.kind)) (is_no_time s.mtime) (may_set c s r.head.attributes) (may_set_bytes c s r.head.attributes) (is_other_time guard r.head.attributes.ctime) (is_too_big s.size) rest on in (p.0, found ∙ p.1)
+      all : (is_some s.size && not (is_file_kind r.head.kind) ≡ false) × (is_too_big s.size ≡ false) × (setattr_case c s guard now (tree_of V) (target (tree_of V) h) ≡ rest)
+      all = let p = passes (is_some s.size && not (is_file_kind r.head.kind)) (is_no_time s.mtime) (may_set c s r.head.attributes) (may_set_bytes c s r.head.attributes) (is_other_time guard r.head.attributes.ctime) (is_too_big s.size) rest on in (p.0, p.1, found ∙ p.2)
 
       unsized : r.head.kind ≢ File → s.size ≡ None
       unsized other = by s.size (sym (ap (λ b. is_some s.size && not b) (no_file r.head.kind other)) ∙ all.0)
@@ -114,23 +116,23 @@ module _ (V : View) (h : Handle) (c : Caller) (s : Settings) (guard : Option Tim
       told-before = node-told V h r sound node
 
       pub set-stays : asks_nothing s ≡ true → Op (setattr h s guard) c now (tree_of V) (set_reply (Ok (changed_told h.number r.head r.head))) (tree_of V)
-      set-stays nothing = answers_setattr h s guard c now (tree_of V) (tree_of V) (Ok (changed_told h.number r.head r.head)) (sym (all.1
+      set-stays nothing = answers_setattr h s guard c now (tree_of V) (tree_of V) (Ok (changed_told h.number r.head r.head)) (sym (all.2
           ∙ ap (λ t. cond t (unchanged (tree_of V) h.number (node_of V (held r))) (changed (tree_of V) h.number (node_of V (held r)) (with_settings c s (node_of V (held r)) now))) nothing
           ∙ (λ i. (Ok (record { before = told-before i; after = told-before i }), tree_of V))))
 
-      module _ (k : Head) (set : IsSetHead c s now r.head k) (something : asks_nothing s ≡ false) (W : View) (writes : W ≡ with_set V h.number r k (tail_of r.head k.size)) where
+      module _ (k : Head) (set : IsSetHead c s now r.head k) (something : asks_nothing s ≡ false) (W : View) (writes : W ≡ with_set V h.number r k (tails_of V r.head k.size)) where
         abbrev K : Held
         K = held_of k (name_from r.bytes)
 
         both : IsNodeStep V W h.number (held r) K × (node_of W K ≡ with_settings c s (node_of V (held r)) now)
         both = subst (λ W. IsNodeStep V W h.number (held r) (held_of k (name_from r.bytes)) × (node_of W (held_of k (name_from r.bytes)) ≡ with_settings c s (node_of V (held r)) now)) (sym writes)
-            (set-step V h.number r k c s now sound node.is set unsized)
+            (set-step V h.number r k c s now sound node.is set unsized all.1)
 
         told-after : told h.number (with_settings c s (node_of V (held r)) now) ≡ told_of h.number k
         told-after = ap (told h.number) (sym both.1) ∙ told-is W h.number (held_of k (name_from r.bytes)) both.0.sound
 
         pub set-done : Op (setattr h s guard) c now (tree_of V) (set_reply (Ok (changed_told h.number r.head k))) (tree_of W)
-        set-done = answers_setattr h s guard c now (tree_of V) (tree_of W) (Ok (changed_told h.number r.head k)) (sym (all.1
+        set-done = answers_setattr h s guard c now (tree_of V) (tree_of W) (Ok (changed_told h.number r.head k)) (sym (all.2
             ∙ ap (λ t. cond t (unchanged (tree_of V) h.number (node_of V (held r))) (changed (tree_of V) h.number (node_of V (held r)) (with_settings c s (node_of V (held r)) now))) something
             ∙ (λ i. (Ok (record { before = told-before i; after = told-after i }), sym (tree-step V W h.number (held r) (held_of k (name_from r.bytes)) sound both.0 ∙ ap (λ x. with_node (tree_of V) h.number (Some x)) both.1) i))))
 
@@ -139,20 +141,28 @@ module _ (V : View) (h : Handle) (c : Caller) (s : Settings) (guard : Option Tim
 
 -- ── the writes ──
 
-pub plain-is : (ws before : List Write) (V : View) (n : ℕ) (r : Record) (k : Head) (bytes : List ℕ) → ws ≡ inode_write n bytes ∷ before → before ≡ [] → inode_seen bytes ≡ used (held_of k (name_from r.bytes)) → written ws V ≡ with_head V n r k
+pub plain-is : (ws before : List Write) (V : View) (n : ℕ) (r : Record) (k : Head) (bytes : List ℕ) → ws ≡ inode_write n bytes ∷ before → before ≡ [] → inode_seen bytes ≡ used (held_of k (name_from r.bytes)) → written ws V ≡ with_set V n r k NoTail
 plain-is ws before V n r k bytes is none shown = ap (λ ws. written ws V) (is ∙ ap (λ ws. inode_write n bytes ∷ ws) none) ∙ ap (with_inode V n) shown
 
 pub cleared-is : (ws after before : List Write) (V : View) (n : ℕ) (r : Record) (k : Head) (t : Tail) (v w bytes : List ℕ) → ws ≡ inode_write n bytes ∷ after → after ≡ block_write t.block w ∷ before → before ≡ [] → V.block t.block ≡ v → w ≡ cleared v t.from
-    → inode_seen bytes ≡ used (held_of k (name_from r.bytes)) → written ws V ≡ with_cleared V n r k t
+    → inode_seen bytes ≡ used (held_of k (name_from r.bytes)) → written ws V ≡ with_set V n r k (OneTail t)
 cleared-is ws after before V n r k t v w bytes is then none at put shown =
     ap (λ ws. written ws V) (is ∙ ap (λ ws. inode_write n bytes ∷ ws) (then ∙ ap (λ ws. block_write t.block w ∷ ws) none))
     ∙ (λ i. with_inode (with_block V t.block ((put ∙ ap (λ v. cleared v t.from) (sym at)) i)) n (shown i))
 
-pub head-plain : (old new : View → Type 0) (ws : List Write) (n : ℕ) (r : Record) (k : Head) (o : Option Tail) (changed : Changed) → o ≡ tail_of r.head k.size → o ≡ None → PutsPlain old new ws n r k changed → SetsHead old new ws n r k changed
-head-plain old new ws n r k o changed tail none p = record { same = p.same; is = λ V m. p.is V m ∙ ap (with_set V n r k) (sym none ∙ tail); told = p.told }
+-- two blocks, and the inode
+pub both-are : (ws last after before : List Write) (V : View) (n : ℕ) (r : Record) (k : Head) (t u : Tail) (v w x y bytes : List ℕ) → ws ≡ inode_write n bytes ∷ last → last ≡ block_write u.block y ∷ after → after ≡ block_write t.block x ∷ before → before ≡ []
+    → V.block t.block ≡ v → x ≡ cleared v t.from → V.block u.block ≡ w → y ≡ cleared w u.from → inode_seen bytes ≡ used (held_of k (name_from r.bytes)) → written ws V ≡ with_set V n r k (TwoTails t u)
+both-are ws last after before V n r k t u v w x y bytes is then first none at put other_at other_put shown =
+    ap (λ ws. written ws V) (is ∙ ap (λ ws. inode_write n bytes ∷ ws) (then ∙ ap (λ ws. block_write u.block y ∷ ws) (first ∙ ap (λ ws. block_write t.block x ∷ ws) none)))
+    ∙ (λ i. with_inode (with_block (with_block V t.block ((put ∙ ap (λ v. cleared v t.from) (sym at)) i)) u.block ((other_put ∙ ap (λ v. cleared v u.from) (sym other_at)) i)) n (shown i))
 
-pub head-cleared : (old new : View → Type 0) (ws : List Write) (n : ℕ) (r : Record) (k : Head) (t : Tail) (o : Option Tail) (changed : Changed) → o ≡ tail_of r.head k.size → o ≡ Some t → PutsCleared old new ws n r k t changed → SetsHead old new ws n r k changed
-head-cleared old new ws n r k t o changed tail some p = record { same = p.same; is = λ V m. p.is V m ∙ ap (with_set V n r k) (sym some ∙ tail); told = p.told }
+pub head-puts : (first old new : View → Type 0) (ws : List Write) (n : ℕ) (r : Record) (k : Head) (o t : Tails) (changed : Changed) → Learns first old (λ V. tails_of V r.head k.size ≡ o) → o ≡ t → PutsHead old new ws n r k t changed → SetsHead first new ws n r k changed
+head-puts first old new ws n r k o t changed l is p = record {
+  same = λ V m. l.before V (p.same V m);
+  is = λ V m. p.is V m ∙ ap (with_set V n r k) (sym is ∙ sym (l.now V (p.same V m)));
+  told = p.told;
+}
 
 pub allowed-stays : (may : View → Type 0) (ws : List Write) (c : Caller) (s : Settings) (now : Time) (n : ℕ) (r : Record) (t : Told) → ws ≡ [] → asks_nothing s ≡ true → t ≡ told_of n r.head → SetsAllowed may may ws c s now n r (record { before = t; after = t })
 allowed-stays may ws c s now n r t none nothing tells = record { same = λ V m. m; is = λ V m. stays nothing (ap (λ ws. written ws V) none) (λ i. record { before = tells i; after = tells i }) }

@@ -1,5 +1,5 @@
 -- One node is written: its inode, and blocks that no other node has.
-use Rattle.std.proofs.Common.{◌≡◌, ◌≢◌, ℕ, zero, suc, ◌+◌, ◌/◌, ◌%◌, ◌<◌, ◌≤◌, cond, eqb, ◌++◌, length, take, Some, refl, sym, ap, subst, ◌⊎◌, inl, inr, ◌∙◌}
+use Rattle.std.proofs.Common.{◌≡◌, ◌≢◌, ℕ, ◌+◌, ◌/◌, ◌%◌, cond, eqb, length, take, Some, refl, sym, ap, subst, ◌⊎◌, inl, inr, ◌∙◌}
 use Rattle.std.proofs.lemmas.Bool.{cases_eq, eq-eqb, ne_eqb}
 use Rattle.journal_tree.specs.declared.reply.Kind.{Kind}
 use Rattle.journal_tree.specs.declared.reply.Kind.TheVariants.{Directory, File, Link}
@@ -11,10 +11,11 @@ use Rattle.journal_tree.specs.Op.{Call, Reply, Op}
 use Rattle.journal_tree.specs.Trees.{with_node}
 use Rattle.journal_tree.specs.Trees.Body.{file, link}
 use Rattle.journal_treestore.specs.Entries.{no_entry, entry_from}
-use Rattle.journal_treestore.specs.Views.{Held, Seen, View, zero_block, bytes_in, bytes_of, body_of, node_of, slot_of, tree_of, entry_in, entry_by, entry_of, entry_at, home_in, homes}
+use Rattle.journal_treestore.specs.Views.{Held, Seen, View, block_at, bytes_of, body_of, node_of, slot_of, tree_of, entry_in, entry_by, entry_of, entry_at, home_in, homes}
 use Rattle.journal_treestore.specs.Views.Seen.{free, used}
 use Rattle.journal_treestore.specs.Sound.{IsHung, IsSoundInode, IsSoundView}
 use Rattle.journal_treestore.specs.Steps.{IsSameForm, Shows}
+use Rattle.journal_treestore.proofs.Indexing.{first-at, block_at-frame, bytes_of-frame, bytes_in-frame, sound-frame}
 use Rattle.journal_treestore.proofs.Keeping.{calls-stay-sound}
 
 -- Inode n was of these fields, and is of those. It hangs where it did and has the entries that it
@@ -24,27 +25,26 @@ pub record IsNodeStep (V W : View) (n : ℕ) (h k : Held) : Type 0 where
   pub is : V.inode n ≡ used h
   pub new : W.inode n ≡ used k
   pub others : (i : ℕ) → i ≢ n → W.inode i ≡ V.inode i
-  pub blocks : (i : ℕ) (g : Held) (j : ℕ) → i ≢ n → V.inode i ≡ used g → g.blocks j ≢ 0 → W.block (g.blocks j) ≡ V.block (g.blocks j)
-  pub owners : (i : ℕ) (g : Held) (j : ℕ) → i ≢ n → V.inode i ≡ used g → g.blocks j ≢ 0 → W.owner (g.blocks j) ≡ V.owner (g.blocks j)
+  pub blocks : (i : ℕ) (g : Held) (p : ℕ) → i ≢ n → V.inode i ≡ used g → block_at V g p ≢ 0 → W.block (block_at V g p) ≡ V.block (block_at V g p)
+  pub owners : (i : ℕ) (g : Held) (p : ℕ) → i ≢ n → V.inode i ≡ used g → block_at V g p ≢ 0 → W.owner (block_at V g p) ≡ V.owner (block_at V g p)
   pub sound : IsSoundInode W n k
   pub home : k.home ≡ h.home
   pub generation : k.generation ≡ h.generation
   pub entries : (place : ℕ) → entry_of W (used k) place ≡ entry_of V (used h) place
 
 module _ (V W : View) (n : ℕ) (h k : Held) (sound : IsSoundView V) (step : IsNodeStep V W n h k) where
-  -- what other nodes have stays
-  bytes-kept : (i : ℕ) (g : Held) → i ≢ n → V.inode i ≡ used g → (l : ℕ) → bytes_in W (g.blocks l) ≡ bytes_in V (g.blocks l)
-  bytes-kept i g other at l = by (cases_eq (g.blocks l) 0)
-    where
-      by : (g.blocks l ≡ 0) ⊎ (g.blocks l ≡ 0 → ⊥) → bytes_in W (g.blocks l) ≡ bytes_in V (g.blocks l)
-      by (inl none) = ap (bytes_in W) none ∙ sym (ap (bytes_in V) none)
-      by (inr some) = ap (λ v. cond (eqb (g.blocks l) 0) zero_block v) (step.blocks i g l other at some)
+  -- what other nodes have stays, index blocks among it
+  pub block-kept : (i : ℕ) (g : Held) → i ≢ n → V.inode i ≡ used g → (p : ℕ) → block_at W g p ≡ block_at V g p
+  block-kept i g other at = block_at-frame V W g (λ p _ some. step.blocks i g p other at some)
 
-  bytes_of-kept : (i : ℕ) (g : Held) → i ≢ n → V.inode i ≡ used g → (l : ℕ) → bytes_of W g.blocks l ≡ bytes_of V g.blocks l
-  bytes_of-kept i g other at zero = refl
-  bytes_of-kept i g other at (suc l) =
-      ap (λ v. v ++ bytes_in W (g.blocks l)) (bytes_of-kept i g other at l)
-      ∙ ap (λ v. bytes_of V g.blocks l ++ v) (bytes-kept i g other at l)
+  bytes_of-kept : (i : ℕ) (g : Held) → i ≢ n → V.inode i ≡ used g → (l : ℕ) → bytes_of W (block_at W g) l ≡ bytes_of V (block_at V g) l
+  bytes_of-kept i g other at l =
+      bytes_of-frame V W (block_at W g) (block_at V g) (λ p. bytes_in-frame V W (block_at V g p) (block_at W g p) (block-kept i g other at p) (step.blocks i g p other at)) l
+
+  first-kept : (i : ℕ) (g : Held) → i ≢ n → V.inode i ≡ used g → (j : ℕ) → g.blocks j ≢ 0 → W.block (g.blocks j) ≡ V.block (g.blocks j)
+  first-kept i g other at j some =
+      let is = first-at V i g (sound.inodes i g at) j some in
+      ap W.block (sym is) ∙ step.blocks i g j other at (λ e. some (sym is ∙ e)) ∙ ap V.block is
 
   slot-kept : (i : ℕ) → i ≢ n → (x : Seen) → V.inode i ≡ x → slot_of W x ≡ slot_of V x
   slot-kept i other (free g) at = refl
@@ -61,7 +61,7 @@ module _ (V W : View) (n : ℕ) (h k : Held) (sound : IsSoundView V) (step : IsN
     where
       in_block : (g.blocks (place / 512) ≡ 0) ⊎ (g.blocks (place / 512) ≡ 0 → ⊥) → entry_in W (g.blocks (place / 512)) (place % 512) ≡ entry_in V (g.blocks (place / 512)) (place % 512)
       in_block (inl none) = ap (λ b. entry_in W b (place % 512)) none ∙ sym (ap (λ b. entry_in V b (place % 512)) none)
-      in_block (inr some) = ap (λ v. cond (eqb (g.blocks (place / 512)) 0) no_entry (entry_from v (place % 512))) (step.blocks i g (place / 512) other at some)
+      in_block (inr some) = ap (λ v. cond (eqb (g.blocks (place / 512)) 0) no_entry (entry_from v (place % 512))) (first-kept i g other at (place / 512) some)
 
       by : (kind : Kind) → entry_by W kind g place ≡ entry_by V kind g place
       by Directory = in_block (cases_eq (g.blocks (place / 512)) 0)
@@ -92,13 +92,9 @@ module _ (V W : View) (n : ℕ) (h k : Held) (sound : IsSoundView V) (step : IsN
           let e : used k ≡ used g = sym step.new ∙ ap W.inode (sym same) ∙ at in
           let q : k ≡ g = cc in
           subst (λ i. IsSoundInode W i g) (sym same) (subst (IsSoundInode W n) q step.sound)
-      by (inr other) = record {
-        owned = λ j some. step.owners i g j other was some ∙ s.owned j some;
-        there = λ j some. subst (λ f. (f ≤ g.blocks j) × (g.blocks j < f + W.data_blocks)) (sym step.form.first_data) (subst (λ d. (V.first_data ≤ g.blocks j) × (g.blocks j < V.first_data + d)) (sym step.form.data_blocks) (s.there j some));
-        after = s.after;
-        sized = λ j some. ap length (step.blocks i g j other was some) ∙ s.sized j some;
-        whole = s.whole;
-      }
+      by (inr other) =
+          sound-frame V W i g step.form.first_data step.form.data_blocks (block-kept i g other was) (λ p. step.owners i g p other was)
+          (λ p some. ap length (step.blocks i g p other was some) ∙ s.sized p some) s
         where
           was : V.inode i ≡ used g
           was = sym (step.others i other) ∙ at

@@ -39,7 +39,7 @@ use Rattle.journal_treecalls.specs.declared.creation.Plan.{Plan}
 use Rattle.journal_treecalls.specs.Disks.{Write, written, Learns, Does}
 use Rattle.journal_treecalls.specs.Targets.{held, told_of, Hits, IsHit}
 use Rattle.journal_treecalls.specs.Names.{is_file_kind, IsNamed, IsNameFor}
-use Rattle.journal_treecalls.specs.Sizes.{IsSetHead, tail_of, with_set, SetsHead}
+use Rattle.journal_treecalls.specs.Sizes.{IsSetHead, tails_of, with_set, SetsHead}
 use Rattle.journal_treecalls.specs.Rooms.{create_plan, IsMakingPlanned, MakesPlanned}
 use Rattle.journal_treecalls.specs.Rooms.IsMakingNode.{full, makes}
 use Rattle.journal_treecalls.specs.Rooms.IsMakingPlanned.{kept as plan_kept, tried}
@@ -163,13 +163,21 @@ module _ (V : View) (h : Handle) (c : Caller) (name : List ℕ) (s : Settings) (
           set-is : IsSetHead c (size_alone (Some size)) now sized.record_is.head k
           set-is = subst (λ h. IsSetHead c (size_alone (Some size)) now h k) (sym sized.is.head) sized.sets
 
-          view-is : W ≡ with_set V hit.number sized.record_is k (tail_of sized.record_is.head k.size)
-          view-is = sized.view ∙ ap (λ (h : Head). with_set V hit.number sized.record_is k (tail_of h k.size)) (sym sized.is.head)
+          view-is : W ≡ with_set V hit.number sized.record_is k (tails_of V sized.record_is.head k.size)
+          view-is = sized.view ∙ ap (λ (h : Head). with_set V hit.number sized.record_is k (tails_of V h k.size)) (sym sized.is.head)
+
+          small : is_too_big (Some size) ≡ false
+          small = by (may_store c hit.head.attributes) (is_too_big (Some size)) (sym (ap (λ k. taking_by k (may_store c hit.head.attributes) (Some size)) a_file) ∙ sym (ap (taking_status c hit.head) asked) ∙ on)
+            where
+              by : (m big : Bool) → cond (not m) (Some NoAccess) (cond big (Some TooBig) None) ≡ None → big ≡ false
+              by true false w = refl
+              by true true w = absurd (cc (w))
+              by false big w = absurd (cc (w))
 
           both : IsNodeStep V W hit.number (held sized.record_is) (held_of k (name_from sized.record_is.bytes)) × (node_of W (held_of k (name_from sized.record_is.bytes)) ≡ with_settings c (size_alone (Some size)) (node_of V (held sized.record_is)) now)
           both = subst (λ W. IsNodeStep V W hit.number (held sized.record_is) (held_of k (name_from sized.record_is.bytes)) × (node_of W (held_of k (name_from sized.record_is.bytes)) ≡ with_settings c (size_alone (Some size)) (node_of V (held sized.record_is)) now))
               (sym view-is)
-              (set-step V hit.number sized.record_is k c (size_alone (Some size)) now sound inode-is set-is (λ other. absurd (other (ap (λ (h : Head). h.kind) sized.is.head ∙ a_file))))
+              (set-step V hit.number sized.record_is k c (size_alone (Some size)) now sound inode-is set-is (λ other. absurd (other (ap (λ (h : Head). h.kind) sized.is.head ∙ a_file))) small)
 
           node-is : node_of W (held_of k (name_from sized.record_is.bytes)) ≡ with_settings c (size_alone s.size) (node_of V (held_of hit.head name)) now
           node-is = both.1 ∙ (λ i. with_settings c (size_alone (sym asked i)) (node_of V (held-is i)) now)
@@ -192,14 +200,6 @@ module _ (V : View) (h : Handle) (c : Caller) (name : List ℕ) (s : Settings) (
               by true big w = refl
               by false big w = absurd (cc (w))
 
-          small : is_too_big (Some size) ≡ false
-          small = by (may_store c hit.head.attributes) (is_too_big (Some size)) (sym (ap (λ k. taking_by k (may_store c hit.head.attributes) (Some size)) a_file) ∙ sym (ap (taking_status c hit.head) asked) ∙ on)
-            where
-              by : (m big : Bool) → cond (not m) (Some NoAccess) (cond big (Some TooBig) None) ≡ None → big ≡ false
-              by true false w = refl
-              by true true w = absurd (cc (w))
-              by false big w = absurd (cc (w))
-
           pub over-done : Op (create h name (Unchecked s)) c now (tree_of V) (made_reply (Ok (taken_made (told_of h.number n.directory.head) hit k))) (tree_of W)
           over-done = answers_create h name (Unchecked s) None c now (tree_of V) (tree_of W) (Ok (taken_made (told_of h.number n.directory.head) hit k)) tt (sym (
               found-file false true false (ap is_none asked) may (ap is_too_big asked ∙ small)
@@ -217,7 +217,7 @@ pub size-set : (old new : View → Type 0) (ws : List Write) (c : Caller) (hit :
     → SetsHead old new ws hit.number r k reply → Sizes old new ws c hit name size now k
 size-set old new ws c hit name size now r k reply is set p = record {
   same = p.same;
-  is = λ V m. record { record_is = r; is = is; sets = set; view = p.is V m ∙ ap (λ (h : Head). with_set V hit.number r k (tail_of h k.size)) is.head };
+  is = λ V m. record { record_is = r; is = is; sets = set; view = p.is V m ∙ ap (λ (h : Head). with_set V hit.number r k (tails_of V h k.size)) is.head };
 }
 
 pub size-none : (old : View → Type 0) (ws : List Write) (c : Caller) (hit : Hit) (name : List ℕ) (size : Option ℕ) (now : Time) → ws ≡ [] → size ≡ None → SizesAny old old ws c hit name size now hit.head

@@ -21,22 +21,28 @@ use Rattle.journal_tree.specs.Op.Reply.{made as made_reply}
 use Rattle.journal_tree.specs.Fit.{IsCaller, IsCallable}
 use Rattle.journal_treestore.specs.declared.inode.Head.{Head}
 use Rattle.journal_treestore.specs.declared.owner.Owner.{Owner}
+use Rattle.journal_treestore.specs.declared.entry.Entry.{Entry}
+use Rattle.journal_treestore.specs.Entries.{with_entry, tag_of}
 use Rattle.journal_treestore.specs.Inodes.{name_from}
-use Rattle.journal_treestore.specs.Views.{Held, Seen, View, with_inode, with_owner, with_block, held_of, node_of, tree_of}
+use Rattle.journal_treestore.specs.Views.{Held, Seen, View, block_at, zero_block, with_inode, with_owner, with_block, held_of, node_of, tree_of}
 use Rattle.journal_treestore.specs.Views.Seen.{used}
-use Rattle.journal_treestore.specs.Sound.{IsSoundView}
+use Rattle.journal_treestore.specs.Sound.{IsSoundInode, IsSoundView}
 use Rattle.journal_treestore.specs.Steps.{with_moment, IsSameForm, IsUnowned, Filling, IsFilling, filled_held, filled_view, filled_node, text_block, new_body, Shows}
 use Rattle.journal_treestore.proofs.Viewing.{inode-node}
+use Rattle.journal_treestore.proofs.Indexing.{no-index, same-blocks, block_at-frame}
+use Rattle.journal_treestore.proofs.Changing.{blocks-block}
+use Rattle.journal_treestore.proofs.Spare.{nobody_has}
 use Rattle.journal_treestore.proofs.Filling.{filling-shows}
 use Rattle.journal_treestore.proofs.Keeping.{calls-stay-sound}
 use Rattle.journal_treecalls.specs.declared.node.Record.{Record}
 use Rattle.journal_treecalls.specs.declared.creation.NewNode.{NewNode}
 use Rattle.journal_treecalls.specs.declared.room.FreeRoom.{FreeRoom}
+use Rattle.journal_treecalls.specs.declared.room.FreePlace.{FreePlace}
 use Rattle.journal_treecalls.specs.declared.room.NewPlace.{NewPlace}
 use Rattle.journal_treecalls.specs.declared.room.NewPlace.TheVariants.{Here, Further}
 use Rattle.journal_treecalls.specs.Targets.{held, IsNode}
 use Rattle.journal_treecalls.specs.Names.{moved}
-use Rattle.journal_treecalls.specs.Rooms.{HasPlaceFor, HasRoomFor, no_blocks, new_head, owner_of, place_number, with_further, widened_head, with_placed, IsMade}
+use Rattle.journal_treecalls.specs.Rooms.{HasPlaceOf, HasPlaceFor, HasRoomFor, no_blocks, new_head, owner_of, place_number, with_further, widened_head, with_placed, IsMade}
 use Rattle.journal_treecalls.specs.Overlays.{IsOtherBlock}
 use Rattle.journal_treecalls.specs.Symlinks.{with_first, IsLinkedIn}
 use Rattle.journal_treecalls.proofs.Births.{Birth, zeros-get}
@@ -59,10 +65,24 @@ own T n x = ap (λ t. (cond t (record { generation = (T.at n).generation + 1; no
 
 -- ── the block of the text is nobody's ──
 
-module _ (V : View) (h : Handle) (r : Record) (name : List ℕ) (new : NewNode) (now : Time) (sound : IsSoundView V) (node : IsNode V h r) (room : FreeRoom) (has : HasRoomFor V r.head room)
+-- an entry that is put into a directory leaves the blocks of each inode
+here-blocks : (V : View) (h : Handle) (r : Record) → IsSoundView V → IsNode V h r → (p : FreePlace) → HasPlaceOf V r.head.blocks p → (e : Entry) (i : ℕ) (g : Held) → V.inode i ≡ used g
+    → (q : ℕ) → block_at (with_block V p.block (with_entry (V.block p.block) p.at e)) g q ≡ block_at V g q
+here-blocks V h r sound node p place e i g at q =
+    ap (λ b. block_at (with_block V b (with_entry (V.block b) p.at e)) g q) place.is.block
+    ∙ blocks-block V h.number (held r) place.j sound.inodes node.is place.is.there (with_entry (V.block (get_or r.head.blocks place.j 0)) p.at e) i g at q
+
+module _ (V : View) (h : Handle) (r : Record) (name : List ℕ) (new : NewNode) (now : Time) (sound : IsSoundView V) (node : IsNode V h r) (kind : r.head.kind ≡ Directory) (room : FreeRoom) (has : HasRoomFor V r.head room)
     (b : ℕ) (other : IsOtherBlock V (widened_head r.head room.place).blocks b) where
   some : b ≢ 0
   some e = let l = other.free.from in let n = sound.no_data in absurd (omega (arith, e, l, n))
+
+  own_sound : IsSoundInode V h.number (held r)
+  own_sound = sound.inodes h.number (held r) node.is
+
+  -- a directory has no index blocks
+  no_index : r.head.index ≡ 0
+  no_index = own_sound.plain (λ e. absurd (cc (sym kind ∙ e)))
 
   -- what the directory's inode has of the block
   pub form : IsSameForm V (with_placed V h.number r room.number room.place name new now)
@@ -80,8 +100,10 @@ module _ (V : View) (h : Handle) (r : Record) (name : List ℕ) (new : NewNode) 
       by (Further f) = ap (λ t. cond t (used (held_of (new_head h.number room.number (512 * f.j) new) name)) (cond (eqb room.number.number h.number) (used (held_of (moved (with_further r.head f.j f.block) now) (name_from r.bytes))) (V.inode room.number.number))) (eq-eqb room.number.number room.number.number refl)
 
   -- a new inode has no blocks
-  new-none : (place : ℕ) (g : Held) → used (held_of (new_head h.number room.number place new) name) ≡ used g → (i : ℕ) → g.blocks i ≢ b
-  new-none place g is i e = let q : held_of (new_head h.number room.number place new) name ≡ g = cc in some (sym e ∙ ap (λ (g : Held). g.blocks i) (sym q) ∙ zeros-get 48 i)
+  new-none : (W : View) (place : ℕ) (g : Held) → used (held_of (new_head h.number room.number place new) name) ≡ used g → (i : ℕ) → block_at W g i ≢ b
+  new-none W place g is i e =
+      let q : held_of (new_head h.number room.number place new) name ≡ g = cc in
+      some (sym e ∙ ap (λ (g : Held). block_at W g i) (sym q) ∙ no-index W (held_of (new_head h.number room.number place new) name) refl (λ j _. zeros-get 48 j) i ∙ zeros-get 48 i)
 
   -- an inode of the disk then: the new one, the directory's, or another
   pick : (x y : Seen) (i : ℕ) (g : Held) → cond (eqb i room.number.number) x (cond (eqb i h.number) y (V.inode i)) ≡ used g → (x ≡ used g) ⊎ ((i ≡ h.number) × (y ≡ used g)) ⊎ (V.inode i ≡ used g)
@@ -92,25 +114,36 @@ module _ (V : View) (h : Handle) (r : Record) (name : List ℕ) (new : NewNode) 
       by (inr a) (inl d) = inr (inl (d, sym (ap (λ t. cond t x (cond (eqb i h.number) y (V.inode i))) (ne_eqb i room.number.number a) ∙ ap (λ t. cond t y (V.inode i)) (eq-eqb i h.number d)) ∙ is))
       by (inr a) (inr d) = inr (inr (sym (ap (λ t. cond t x (cond (eqb i h.number) y (V.inode i))) (ne_eqb i room.number.number a) ∙ ap (λ t. cond t y (V.inode i)) (ne_eqb i h.number d)) ∙ is))
 
-  old : (g : Held) → V.inode (V.owner b).number ≡ used g → g.blocks (V.owner b).place ≢ b
+  old : (g : Held) → V.inode (V.owner b).number ≡ used g → block_at V g (V.owner b).place ≢ b
   old g is = other.free.unowned.not_at g is
 
   pub unowned : IsUnowned (with_placed V h.number r room.number room.place name new now) b
+  unfolding block_at
   unowned = by room.place has.place other
     where
       by : (p : NewPlace) → HasPlaceFor V r.head p → IsOtherBlock V (widened_head r.head p).blocks b → IsUnowned (with_placed V h.number r room.number p name new now) b
       by (Here p) place apart = record { not_at = λ g is. each g (pick (used (held_of (new_head h.number room.number p.place new) name)) (used (with_moment (held r) now)) (V.owner b).number g is) }
         where
-          at-directory : (g : Held) → (V.owner b).number ≡ h.number → used (with_moment (held r) now) ≡ used g → g.blocks (V.owner b).place ≢ b
+          W2 : View
+          W2 = with_placed V h.number r room.number (Here p) name new now
+
+          -- each other inode has the blocks that it had
+          stays : (g : Held) → V.inode (V.owner b).number ≡ used g → block_at (with_placed V h.number r room.number (Here p) name new now) g (V.owner b).place ≡ block_at V g (V.owner b).place
+          stays g is = here-blocks V h r sound node p place (record { number = room.number.number; tag = tag_of name }) (V.owner b).number g is (V.owner b).place
+
+          at-directory : (g : Held) → (V.owner b).number ≡ h.number → used (with_moment (held r) now) ≡ used g → block_at (with_placed V h.number r room.number (Here p) name new now) g (V.owner b).place ≢ b
           at-directory g d is e =
               let q : with_moment (held r) now ≡ g = cc in
-              old (held r) (ap V.inode d ∙ node.is) (ap (λ (g : Held). g.blocks (V.owner b).place) q ∙ e)
+              old (held r) (ap V.inode d ∙ node.is) (
+              sym (stays (held r) (ap V.inode d ∙ node.is))
+              ∙ sym (same-blocks (with_placed V h.number r room.number (Here p) name new now) (with_moment (held r) now) (held r) refl refl (V.owner b).place)
+              ∙ ap (λ (g : Held). block_at (with_placed V h.number r room.number (Here p) name new now) g (V.owner b).place) q ∙ e)
 
-          each : (g : Held) → (used (held_of (new_head h.number room.number p.place new) name) ≡ used g) ⊎ (((V.owner b).number ≡ h.number) × (used (with_moment (held r) now) ≡ used g)) ⊎ (V.inode (V.owner b).number ≡ used g) → g.blocks (V.owner b).place ≢ b
-          each g (inl is) = new-none p.place g is (V.owner b).place
+          each : (g : Held) → (used (held_of (new_head h.number room.number p.place new) name) ≡ used g) ⊎ (((V.owner b).number ≡ h.number) × (used (with_moment (held r) now) ≡ used g)) ⊎ (V.inode (V.owner b).number ≡ used g) → block_at (with_placed V h.number r room.number (Here p) name new now) g (V.owner b).place ≢ b
+          each g (inl is) = new-none (with_placed V h.number r room.number (Here p) name new now) p.place g is (V.owner b).place
           each g (inr (inl d)) = at-directory g d.0 d.1
-          each g (inr (inr is)) = old g is
-      by (Further f) place apart = record { not_at = λ g is. subst (λ (o : Owner). g.blocks o.place ≢ b) (sym same) (each g (pick (used (held_of (new_head h.number room.number (512 * f.j) new) name)) (used grown) (V.owner b).number g (at g is))) }
+          each g (inr (inr is)) = λ e. old g is (sym (stays g is) ∙ e)
+      by (Further f) place apart = record { not_at = λ g is. subst (λ (o : Owner). block_at (with_placed V h.number r room.number (Further f) name new now) g o.place ≢ b) (sym same) (each g (pick (used (held_of (new_head h.number room.number (512 * f.j) new) name)) (used grown) (V.owner b).number g (at g is))) }
         where
           W2 : View
           W2 = with_placed V h.number r room.number (Further f) name new now
@@ -133,22 +166,37 @@ module _ (V : View) (h : Handle) (r : Record) (name : List ℕ) (new : NewNode) 
               → (with_placed V h.number r room.number (Further f) name new now).inode (V.owner b).number ≡ used g
           at g is = ap (λ (o : Owner). (with_placed V h.number r room.number (Further f) name new now).inode o.number) (sym same) ∙ is
 
+          past-grown : (i : ℕ) → 48 ≤ i → get_or (set r.head.blocks f.j f.block) i 0 ≡ 0
+          past-grown i past = get_or_past (set r.head.blocks f.j f.block) i 0 (let n = length-set r.head.blocks f.j f.block in let all = place.all in omega (arith, n, all, past))
+
           not-grown : (i : ℕ) → get_or (set r.head.blocks f.j f.block) i 0 ≢ b
           not-grown i = cases (cases_lt i 48)
             where
               cases : (i < 48) ⊎ (48 ≤ i) → get_or (set r.head.blocks f.j f.block) i 0 ≢ b
               cases (inl low) = apart.apart i low
-              cases (inr past) = λ e. some (sym e ∙ get_or_past (set r.head.blocks f.j f.block) i 0 (let n = length-set r.head.blocks f.j f.block in let all = place.all in omega (arith, n, all, past)))
+              cases (inr past) = λ e. some (sym e ∙ past-grown i past)
 
-          at-directory : (g : Held) → used grown ≡ used g → g.blocks (V.owner b).place ≢ b
+          at-directory : (g : Held) → used grown ≡ used g → block_at (with_placed V h.number r room.number (Further f) name new now) g (V.owner b).place ≢ b
           at-directory g is e =
               let q : held_of (moved (with_further r.head f.j f.block) now) (name_from r.bytes) ≡ g = cc in
-              not-grown (V.owner b).place (ap (λ (g : Held). g.blocks (V.owner b).place) q ∙ e)
+              not-grown (V.owner b).place (
+              sym (no-index (with_placed V h.number r room.number (Further f) name new now) (held_of (moved (with_further r.head f.j f.block) now) (name_from r.bytes)) no_index past-grown (V.owner b).place)
+              ∙ ap (λ (g : Held). block_at (with_placed V h.number r room.number (Further f) name new now) g (V.owner b).place) q ∙ e)
 
-          each : (g : Held) → (used (held_of (new_head h.number room.number (512 * f.j) new) name) ≡ used g) ⊎ (((V.owner b).number ≡ h.number) × (used grown ≡ used g)) ⊎ (V.inode (V.owner b).number ≡ used g) → g.blocks (V.owner b).place ≢ b
-          each g (inl is) = new-none (512 * f.j) g is (V.owner b).place
+          f_some : f.block ≢ 0
+          f_some e = let l = place.is.from in let n = sound.no_data in absurd (omega (arith, e, l, n))
+
+          -- each other inode has the blocks that it had
+          stays : (g : Held) → V.inode (V.owner b).number ≡ used g → block_at (with_placed V h.number r room.number (Further f) name new now) g (V.owner b).place ≡ block_at V g (V.owner b).place
+          stays g is =
+              block_at-frame V (with_placed V h.number r room.number (Further f) name new now) g
+              (λ q _ _. ap (λ t. cond t (with_entry zero_block 0 (record { number = room.number.number; tag = tag_of name })) (V.block (block_at V g q))) (ne_eqb (block_at V g q) f.block (nobody_has V f.block sound f_some place.is.unowned (V.owner b).number g q is)))
+              (V.owner b).place
+
+          each : (g : Held) → (used (held_of (new_head h.number room.number (512 * f.j) new) name) ≡ used g) ⊎ (((V.owner b).number ≡ h.number) × (used grown ≡ used g)) ⊎ (V.inode (V.owner b).number ≡ used g) → block_at (with_placed V h.number r room.number (Further f) name new now) g (V.owner b).place ≢ b
+          each g (inl is) = new-none (with_placed V h.number r room.number (Further f) name new now) (512 * f.j) g is (V.owner b).place
           each g (inr (inl d)) = at-directory g d.1
-          each g (inr (inr is)) = old g is
+          each g (inr (inr is)) = λ e. old g is (sym (stays g is) ∙ e)
 
 -- ── the link has its text ──
 
@@ -188,11 +236,11 @@ module _ (V W : View) (h : Handle) (r : Record) (name : List ℕ) (new : NewNode
     f = record { n = room.number.number; h = held_of (new_head h.number room.number (place_number room.place) new) name; b = linked.block; text = text }
 
     abbrev same_form : IsSameForm V (with_placed V h.number r room.number room.place name new now)
-    same_form = form V h r name new now sound node room has linked.block linked.is_block
+    same_form = form V h r name new now sound node kind room has linked.block linked.is_block
 
     filling : IsFilling W1 f
     filling = record {
-      is = new-inode V h r name new now sound node room has linked.block linked.is_block;
+      is = new-inode V h r name new now sound node kind room has linked.block linked.is_block;
       kind = is_link;
       none = refl;
       sized = sized;
@@ -201,7 +249,7 @@ module _ (V W : View) (h : Handle) (r : Record) (name : List ℕ) (new : NewNode
       some = λ e. (let l = linked.is_block.free.from in let n = sound.no_data in absurd (omega (arith, e, l, n)));
       from = (let l = linked.is_block.free.from in let e = same_form.first_data in omega (arith, e, l));
       to = (let l = linked.is_block.free.to in let e = same_form.first_data in let d = same_form.data_blocks in omega (arith, e, d, l));
-      unowned = unowned V h r name new now sound node room has linked.block linked.is_block;
+      unowned = unowned V h r name new now sound node kind room has linked.block linked.is_block;
     }
 
     held-is : held_of (with_first head linked.block) name ≡ filled_held f
@@ -212,6 +260,7 @@ module _ (V W : View) (h : Handle) (r : Record) (name : List ℕ) (new : NewNode
       kind = new.kind;
       size = new.size;
       blocks = λ i. get-set no_blocks 0 linked.block i (omega arith) z;
+      index = 0;
     }
 
     view : W ≡ filled_view W1 f

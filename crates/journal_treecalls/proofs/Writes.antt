@@ -1,7 +1,7 @@
 -- WRITE.
-use Rattle.std.proofs.Common.{◌≡◌, ◌≢◌, ℕ, suc, ◌+◌, ◌-◌, ◌*◌, ◌/◌, ◌<◌, ◌≤◌, Bool, true, false, not, cond, eqb, List, [], ◌∷◌, length, get_or, Option, Some, None, Ok, Err, refl, sym, ap, subst, ◌⊎◌, inl, inr, ◌∙◌, arith}
+use Rattle.std.proofs.Common.{◌≡◌, ◌≢◌, ℕ, suc, ◌+◌, ◌-◌, ◌*◌, ◌/◌, ◌%◌, ◌<◌, ◌≤◌, Bool, true, false, not, cond, eqb, List, [], ◌∷◌, length, Option, Some, None, Ok, Err, refl, sym, ap, subst, ◌⊎◌, inl, inr, ◌∙◌, arith}
 use Rattle.std.specs.Prelude.{Result, ◌==◌, nat_lt}
-use Rattle.std.proofs.lemmas.Bool.{cases_lt, eqb-true, eqb-false, eq-eqb, ne_eqb, ltb-false, lt-ltb, le-ltb, and_from, and_left, and_right}
+use Rattle.std.proofs.lemmas.Bool.{cases_lt, eqb-true, eqb-false, eq-eqb, ne_eqb, ltb-false, lt-ltb, le-ltb, le-leb, lt-leb}
 use Rattle.journal_tree.specs.declared.limits.TheConstants.{MOST_BYTES}
 use Rattle.journal_tree.specs.declared.time.Time.{Time}
 use Rattle.journal_tree.specs.declared.reply.Changed.{Changed}
@@ -27,7 +27,7 @@ use Rattle.journal_tree.specs.Op.Op.{answers_write}
 use Rattle.journal_treestore.specs.declared.inode.Head.{Head}
 use Rattle.journal_treestore.specs.Inodes.{name_from}
 use Rattle.journal_treestore.specs.Owners.{owner_from}
-use Rattle.journal_treestore.specs.Views.{View, with_inode, with_owner, with_block, held_of, content, body_of, node_of, tree_of}
+use Rattle.journal_treestore.specs.Views.{View, with_inode, with_owner, with_block, held_of, block_at, content, body_of, node_of, tree_of}
 use Rattle.journal_treestore.specs.Views.Seen.{used}
 use Rattle.journal_treestore.specs.Sound.{IsSoundView}
 use Rattle.journal_treecalls.specs.declared.node.Record.{Record}
@@ -36,19 +36,23 @@ use Rattle.journal_treecalls.specs.Disks.{Write, inode_seen, written, Learns, Do
 use Rattle.journal_treecalls.specs.Disks.Write.{inode_write, owner_write, block_write}
 use Rattle.journal_treecalls.specs.Targets.{held, IsNode, IsTarget, told_of}
 use Rattle.journal_treecalls.specs.Rooms.{owner_of}
-use Rattle.journal_treecalls.specs.Sizes.{tail_of, cleared, changed_told}
-use Rattle.journal_treecalls.specs.Overlays.{writing_by, writing_status, AreTaken, IsTaken, image_bytes, IsImage, piece_of, IsWrittenHead, gap_of, with_gap, ClearsGap, lay, lay_at, laid, LaysOne, LaysAt, LaysBlocks, with_written, IsWritten, WritesFile, WritesRoom, WritesAllowed, IsWriting, WritesNode}
+use Rattle.journal_treecalls.specs.Sizes.{cleared, changed_told}
+use Rattle.journal_treecalls.specs.declared.reach.Numbers.{Numbers}
+use Rattle.journal_treecalls.specs.declared.reach.Changing.{Changing}
+use Rattle.journal_treecalls.specs.Fetches.{file_blocks}
+use Rattle.journal_treecalls.specs.Reaches.{reach_for, reach_count, numbered, AreSized, HasNumbers, IsTaken, IsSizedTaken, IsChanging}
+use Rattle.journal_treecalls.specs.Overlays.{writing_by, writing_status, image_bytes, IsImage, IsWrittenHead, gap_of, with_gap, ClearsGap, Laying, lay, lay_at, laid, laying_at, LaysOne, LaysAt, LaysBlocks, with_written, IsWritten, WritesFile, WritesRoom, WritesAllowed, IsWriting, WritesNode}
 use Rattle.journal_treecalls.specs.Overlays.IsWritingRoom.{full, writes}
 use Rattle.journal_treecalls.specs.Overlays.IsWritingAllowed.{stays, tried}
 use Rattle.journal_treecalls.specs.Overlays.IsWriting.{kept, allowed as is_allowed}
-use Rattle.journal_treecalls.proofs.Learning.{does-reads}
+use Rattle.journal_treecalls.proofs.Learning.{learns-as, does-reads}
 use Rattle.journal_treecalls.proofs.Learned.{AreSound}
 use Rattle.journal_treecalls.proofs.Cases.{at-gone, at-node, node-told, told-is}
 use Rattle.journal_treecalls.proofs.Stepping.{IsNodeStep, tree-step, step-sound}
-use Rattle.journal_treecalls.proofs.Resizing.{tail-inside}
 use Rattle.journal_treecalls.proofs.Portioning.{small-file}
 use Rattle.journal_treecalls.proofs.Laying.{laid-none, laid-more}
-use Rattle.journal_treecalls.proofs.Overlaying.{step-written, node-written}
+use Rattle.journal_treecalls.proofs.Overlaying.{IsOverlay, IsIndexed, step-written, node-written}
+use Rattle.journal_treecalls.proofs.Rows.{row-overlays, row-indexed}
 
 -- ── the reasons not to write ──
 
@@ -76,15 +80,15 @@ fits-within c h offset count long o is on some = by (passes h.kind (may_store c 
         at same (inl none) = absurd (omega (arith, same, none, some))
         at same (inr f) = let l = ltb-false MOST_BYTES (offset + count) f.1 in omega (arith, l, same)
 
-pub too-long : (offset count : ℕ) → 196608 < offset → true ≡ nat_lt MOST_BYTES (offset + count)
+pub too-long : (offset count : ℕ) → 4295163904 < offset → true ≡ nat_lt MOST_BYTES (offset + count)
 too-long offset count past = sym (lt-ltb MOST_BYTES (offset + count) (omega (arith, past)))
 
-pub long-enough : (offset count : ℕ) → offset ≤ 196608 → nat_lt (196608 - offset) count ≡ nat_lt MOST_BYTES (offset + count)
-long-enough offset count low = by (cases_lt (196608 - offset) count)
+pub long-enough : (offset count : ℕ) → offset ≤ 4295163904 → nat_lt (4295163904 - offset) count ≡ nat_lt MOST_BYTES (offset + count)
+long-enough offset count low = by (cases_lt (4295163904 - offset) count)
   where
-    by : (196608 - offset < count) ⊎ (count ≤ 196608 - offset) → nat_lt (196608 - offset) count ≡ nat_lt MOST_BYTES (offset + count)
-    by (inl more) = lt-ltb (196608 - offset) count more ∙ sym (lt-ltb MOST_BYTES (offset + count) (omega (arith, more, low)))
-    by (inr few) = le-ltb (196608 - offset) count few ∙ sym (le-ltb MOST_BYTES (offset + count) (omega (arith, few, low)))
+    by : (4295163904 - offset < count) ⊎ (count ≤ 4295163904 - offset) → nat_lt (4295163904 - offset) count ≡ nat_lt MOST_BYTES (offset + count)
+    by (inl more) = lt-ltb (4295163904 - offset) count more ∙ sym (lt-ltb MOST_BYTES (offset + count) (omega (arith, more, low)))
+    by (inr few) = le-ltb (4295163904 - offset) count few ∙ sym (le-ltb MOST_BYTES (offset + count) (omega (arith, few, low)))
 
 -- ── the call ──
 
@@ -153,35 +157,27 @@ module _ (V : View) (h : Handle) (c : Caller) (offset count : ℕ) (bs : List �
         pub write-full : Op (write h offset count bs) c now (tree_of V) (wrote (Err NoSpace)) (tree_of V)
         write-full = answers_write h offset count bs false c now (tree_of V) (tree_of V) (Err NoSpace) (sym (at-file false false false not-none not-big))
 
-        module _ (fits : offset + length bs ≤ MOST_BYTES) (blocks : List ℕ) (taken : IsTaken V r.head.blocks offset (offset + length bs) (Some blocks)) (W : View) (reply : Changed) (w : IsWritten V W c offset bs blocks now h.number r reply) where
-          same-blocks : w.head.blocks ≡ blocks
-          same-blocks = w.is_head.blocks
-
-          head-own : IsWrittenHead c now r.head w.head.blocks (offset + length bs) w.head
-          head-own = record {
-            kind = w.is_head.kind;
-            generation = w.is_head.generation;
-            attributes = w.is_head.attributes;
-            directory = w.is_head.directory;
-            place = w.is_head.place;
-            size = w.is_head.size;
-            blocks = refl;
-          }
-
-          taken-own : AreTaken V r.head.blocks offset (offset + length bs) 48 w.head.blocks
-          taken-own = subst (λ bs48. AreTaken V r.head.blocks offset (offset + length bs) 48 bs48) (sym same-blocks) taken.0
-
-          count-own : length w.head.blocks ≡ 48
-          count-own = ap length same-blocks ∙ taken.1
-
+        module _ (fits : offset + length bs ≤ MOST_BYTES) (t : Changing) (change : IsChanging V r.head offset (offset + length bs) t) (W : View) (reply : Changed) (w : IsWritten V W c offset bs t now h.number r reply) where
           abbrev W1 : View
-          W1 = with_written V h.number r w.head offset (offset + length bs) w.image
+          W1 = with_written V h.number r w.head offset t w.image
 
-          step : IsNodeStep V (with_written V h.number r w.head offset (offset + length bs) w.image) h.number (held r) (held_of w.head (name_from r.bytes))
-          step = step-written V h.number r w.head c now offset bs w.image sound node.is passed.0 some fits (small-file V h.number (held r) sound node.is passed.0) taken-own count-own head-own w.is_image w.long
+          abbrev N : ℕ → ℕ
+          N = numbered (block_at V (held r)) t.reach t.new
 
-          node-is : node_of (with_written V h.number r w.head offset (offset + length bs) w.image) (held_of w.head (name_from r.bytes)) ≡ written_node c (node_of V (held r)) (overlaid (content V (held r)) offset bs) now
-          node-is = node-written V h.number r w.head c now offset bs w.image sound node.is passed.0 some fits (small-file V h.number (held r) sound node.is passed.0) taken-own count-own head-own w.is_image w.long
+          abbrev row : ℕ → Laying
+          row = laying_at t w.image
+
+          overlays : IsOverlay V (held r) (numbered (block_at V (held r)) t.reach t.new) (laying_at t w.image) (reach_count t.reach) offset (offset + length bs) w.image
+          overlays = row-overlays V r w.head c now offset (offset + length bs) t w.image (omega (arith, some)) fits change w.long w.is_head
+
+          indexed : IsIndexed V (held r) (numbered (block_at V (held r)) t.reach t.new) (laying_at t w.image) (reach_count t.reach) w.head
+          indexed = row-indexed V r w.head c now offset (offset + length bs) t w.image (omega (arith, some)) fits change w.long w.is_head
+
+          step : IsNodeStep V (with_written V h.number r w.head offset t w.image) h.number (held r) (held_of w.head (name_from r.bytes))
+          step = step-written V h.number r w.head offset bs w.image N row (reach_count t.reach) sound node.is passed.0 some fits (small-file V h.number (held r) sound node.is passed.0) overlays indexed c now t.new w.is_head
+
+          node-is : node_of (with_written V h.number r w.head offset t w.image) (held_of w.head (name_from r.bytes)) ≡ written_node c (node_of V (held r)) (overlaid (content V (held r)) offset bs) now
+          node-is = node-written V h.number r w.head offset bs w.image N row (reach_count t.reach) sound node.is passed.0 some fits (small-file V h.number (held r) sound node.is passed.0) overlays indexed c now t.new w.is_head w.is_image w.long
 
           told-after : told h.number (written_node c (node_of V (held r)) (overlaid (content V (held r)) offset bs) now) ≡ told_of h.number w.head
           told-after = ap (told h.number) (sym node-is) ∙ told-is W1 h.number (held_of w.head (name_from r.bytes)) step.sound
@@ -212,38 +208,54 @@ module _ (first old new : View → Type 0) (sound : AreSound new) (ws : List Wri
     op V m W _ (is_allowed _ on (stays t none still tells)) = subst (λ t. Op (write h offset count bs) c now (tree_of V) (wrote (Ok t)) (tree_of W)) (sym tells)
         (subst (λ W. Op (write h offset count bs) c now (tree_of V) (wrote (Ok (changed_told h.number r.head r.head))) (tree_of W)) (sym still) (write-stays V h c offset count bs now r (sound V m) (node V m) on none))
     op V m W _ (is_allowed _ on (tried _ some fits (full still))) = subst (λ W. Op (write h offset count bs) c now (tree_of V) (wrote (Err NoSpace)) (tree_of W)) (sym still) (write-full V h c offset count bs now r (sound V m) (node V m) on some)
-    op V m W _ (is_allowed _ on (tried _ some fits (writes blocks t taken w))) = write-done V h c offset count bs now r (sound V m) (node V m) on some fits blocks taken W t w
+    op V m W _ (is_allowed _ on (tried _ some fits (writes t reply change w))) = write-done V h c offset count bs now r (sound V m) (node V m) on some fits t change W reply w
 
     keeps : (V : View) → new V → (W : View) (reply : Result Changed Status) → IsWriting V W c offset count bs now h.number r reply → IsSoundView W
     keeps V m W _ (kept status why still) = subst IsSoundView (sym still) (sound V m)
     keeps V m W _ (is_allowed _ on (stays t none still tells)) = subst IsSoundView (sym still) (sound V m)
     keeps V m W _ (is_allowed _ on (tried _ some fits (full still))) = subst IsSoundView (sym still) (sound V m)
-    keeps V m W _ (is_allowed _ on (tried _ some fits (writes blocks t taken w))) = write-sound V h c offset count bs now r (sound V m) (node V m) on some fits blocks taken W t w caller time
+    keeps V m W _ (is_allowed _ on (tried _ some fits (writes t reply change w))) = write-sound V h c offset count bs now r (sound V m) (node V m) on some fits t change W reply w caller time
 
     pub write-some : Does new ws (write h offset count bs) c now (wrote reply)
     write-some = record { op = λ V m. op V m (written ws V) reply (k.is V m); sound = λ V m. keeps V m (written ws V) reply (k.is V m) }
 
 -- ── the writes ──
 
-pub gap-none : (may : View → Type 0) (ws : List Write) (h : Head) (offset : ℕ) (o : Option Tail) → ws ≡ [] → o ≡ gap_of h offset → o ≡ None → ClearsGap may may ws h offset
-gap-none may ws h offset o none is o_is = record { same = λ V m. m; is = λ V m. ap (λ ws. written ws V) none ∙ ap (with_gap V) (sym o_is ∙ is) }
+pub gap-none : (old new : View → Type 0) (ws : List Write) (h : Head) (offset : ℕ) (o : Option Tail) → ws ≡ [] → Learns old new (λ V. o ≡ gap_of V h offset) → o ≡ None → ClearsGap old new ws h offset
+gap-none old new ws h offset o none l is = record { same = l.before; is = λ V m. ap (λ ws. written ws V) none ∙ ap (with_gap V) (sym is ∙ l.now V m) }
 
-pub gap-inside : (h : Head) (offset : ℕ) (o : Option Tail) (t : Tail) → o ≡ gap_of h offset → o ≡ Some t → t.from ≤ 4096
-gap-inside h offset o t is some = by (eqb (h.size / 4096) (offset / 4096)) (sym is ∙ some)
-  where
-    by : (b : Bool) → cond b None (tail_of h offset) ≡ Some t → t.from ≤ 4096
-    by true g = absurd (cc (g))
-    by false g = tail-inside h offset (tail_of h offset) t refl g
-
-pub gap-cleared : (old mid new : View → Type 0) (ws before : List Write) (h : Head) (offset : ℕ) (t : Tail) (v w : List ℕ) (o : Option Tail) → o ≡ gap_of h offset → o ≡ Some t → before ≡ [] → ws ≡ block_write t.block w ∷ before → w ≡ cleared v t.from
-    → Learns old mid (λ V. V.block t.block ≡ v) → ((V : View) → new V → mid V) → ClearsGap old new ws h offset
-gap-cleared old mid new ws before h offset t v w o is some none put cleared_is l same = record {
-  same = λ V m. l.before V (same V m);
+pub gap-cleared : (first old mid new : View → Type 0) (ws before : List Write) (h : Head) (offset : ℕ) (t : Tail) (v w : List ℕ) (o : Option Tail) → Learns first old (λ V. o ≡ gap_of V h offset) → o ≡ Some t → before ≡ [] → ws ≡ block_write t.block w ∷ before → w ≡ cleared v t.from
+    → Learns old mid (λ V. V.block t.block ≡ v) → ((V : View) → new V → mid V) → ClearsGap first new ws h offset
+gap-cleared first old mid new ws before h offset t v w o gap some none put cleared_is l same = record {
+  same = λ V m. gap.before V (l.before V (same V m));
   is = λ V m.
       ap (λ ws. written ws V) (put ∙ ap (λ ws. block_write t.block w ∷ ws) none)
       ∙ ap (with_block V t.block) (cleared_is ∙ ap (λ v. cleared v t.from) (sym (l.now V (same V m))))
-      ∙ ap (with_gap V) (sym some ∙ is);
+      ∙ ap (with_gap V) (sym some ∙ gap.now V (l.before V (same V m)));
 }
+
+-- where the file does not end before
+pub gap-late : (may : View → Type 0) (h : Head) (offset last first : ℕ) → last ≡ h.size / 4096 → first ≡ offset / 4096 → first ≤ last → Learns may may (λ V. None ≡ gap_of V h offset)
+gap-late may h offset last first last_is first_is late = record {
+  before = λ V m. m;
+  now = λ V m. sym (ap (λ t. cond t None (cond (eqb (file_blocks V h (h.size / 4096)) 0) None (Some (record { block = file_blocks V h (h.size / 4096); from = h.size % 4096 })))) (le-leb (offset / 4096) (h.size / 4096) (omega (arith, last_is, first_is, late))));
+}
+
+-- or does, in a block or in none
+pub gap-early : (old new : View → Type 0) (h : Head) (offset last first b from : ℕ) → last ≡ h.size / 4096 → first ≡ offset / 4096 → last < first → from ≡ h.size % 4096 → Learns old new (λ V. file_blocks V h last ≡ b)
+    → Learns old new (λ V. cond (eqb b 0) None (Some (record { block = b; from = from })) ≡ gap_of V h offset)
+gap-early old new h offset last first b from last_is first_is early from_is l = learns-as old new _ _ l (λ V m is.
+    (λ z. cond (eqb (sym (ap (file_blocks V h) (sym last_is) ∙ is) z) 0) None (Some (record { block = sym (ap (file_blocks V h) (sym last_is) ∙ is) z; from = from_is z })))
+    ∙ sym (ap (λ t. cond t None (cond (eqb (file_blocks V h (h.size / 4096)) 0) None (Some (record { block = file_blocks V h (h.size / 4096); from = h.size % 4096 })))) (lt-leb (offset / 4096) (h.size / 4096) (omega (arith, last_is, first_is, early)))))
+
+pub gap-hole : (old new : View → Type 0) (h : Head) (offset last first b : ℕ) → last ≡ h.size / 4096 → first ≡ offset / 4096 → last < first → b ≡ 0 → Learns old new (λ V. file_blocks V h last ≡ b) → Learns old new (λ V. None ≡ gap_of V h offset)
+gap-hole old new h offset last first b last_is first_is early none l = learns-as old new _ _ (gap-early old new h offset last first b (h.size % 4096) last_is first_is early refl l) (λ V m is.
+    sym (ap (λ t. cond t None (Some (record { block = b; from = h.size % 4096 }))) (eq-eqb b 0 none)) ∙ is)
+
+pub gap-there : (old new : View → Type 0) (h : Head) (offset last first b from : ℕ) → last ≡ h.size / 4096 → first ≡ offset / 4096 → last < first → b ≢ 0 → from ≡ h.size % 4096 → Learns old new (λ V. file_blocks V h last ≡ b)
+    → Learns old new (λ V. Some (record { block = b; from = from }) ≡ gap_of V h offset)
+gap-there old new h offset last first b from last_is first_is early there from_is l = learns-as old new _ _ (gap-early old new h offset last first b from last_is first_is early from_is l) (λ V m is.
+    sym (ap (λ t. cond t None (Some (record { block = b; from = from }))) (ne_eqb b 0 there)) ∙ is)
 
 pub piece-old : (old new : View → Type 0) (before after : List Write) (n was b j : ℕ) (v w : List ℕ) → was ≢ 0 → after ≡ block_write b w ∷ before → w ≡ v → ((V : View) → new V → old V) → LaysOne old new before after n was b j v
 piece-old old new before after n was b j v w some put is same = record {
@@ -263,36 +275,33 @@ piece-new old new before mid after n was b j v w o none put then is owner same =
       ∙ sym (ap (λ t. cond t (with_owner (with_block (written before V) b v) b (owner_of n j)) (with_block (written before V) b v)) (eq-eqb was 0 none));
 }
 
-pub at-before : (may : View → Type 0) (ws : List Write) (n was b j from to : ℕ) (image : List ℕ) → to ≤ 4096 * j → LaysAt may may ws ws n was b j from to image
-at-before may ws n was b j from to image far = record { same = λ V m. m; is = λ V. sym (ap (λ t. cond t (lay (written ws V) n was b j (piece_of image from j)) (written ws V)) (and_left (nat_lt (4096 * j) to) (nat_lt from (4096 * (j + 1))) (le-ltb (4096 * j) to far))) }
+pub place-kept : (may : View → Type 0) (ws : List Write) (n : ℕ) (l : Laying) (skip : Bool) → skip ≡ l.stays → skip ≡ true → LaysAt may may ws ws n l
+place-kept may ws n l skip is on = record { same = λ V m. m; is = λ V. sym (ap (λ t. cond t (written ws V) (lay (written ws V) n l.was l.block l.place l.bytes)) (sym is ∙ on)) }
 
-pub at-after : (may : View → Type 0) (ws : List Write) (n was b j from to : ℕ) (image : List ℕ) → 4096 * j + 4096 ≤ from → LaysAt may may ws ws n was b j from to image
-at-after may ws n was b j from to image far = record { same = λ V m. m; is = λ V. sym (ap (λ t. cond t (lay (written ws V) n was b j (piece_of image from j)) (written ws V)) (and_right (nat_lt (4096 * j) to) (nat_lt from (4096 * (j + 1))) (le-ltb from (4096 * (j + 1)) (omega (arith, far))))) }
-
-pub at-here : (old new : View → Type 0) (before after : List Write) (n was b j from to : ℕ) (image v : List ℕ) → 4096 * j < to → from < 4096 * j + 4096 → v ≡ piece_of image from j → LaysOne old new before after n was b j v → LaysAt old new before after n was b j from to image
-at-here old new before after n was b j from to image v low past is k = record {
+pub place-laid : (old new : View → Type 0) (before after : List Write) (n : ℕ) (l : Laying) (skip : Bool) (was b p : ℕ) (v : List ℕ) → skip ≡ l.stays → skip ≡ false → was ≡ l.was → b ≡ l.block → p ≡ l.place → v ≡ l.bytes
+    → LaysOne old new before after n was b p v → LaysAt old new before after n l
+place-laid old new before after n l skip was b p v is off was_is b_is p_is v_is k = record {
   same = k.same;
   is = λ V.
       k.is V
-      ∙ ap (lay (written before V) n was b j) is
-      ∙ sym (ap (λ t. cond t (lay (written before V) n was b j (piece_of image from j)) (written before V)) (and_from (nat_lt (4096 * j) to) (nat_lt from (4096 * (j + 1))) (lt-ltb (4096 * j) to low) (lt-ltb from (4096 * (j + 1)) (omega (arith, past)))));
+      ∙ (λ z. lay (written before V) n (was_is z) (b_is z) (p_is z) (v_is z))
+      ∙ sym (ap (λ t. cond t (written before V) (lay (written before V) n l.was l.block l.place l.bytes)) (sym is ∙ off));
 }
 
-pub blocks-begin : (may : View → Type 0) (ws : List Write) (n : ℕ) (was bs : List ℕ) (from to : ℕ) (image : List ℕ) → LaysBlocks may may ws ws n was bs from to image 0
-blocks-begin may ws n was bs from to image = record { same = λ V m. m; is = λ V. sym (laid-none (written ws V) n was bs from to image) }
+pub blocks-begin : (may : View → Type 0) (ws : List Write) (n : ℕ) (row : ℕ → Laying) → LaysBlocks may may ws ws n row 0
+blocks-begin may ws n row = record { same = λ V m. m; is = λ V. sym (laid-none (written ws V) n row) }
 
-pub blocks-more : (first old new : View → Type 0) (before mid after : List Write) (n : ℕ) (was bs : List ℕ) (from to : ℕ) (image : List ℕ) (j : ℕ) → LaysBlocks first old before mid n was bs from to image j
-    → LaysAt old new mid after n (get_or was j 0) (get_or bs j 0) j from to image → LaysBlocks first new before after n was bs from to image (j + 1)
-blocks-more first old new before mid after n was bs from to image j l k = record {
-  same = λ V m. l.same V (k.same V m);
-  is = λ V. k.is V ∙ ap (λ U. lay_at U n (get_or was j 0) (get_or bs j 0) j from to image) (l.is V) ∙ sym (laid-more (written before V) n was bs from to image j) ∙ ap (laid (written before V) n was bs from to image) (let e : suc j ≡ j + 1 = omega arith in e);
+pub blocks-more : (first old new : View → Type 0) (before mid after : List Write) (n : ℕ) (row : ℕ → Laying) (m : ℕ) → LaysBlocks first old before mid n row m → LaysAt old new mid after n (row m) → LaysBlocks first new before after n row (m + 1)
+blocks-more first old new before mid after n row m l k = record {
+  same = λ V may. l.same V (k.same V may);
+  is = λ V. k.is V ∙ ap (λ U. lay_at U n (row m)) (l.is V) ∙ sym (laid-more (written before V) n row m) ∙ ap (laid (written before V) n row) (let e : suc m ≡ m + 1 = omega arith in e);
 }
 
-pub file-written : (first old mid last new : View → Type 0) (none gap put ws : List Write) (c : Caller) (offset : ℕ) (bs blocks : List ℕ) (now : Time) (n : ℕ) (r : Record) (head : Head) (image given bytes : List ℕ) (reply : Changed)
-    → none ≡ [] → IsWrittenHead c now r.head blocks (offset + length bs) head → Learns first old (λ V. IsImage V r.head offset bs image) → length image ≡ image_bytes offset (offset + length bs)
-    → ClearsGap old mid gap r.head offset → LaysBlocks mid last gap put n r.head.blocks blocks offset (offset + length bs) given 48 → given ≡ image → ((V : View) → new V → last V) → ws ≡ inode_write n bytes ∷ put → inode_seen bytes ≡ used (held_of head (name_from r.bytes))
-    → reply ≡ changed_told n r.head head → WritesFile first new ws c offset bs blocks now n r reply
-file-written first old mid last new none gap put ws c offset bs blocks now n r head image given bytes reply empty is_head im long g k given_is same is shown tells = record {
+pub file-written : (first old mid last new : View → Type 0) (none gap put ws : List Write) (c : Caller) (offset : ℕ) (bs : List ℕ) (t : Changing) (now : Time) (n : ℕ) (r : Record) (head : Head) (image given bytes : List ℕ) (reply : Changed)
+    → none ≡ [] → IsWrittenHead c now r.head t.new (offset + length bs) head → Learns first old (λ V. IsImage V r.head offset bs image) → length image ≡ image_bytes offset (offset + length bs)
+    → ClearsGap old mid gap r.head offset → LaysBlocks mid last gap put n (laying_at t given) (reach_count t.reach) → given ≡ image → ((V : View) → new V → last V) → ws ≡ inode_write n bytes ∷ put → inode_seen bytes ≡ used (held_of head (name_from r.bytes))
+    → reply ≡ changed_told n r.head head → WritesFile first new ws c offset bs t now n r reply
+file-written first old mid last new none gap put ws c offset bs t now n r head image given bytes reply empty is_head im long g k given_is same is shown tells = record {
   same = λ V m. im.before V (g.same V (k.same V (same V m)));
   is = λ V m. record {
     head = head;
@@ -302,7 +311,7 @@ file-written first old mid last new none gap put ws c offset bs blocks now n r h
     long = long;
     view =
         ap (λ ws. written ws V) is
-        ∙ (λ i. with_inode ((k.is V ∙ ap (λ v. laid (written gap V) n r.head.blocks blocks offset (offset + length bs) v 48) given_is ∙ ap (λ U. laid U n r.head.blocks blocks offset (offset + length bs) image 48) (g.is V (k.same V (same V m))) ∙ ap (λ bs48. laid (with_gap V (gap_of r.head offset)) n r.head.blocks bs48 offset (offset + length bs) image 48) (sym is_head.blocks)) i) n (shown i));
+        ∙ (λ i. with_inode ((k.is V ∙ ap (λ v. laid (written gap V) n (laying_at t v) (reach_count t.reach)) given_is ∙ ap (λ U. laid U n (laying_at t image) (reach_count t.reach)) (g.is V (k.same V (same V m)))) i) n (shown i));
     told = tells;
   };
 }
@@ -310,9 +319,18 @@ file-written first old mid last new none gap put ws c offset bs blocks now n r h
 pub room-full : (old new : View → Type 0) (ws : List Write) (c : Caller) (offset : ℕ) (bs : List ℕ) (now : Time) (n : ℕ) (r : Record) → ((V : View) → new V → old V) → ws ≡ [] → WritesRoom old new ws c offset bs now n r (Err NoSpace)
 room-full old new ws c offset bs now n r same none = record { same = same; is = λ V m. full (ap (λ ws. written ws V) none) }
 
-pub room-written : (first old new : View → Type 0) (ws : List Write) (c : Caller) (offset : ℕ) (bs blocks : List ℕ) (now : Time) (n : ℕ) (r : Record) (o : Option (List ℕ)) (reply : Changed) → Learns first old (λ V. IsTaken V r.head.blocks offset (offset + length bs) o) → o ≡ Some blocks
-    → WritesFile old new ws c offset bs blocks now n r reply → WritesRoom first new ws c offset bs now n r (Ok reply)
-room-written first old new ws c offset bs blocks now n r o reply l is k = record { same = λ V m. l.before V (k.same V m); is = λ V m. writes blocks reply (subst (IsTaken V r.head.blocks offset (offset + length bs)) is (l.now V (k.same V m))) (k.is V m) }
+pub room-written : (first read old new : View → Type 0) (ws : List Write) (c : Caller) (offset : ℕ) (bs : List ℕ) (t : Changing) (now : Time) (n : ℕ) (r : Record) (o : Option Numbers) (reply : Changed) → t.reach ≡ reach_for offset (offset + length bs)
+    → AreSized t.reach t.old → IsSizedTaken t.reach o → Learns first read (λ V. HasNumbers V r.head t.reach t.old) → Learns read old (λ V. IsTaken V t.reach t.old o) → o ≡ Some t.new → WritesFile old new ws c offset bs t now n r reply → WritesRoom first new ws c offset bs now n r (Ok reply)
+room-written first read old new ws c offset bs t now n r o reply reach sized taken_sized had l is k = record {
+  same = λ V m. had.before V (l.before V (k.same V m));
+  is = λ V m. writes t reply (record {
+    reach = reach;
+    had = had.now V (l.before V (k.same V m));
+    old_sized = sized;
+    new_sized = subst (IsSizedTaken t.reach) is taken_sized;
+    taken = subst (IsTaken V t.reach t.old) is (l.now V (k.same V m));
+  }) (k.is V m);
+}
 
 pub allowed-none : (may : View → Type 0) (ws : List Write) (c : Caller) (offset : ℕ) (bs : List ℕ) (now : Time) (n : ℕ) (r : Record) (t : Told) → ws ≡ [] → length bs ≡ 0 → t ≡ told_of n r.head → WritesAllowed may may ws c offset bs now n r (Ok (record { before = t; after = t }))
 allowed-none may ws c offset bs now n r t none empty tells = record { same = λ V m. m; is = λ V m. stays (record { before = t; after = t }) empty (ap (λ ws. written ws V) none) (λ i. record { before = tells i; after = tells i }) }

@@ -9,8 +9,10 @@ pub mod Refusals
 pub mod Sizes
 pub mod Fetches
 pub mod Portions
+pub mod Reaches
 pub mod Overlays
 pub mod Takings
+pub mod Exclusives
 pub mod Symlinks
 pub mod Renamings
 pub mod Moves

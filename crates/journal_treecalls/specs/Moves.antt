@@ -38,6 +38,7 @@ rehomed_head h d place now = record {
   place = place;
   size = h.size;
   blocks = h.blocks;
+  index = h.index;
 }
 
 -- A sound disk has times for ctimes. The heads are then those after the move

@@ -101,6 +101,7 @@ moved head now = record {
   place = head.place;
   size = head.size;
   blocks = head.blocks;
+  index = head.index;
 }
 
 abbrev pub changed_of : ℕ → Head → Time → Changed

@@ -1,5 +1,5 @@
 -- What WRITE writes.
-use Rattle.std.specs.Prelude.{ℕ, zero, suc, ◌≡◌, ◌≢◌, ◌<◌, ◌≤◌, ◌+◌, ◌-◌, ◌*◌, ◌/◌, ◌%◌, ◌⊎◌, max, Bool, true, false, not, ◌==◌, ◌&&◌, nat_lt, if◌then◌else◌, List, length, get_or, slice_range, Option, Some, None, Result, Ok, Err}
+use Rattle.std.specs.Prelude.{ℕ, zero, suc, ◌≡◌, ◌≢◌, ◌<◌, ◌≤◌, ◌+◌, ◌-◌, ◌*◌, ◌/◌, ◌%◌, ◌⊎◌, max, Bool, true, false, not, ◌==◌, ◌&&◌, nat_le, nat_lt, bytes_eq, if◌then◌else◌, List, length, get_or, slice_range, Option, Some, None, Result, Ok, Err}
 use Rattle.std.specs.List.{list_any}
 use Rattle.journal_tree.specs.declared.limits.TheConstants.{MOST_BYTES}
 use Rattle.journal_tree.specs.declared.time.Time.{Time}
@@ -19,10 +19,14 @@ use Rattle.journal_treestore.specs.Views.{View, bytes_in, with_inode, with_owner
 use Rattle.journal_treestore.specs.Views.Seen.{used}
 use Rattle.journal_treecalls.specs.declared.node.Record.{Record}
 use Rattle.journal_treecalls.specs.declared.setting.Tail.{Tail}
+use Rattle.journal_treecalls.specs.declared.reach.Reach.{Reach}
+use Rattle.journal_treecalls.specs.declared.reach.Numbers.{Numbers}
+use Rattle.journal_treecalls.specs.declared.reach.Changing.{Changing}
 use Rattle.journal_treecalls.specs.Disks.{Write, written}
-use Rattle.journal_treecalls.specs.Fetches.{is_in}
+use Rattle.journal_treecalls.specs.Fetches.{file_blocks}
 use Rattle.journal_treecalls.specs.Rooms.{HasFreeBlock, owner_of}
-use Rattle.journal_treecalls.specs.Sizes.{tail_of, cleared, changed_told}
+use Rattle.journal_treecalls.specs.Sizes.{cleared, changed_told}
+use Rattle.journal_treecalls.specs.Reaches.{reach_count, reach_place, reached_number, leaf_bytes, IsChanging}
 
 -- ── why a node is not written ──
 
@@ -42,15 +46,11 @@ writing_by Link may offset count long = Some Invalid
 abbrev pub writing_status : Caller → Head → ℕ → ℕ → ℕ → Option Status
 writing_status c h offset count long = writing_by h.kind (may_store c h.attributes) offset count long
 
--- ── the blocks of a file ──
+-- ── a block that is none of some ──
 
 -- whether a block is one of these
 abbrev pub is_among : List ℕ → ℕ → Bool
 is_among bs b = list_any (λ x. x == b) bs
-
--- whether there is no block j, and bytes of it are written
-abbrev pub is_fresh : List ℕ → ℕ → ℕ → ℕ → Bool
-is_fresh bs from to j = get_or bs j 0 == 0 && is_in from to j
 
 -- A block that nobody has, and that is none of these
 pub record IsOtherBlock (V : View) (bs : List ℕ) (b : ℕ) : Type 0 where
@@ -60,22 +60,6 @@ pub record IsOtherBlock (V : View) (bs : List ℕ) (b : ℕ) : Type 0 where
 abbrev pub IsOther : View → List ℕ → Option ℕ → Type 0
 IsOther V bs None = Unit {0}
 IsOther V bs (Some b) = IsOtherBlock V bs b
-
--- The block is that of a place, or another if the file has none there and is to have one
-abbrev pub IsBlockFor : View → List ℕ → ℕ → ℕ → ℕ → Option ℕ → Type 0
-IsBlockFor V bs from to j None = Unit {0}
-IsBlockFor V bs from to j (Some b) = (is_fresh bs from to j ≡ false → b ≡ get_or bs j 0) × (is_fresh bs from to j ≡ true → IsOtherBlock V bs b)
-
--- At the first places that are to have a block and have none, there are blocks that nobody has, and
--- all others stay
-pub record AreTaken (V : View) (old : List ℕ) (from to j : ℕ) (bs : List ℕ) : Type 0 where
-  pub kept : (i : ℕ) → (i < j → is_fresh old from to i ≡ false) → get_or bs i 0 ≡ get_or old i 0
-  pub free : (i : ℕ) → i < j → is_fresh old from to i ≡ true → HasFreeBlock V (get_or bs i 0)
-  pub apart : (i k : ℕ) → i < j → is_fresh old from to i ≡ true → k < DIRECT_BLOCKS → k ≢ i → get_or bs k 0 ≢ get_or bs i 0
-
-abbrev pub IsTaken : View → List ℕ → ℕ → ℕ → Option (List ℕ) → Type 0
-IsTaken V old from to None = Unit {0}
-IsTaken V old from to (Some bs) = AreTaken V old from to DIRECT_BLOCKS bs × (length bs ≡ DIRECT_BLOCKS)
 
 -- ── their bytes ──
 
@@ -96,7 +80,7 @@ IsBeside from to i = (i < from) ⊎ (to ≤ i)
 pub record IsImage (V : View) (h : Head) (offset : ℕ) (bs image : List ℕ) : Type 0 where
   pub new : (k : ℕ) → k < length image → offset ≤ begin_of offset + k → begin_of offset + k < offset + length bs → get_or image k 0 ≡ get_or bs (begin_of offset + k - offset) 0
   pub old : (k : ℕ) → k < length image → IsBeside offset (offset + length bs) (begin_of offset + k) → begin_of offset + k < h.size
-      → get_or image k 0 ≡ get_or (bytes_in V (get_or h.blocks ((begin_of offset + k) / 4096) 0)) ((begin_of offset + k) % 4096) 0
+      → get_or image k 0 ≡ get_or (bytes_in V (file_blocks V h ((begin_of offset + k) / 4096))) ((begin_of offset + k) % 4096) 0
   pub blank : (k : ℕ) → k < length image → IsBeside offset (offset + length bs) (begin_of offset + k) → h.size ≤ begin_of offset + k → get_or image k 0 ≡ 0
 
 -- those of block j
@@ -106,19 +90,28 @@ piece_of image from j = slice_range image (4096 * j - begin_of from) (4096 * j -
 -- ── the writes ──
 
 -- A file's fields once a caller wrote it up to an end
-pub record IsWrittenHead (c : Caller) (now : Time) (h : Head) (bs : List ℕ) (end : ℕ) (k : Head) : Type 0 where
+pub record IsWrittenHead (c : Caller) (now : Time) (h : Head) (s : Numbers) (end : ℕ) (k : Head) : Type 0 where
   pub kind : k.kind ≡ h.kind
   pub generation : k.generation ≡ h.generation
   pub attributes : IsTime h.attributes.ctime → k.attributes ≡ written_attributes c h.attributes now
   pub directory : k.directory ≡ h.directory
   pub place : k.place ≡ h.place
   pub size : k.size ≡ max h.size end
-  pub blocks : k.blocks ≡ bs
+  pub blocks : k.blocks ≡ s.direct
+  pub index : k.index ≡ s.index
 
 -- where a file ends before the blocks that are written, the block in which it ends, and where it
 -- ends in it
-abbrev pub gap_of : Head → ℕ → Option Tail
-gap_of h offset = if h.size / 4096 == offset / 4096 then None else tail_of h offset
+abbrev pub gap_of : View → Head → ℕ → Option Tail
+gap_of V h offset =
+    if nat_le (offset / 4096) (h.size / 4096) then None
+    else if file_blocks V h (h.size / 4096) == 0 then None
+    else Some (record { block = file_blocks V h (h.size / 4096); from = h.size % 4096 })
+
+-- it ends within the block
+abbrev pub IsInsideTail : Option Tail → Type 0
+IsInsideTail None = Unit {0}
+IsInsideTail (Some t) = t.from ≤ 4096
 
 abbrev pub with_gap : View → Option Tail → View
 with_gap V None = V
@@ -126,55 +119,81 @@ with_gap V (Some t) = with_block V t.block (cleared (V.block t.block) t.from)
 
 pub record ClearsGap (old new : View → Type 0) (ws : List Write) (h : Head) (offset : ℕ) : Type 0 where
   pub same : (V : View) → new V → old V
-  pub is : (V : View) → new V → written ws V ≡ with_gap V (gap_of h offset)
+  pub is : (V : View) → new V → written ws V ≡ with_gap V (gap_of V h offset)
 
--- a block is written as block j of an inode, which had this one there
+-- A block that is put at a place of an inode, which had another there, or none. Where both are one
+-- and it has these bytes, it may stay
+pub record Laying : Type 0 where
+  pub stays : Bool
+  pub was : ℕ
+  pub block : ℕ
+  pub place : ℕ
+  pub bytes : List ℕ
+
+-- the block is written, and its record where the inode did not have it
 abbrev pub lay : View → ℕ → ℕ → ℕ → ℕ → List ℕ → View
-lay U n was b j v = if was == 0 then with_owner (with_block U b v) b (owner_of n j) else with_block U b v
+lay U n was b p v = if was == 0 then with_owner (with_block U b v) b (owner_of n p) else with_block U b v
 
-abbrev pub lay_at : View → ℕ → ℕ → ℕ → ℕ → ℕ → ℕ → List ℕ → View
-lay_at U n was b j from to image = if is_in from to j then lay U n was b j (piece_of image from j) else U
+abbrev pub lay_at : View → ℕ → Laying → View
+lay_at U n l = if l.stays then U else lay U n l.was l.block l.place l.bytes
 
--- and so are the first blocks in which bytes lie that are written
-unfoldable pub laid : View → ℕ → List ℕ → List ℕ → ℕ → ℕ → List ℕ → ℕ → View
-laid U n old new from to image zero = U
-laid U n old new from to image (suc j) = lay_at (laid U n old new from to image j) n (get_or old j 0) (get_or new j 0) j from to image
+-- and so are the first ones of a row
+unfoldable pub laid : View → ℕ → (ℕ → Laying) → ℕ → View
+laid U n row zero = U
+laid U n row (suc m) = lay_at (laid U n row m) n (row m)
 
-pub record LaysOne (old new : View → Type 0) (before after : List Write) (n was b j : ℕ) (v : List ℕ) : Type 0 where
+-- the bytes of an index block that is reached, or of the block with the numbers of these
+abbrev pub index_bytes : Reach → Numbers → ℕ → List ℕ
+index_bytes r s m = if nat_lt m (r.blocks + r.leaves) then leaf_bytes s.leaves.items (m - r.blocks) else s.root.items
+
+-- those of block m of those that are reached
+abbrev pub piece_at : Changing → List ℕ → ℕ → List ℕ
+piece_at t image m = if nat_lt m t.reach.blocks then slice_range image (4096 * m) (4096 * m + 4096) else index_bytes t.reach t.new m
+
+-- whether it is none in which bytes lie, and stays as it is
+abbrev pub is_kept : Changing → ℕ → Bool
+is_kept t m =
+    (nat_le t.reach.blocks m && (reached_number t.reach t.old m == reached_number t.reach t.new m))
+    && bytes_eq (index_bytes t.reach t.old m) (index_bytes t.reach t.new m)
+
+abbrev pub laying_at : Changing → List ℕ → ℕ → Laying
+laying_at t image m = record { stays = is_kept t m; was = reached_number t.reach t.old m; block = reached_number t.reach t.new m; place = reach_place t.reach m; bytes = piece_at t image m }
+
+pub record LaysOne (old new : View → Type 0) (before after : List Write) (n was b p : ℕ) (v : List ℕ) : Type 0 where
   pub same : (V : View) → new V → old V
-  pub is : (V : View) → written after V ≡ lay (written before V) n was b j v
+  pub is : (V : View) → written after V ≡ lay (written before V) n was b p v
 
-pub record LaysAt (old new : View → Type 0) (before after : List Write) (n was b j from to : ℕ) (image : List ℕ) : Type 0 where
+pub record LaysAt (old new : View → Type 0) (before after : List Write) (n : ℕ) (l : Laying) : Type 0 where
   pub same : (V : View) → new V → old V
-  pub is : (V : View) → written after V ≡ lay_at (written before V) n was b j from to image
+  pub is : (V : View) → written after V ≡ lay_at (written before V) n l
 
-pub record LaysBlocks (old new : View → Type 0) (before after : List Write) (n : ℕ) (was bs : List ℕ) (from to : ℕ) (image : List ℕ) (j : ℕ) : Type 0 where
+pub record LaysBlocks (old new : View → Type 0) (before after : List Write) (n : ℕ) (row : ℕ → Laying) (m : ℕ) : Type 0 where
   pub same : (V : View) → new V → old V
-  pub is : (V : View) → written after V ≡ laid (written before V) n was bs from to image j
+  pub is : (V : View) → written after V ≡ laid (written before V) n row m
 
 -- the disk once a file was written
-abbrev pub with_written : View → ℕ → Record → Head → ℕ → ℕ → List ℕ → View
-with_written V n r k from to image =
-    with_inode (laid (with_gap V (gap_of r.head from)) n r.head.blocks k.blocks from to image DIRECT_BLOCKS) n (used (held_of k (name_from r.bytes)))
+abbrev pub with_written : View → ℕ → Record → Head → ℕ → Changing → List ℕ → View
+with_written V n r k from t image =
+    with_inode (laid (with_gap V (gap_of V r.head from)) n (laying_at t image) (reach_count t.reach)) n (used (held_of k (name_from r.bytes)))
 
 -- A file was written, with blocks that it has or that were taken
-pub record IsWritten (V W : View) (c : Caller) (offset : ℕ) (bs blocks : List ℕ) (now : Time) (n : ℕ) (r : Record) (changed : Changed) : Type 0 where
+pub record IsWritten (V W : View) (c : Caller) (offset : ℕ) (bs : List ℕ) (t : Changing) (now : Time) (n : ℕ) (r : Record) (changed : Changed) : Type 0 where
   pub head : Head
   pub image : List ℕ
-  pub is_head : IsWrittenHead c now r.head blocks (offset + length bs) head
+  pub is_head : IsWrittenHead c now r.head t.new (offset + length bs) head
   pub is_image : IsImage V r.head offset bs image
   pub long : length image ≡ image_bytes offset (offset + length bs)
-  pub view : W ≡ with_written V n r head offset (offset + length bs) image
+  pub view : W ≡ with_written V n r head offset t image
   pub told : changed ≡ changed_told n r.head head
 
-pub record WritesFile (old new : View → Type 0) (ws : List Write) (c : Caller) (offset : ℕ) (bs blocks : List ℕ) (now : Time) (n : ℕ) (r : Record) (changed : Changed) : Type 0 where
+pub record WritesFile (old new : View → Type 0) (ws : List Write) (c : Caller) (offset : ℕ) (bs : List ℕ) (t : Changing) (now : Time) (n : ℕ) (r : Record) (changed : Changed) : Type 0 where
   pub same : (V : View) → new V → old V
-  pub is : (V : View) → new V → IsWritten V (written ws V) c offset bs blocks now n r changed
+  pub is : (V : View) → new V → IsWritten V (written ws V) c offset bs t now n r changed
 
 -- or there are too few
 pub data IsWritingRoom (V W : View) (c : Caller) (offset : ℕ) (bs : List ℕ) (now : Time) (n : ℕ) (r : Record) : Result Changed Status → Type 0 where
   full : W ≡ V → IsWritingRoom V W c offset bs now n r (Err NoSpace)
-  writes : (blocks : List ℕ) (changed : Changed) → IsTaken V r.head.blocks offset (offset + length bs) (Some blocks) → IsWritten V W c offset bs blocks now n r changed → IsWritingRoom V W c offset bs now n r (Ok changed)
+  writes : (t : Changing) (changed : Changed) → IsChanging V r.head offset (offset + length bs) t → IsWritten V W c offset bs t now n r changed → IsWritingRoom V W c offset bs now n r (Ok changed)
 
 pub record WritesRoom (old new : View → Type 0) (ws : List Write) (c : Caller) (offset : ℕ) (bs : List ℕ) (now : Time) (n : ℕ) (r : Record) (reply : Result Changed Status) : Type 0 where
   pub same : (V : View) → new V → old V

@@ -1,6 +1,6 @@
 -- The reply of READ.
 use Rattle.std.specs.Prelude.{ℕ, ◌≡◌, ◌+◌, ◌-◌, max, min, Bool, nat_le, if◌then◌else◌, length, Option, Some, None, Result, Ok, Err}
-use Rattle.journal_tree.specs.declared.limits.TheConstants.{TRANSFER_BYTES}
+use Rattle.journal_tree.specs.declared.limits.TheConstants.{MOST_FILE_BLOCKS, TRANSFER_BYTES}
 use Rattle.journal_tree.specs.declared.reply.Kind.{Kind}
 use Rattle.journal_tree.specs.declared.reply.Kind.TheVariants.{Directory, File, Link}
 use Rattle.journal_tree.specs.declared.caller.Caller.{Caller}
@@ -9,13 +9,12 @@ use Rattle.journal_tree.specs.declared.status.Status.TheVariants.{Invalid, NoAcc
 use Rattle.journal_tree.specs.Rights.{may_fetch}
 use Rattle.journal_tree.specs.Contents.{Portion}
 use Rattle.journal_treestore.specs.declared.inode.Head.{Head}
-use Rattle.journal_treestore.specs.declared.inode.TheConstants.{DIRECT_BLOCKS}
 use Rattle.journal_treestore.specs.Views.{View}
 use Rattle.journal_treecalls.specs.declared.fetch.Span.{Span}
 use Rattle.journal_treecalls.specs.declared.node.Record.{Record}
 use Rattle.journal_treecalls.specs.declared.portion.ReadReply.{ReadReply}
 use Rattle.journal_treecalls.specs.Targets.{told_of}
-use Rattle.journal_treecalls.specs.Fetches.{IsFetched}
+use Rattle.journal_treecalls.specs.Fetches.{file_blocks, IsFetched}
 
 -- why a node is not read, by its kind and by the right to fetch
 abbrev pub reading_by : Kind → Bool → Option Status
@@ -41,7 +40,7 @@ no_span = record { from = 0; to = 0 }
 pub record HasPortion (V : View) (n : ℕ) (h : Head) (offset count : ℕ) (reply : ReadReply) : Type 0 where
   pub file : reply.file ≡ told_of n h
   pub long : length reply.bytes.items ≡ reach_of h.size offset count - offset
-  pub fetched : IsFetched V h.blocks no_span offset DIRECT_BLOCKS reply.bytes.items
+  pub fetched : IsFetched V (file_blocks V h) no_span offset MOST_FILE_BLOCKS reply.bytes.items
   pub ends : reply.is_end ≡ nat_le h.size (reach_of h.size offset count)
 
 -- or the node is not read

@@ -1,5 +1,5 @@
 -- Room for a new node, and what is there once it is made.
-use Rattle.std.specs.Prelude.{ℕ, ◌≡◌, ◌≢◌, ◌<◌, ◌≤◌, ◌+◌, ◌*◌, ◌/◌, Bool, true, false, not, ◌&&◌, ◌==◌, if◌then◌else◌, List, length, get_or, slice_set, replicate, nat_lt, unwrap_or, Option, Some, None, Result, Ok, Err}
+use Rattle.std.specs.Prelude.{ℕ, ◌≡◌, ◌≢◌, ◌<◌, ◌≤◌, ◌+◌, ◌*◌, ◌/◌, Bool, true, false, not, if◌then◌else◌, List, length, get_or, slice_set, replicate, nat_lt, unwrap_or, Option, Some, None, Result, Ok, Err}
 use Rattle.journal_tree.specs.declared.limits.TheConstants.{LAST_GENERATION, MOST_BLOCKS, FILE_MODE, DIRECTORY_MODE}
 use Rattle.journal_tree.specs.declared.time.Time.{Time}
 use Rattle.journal_tree.specs.declared.reply.Attributes.{Attributes}
@@ -22,7 +22,7 @@ use Rattle.journal_treestore.specs.declared.inode.Head.{Head}
 use Rattle.journal_treestore.specs.declared.owner.Owner.{Owner}
 use Rattle.journal_treestore.specs.Entries.{entry_from, with_entry, tag_of}
 use Rattle.journal_treestore.specs.Inodes.{name_from}
-use Rattle.journal_treestore.specs.Views.{Held, View, zero_block, with_inode, with_owner, with_block, held_of}
+use Rattle.journal_treestore.specs.Views.{Held, View, block_at, zero_block, with_inode, with_owner, with_block, held_of}
 use Rattle.journal_treestore.specs.Views.Seen.{free, used}
 use Rattle.journal_treestore.specs.Steps.{with_moment, IsUnowned}
 use Rattle.journal_treecalls.specs.declared.node.Record.{Record}
@@ -104,14 +104,10 @@ abbrev pub if_nobodys : ℕ → Bool → Option ℕ
 if_nobodys b true = None
 if_nobodys b false = Some b
 
--- whether an inode of these blocks has the block at a place
-abbrev pub has_at : List ℕ → ℕ → ℕ → Bool
-has_at bs place b = nat_lt place DIRECT_BLOCKS && get_or bs place 0 == b
-
 -- Where it is said that the inode that a record names has the block not, it has it not
 abbrev pub IsHad : View → ℕ → Owner → Bool → Type 0
 IsHad V b o true = Unit {0}
-IsHad V b o false = b ≢ 0 → (h : Held) → V.inode o.number ≡ used h → h.blocks o.place ≢ b
+IsHad V b o false = b ≢ 0 → (h : Held) → V.inode o.number ≡ used h → block_at V h o.place ≢ b
 
 -- A directory may have one more block, and nobody has this one
 pub record HasFurther (V : View) (h : Head) (f : FreeBlock) : Type 0 where
@@ -184,6 +180,7 @@ new_head d f place new = record {
   place = place;
   size = new.size;
   blocks = no_blocks;
+  index = 0;
 }
 
 -- a directory of which this becomes block j, the last
@@ -196,6 +193,7 @@ with_further h j b = record {
   place = h.place;
   size = 4096 * (j + 1);
   blocks = slice_set h.blocks j b;
+  index = h.index;
 }
 
 -- the record of a block that an inode has at a place

@@ -1,5 +1,6 @@
 -- What SETATTR sets, and the blocks of a file of another size.
-use Rattle.std.specs.Prelude.{ℕ, ◌≡◌, ◌-◌, ◌*◌, ◌/◌, ◌%◌, ◌==◌, not, ◌&&◌, nat_le, if◌then◌else◌, List, ◌++◌, length, take, get_or, replicate, Option, Some, None, is_some, unwrap_or, Result, Ok, Err, true, false}
+use Rattle.std.specs.Prelude.{ℕ, ◌≡◌, ◌≤◌, ◌-◌, ◌*◌, ◌/◌, ◌%◌, ◌==◌, not, ◌&&◌, nat_le, nat_lt, if◌then◌else◌, List, ◌++◌, length, take, get_or, replicate, Option, Some, None, is_some, unwrap_or, Result, Ok, Err, true, false}
+use Rattle.journal_tree.specs.declared.limits.TheConstants.{MOST_FILE_BLOCKS}
 use Rattle.journal_tree.specs.declared.time.Time.{Time}
 use Rattle.journal_tree.specs.declared.reply.Changed.{Changed}
 use Rattle.journal_tree.specs.declared.settings.Settings.{Settings}
@@ -15,9 +16,12 @@ use Rattle.journal_treestore.specs.Views.{View, with_inode, with_block, held_of}
 use Rattle.journal_treestore.specs.Views.Seen.{used}
 use Rattle.journal_treecalls.specs.declared.node.Record.{Record}
 use Rattle.journal_treecalls.specs.declared.setting.Tail.{Tail}
+use Rattle.journal_treecalls.specs.declared.setting.Tails.{Tails}
+use Rattle.journal_treecalls.specs.declared.setting.Tails.TheVariants.{NoTail, OneTail, TwoTails}
 use Rattle.journal_treecalls.specs.Disks.{Write, written}
 use Rattle.journal_treecalls.specs.Targets.{told_of}
 use Rattle.journal_treecalls.specs.Names.{is_file_kind}
+use Rattle.journal_treecalls.specs.Fetches.{file_blocks, file_index, leaf_begin, last_block, last_leaf}
 
 -- why a node is not set
 abbrev pub setting_status : Caller → Settings → Option Time → Head → Option Status
@@ -47,14 +51,41 @@ pub record IsSetHead (c : Caller) (s : Settings) (now : Time) (h k : Head) : Typ
   pub place : k.place ≡ h.place
   pub size : k.size ≡ unwrap_or s.size h.size
   pub blocks : IsCutAt h.blocks k.size k.blocks
+  pub index : k.index ≡ cut_one h.index k.size DIRECT_BLOCKS
 
--- where a file grows, the block in which it ends, and where it ends in it
-abbrev pub tail_of : Head → ℕ → Option Tail
-tail_of h size =
-    if nat_le size h.size then None
-    else if nat_le DIRECT_BLOCKS (h.size / 4096) then None
-    else if get_or h.blocks (h.size / 4096) 0 == 0 then None
-    else Some (record { block = get_or h.blocks (h.size / 4096) 0; from = h.size % 4096 })
+-- ── blocks in which zeros are put before a file has another size ──
+
+abbrev pub if_some : ℕ → ℕ → Tails
+if_some b from = if b == 0 then NoTail else OneTail (record { block = b; from = from })
+
+-- where it grows, the block in which it ends, after its end
+abbrev pub grown_tails : View → Head → Tails
+grown_tails V h = if nat_le MOST_FILE_BLOCKS (h.size / 4096) then NoTail else if_some (file_blocks V h (h.size / 4096)) (h.size % 4096)
+
+abbrev pub with_leaf : Tail → ℕ → ℕ → Tails
+with_leaf root b from = if b == 0 then OneTail root else TwoTails root (record { block = b; from = from })
+
+-- how many numbers the last index block has of a file of this size
+abbrev pub last_numbers : ℕ → ℕ → ℕ
+last_numbers leaves size = last_block size - leaf_begin (leaves - 1)
+
+-- where it keeps index blocks, the block with their numbers, after the last of these; and
+-- the last of them, after its last number
+abbrev pub kept_tails : View → Head → ℕ → ℕ → Tails
+kept_tails V h leaves size = with_leaf (record { block = h.index; from = 4 * leaves }) (file_index V h (leaves - 1)) (4 * last_numbers leaves size)
+
+-- where it gets smaller
+abbrev pub cut_tails : View → Head → ℕ → Tails
+cut_tails V h size = if h.index == 0 then NoTail else if last_leaf size == 0 then NoTail else kept_tails V h (last_leaf size) size
+
+abbrev pub tails_of : View → Head → ℕ → Tails
+tails_of V h size = if nat_lt h.size size then grown_tails V h else if nat_lt size h.size then cut_tails V h size else NoTail
+
+-- zeros begin inside the blocks
+abbrev pub AreInside : Tails → Type 0
+AreInside NoTail = Unit {0}
+AreInside (OneTail t) = t.from ≤ 4096
+AreInside (TwoTails t u) = (t.from ≤ 4096) × (u.from ≤ 4096)
 
 -- bytes with zeros from a place on
 abbrev pub cleared : List ℕ → ℕ → List ℕ
@@ -63,37 +94,32 @@ cleared v from = take from v ++ replicate (length v - from) 0
 abbrev pub changed_told : ℕ → Head → Head → Changed
 changed_told n before after = record { before = told_of n before; after = told_of n after }
 
--- The disk once an inode was written, and once a block was cleared too
-abbrev pub with_head : View → ℕ → Record → Head → View
-with_head V n r k = with_inode V n (used (held_of k (name_from r.bytes)))
+-- The disk once blocks were cleared, as they were read, and an inode was written
+abbrev pub with_tail : View → Tail → List ℕ → View
+with_tail V t v = with_block V t.block (cleared v t.from)
 
-abbrev pub with_cleared : View → ℕ → Record → Head → Tail → View
-with_cleared V n r k t = with_inode (with_block V t.block (cleared (V.block t.block) t.from)) n (used (held_of k (name_from r.bytes)))
+abbrev pub with_tails : View → Tails → View
+with_tails V NoTail = V
+with_tails V (OneTail t) = with_tail V t (V.block t.block)
+with_tails V (TwoTails t u) = with_tail (with_tail V t (V.block t.block)) u (V.block u.block)
 
-pub record PutsPlain (old new : View → Type 0) (ws : List Write) (n : ℕ) (r : Record) (k : Head) (changed : Changed) : Type 0 where
+abbrev pub with_set : View → ℕ → Record → Head → Tails → View
+with_set V n r k tails = with_inode (with_tails V tails) n (used (held_of k (name_from r.bytes)))
+
+pub record PutsHead (old new : View → Type 0) (ws : List Write) (n : ℕ) (r : Record) (k : Head) (tails : Tails) (changed : Changed) : Type 0 where
   pub same : (V : View) → new V → old V
-  pub is : (V : View) → new V → written ws V ≡ with_head V n r k
+  pub is : (V : View) → new V → written ws V ≡ with_set V n r k tails
   pub told : changed ≡ changed_told n r.head k
-
-pub record PutsCleared (old new : View → Type 0) (ws : List Write) (n : ℕ) (r : Record) (k : Head) (t : Tail) (changed : Changed) : Type 0 where
-  pub same : (V : View) → new V → old V
-  pub is : (V : View) → new V → written ws V ≡ with_cleared V n r k t
-  pub told : changed ≡ changed_told n r.head k
-
--- The inode was written, and before it the block in which the file ends, where it grows
-abbrev pub with_set : View → ℕ → Record → Head → Option Tail → View
-with_set V n r k None = with_head V n r k
-with_set V n r k (Some t) = with_cleared V n r k t
 
 pub record SetsHead (old new : View → Type 0) (ws : List Write) (n : ℕ) (r : Record) (k : Head) (changed : Changed) : Type 0 where
   pub same : (V : View) → new V → old V
-  pub is : (V : View) → new V → written ws V ≡ with_set V n r k (tail_of r.head k.size)
+  pub is : (V : View) → new V → written ws V ≡ with_set V n r k (tails_of V r.head k.size)
   pub told : changed ≡ changed_told n r.head k
 
 -- A node is set, or nothing is asked for and it stays
 pub data IsSet (V W : View) (c : Caller) (s : Settings) (now : Time) (n : ℕ) (r : Record) (changed : Changed) : Type 0 where
   stays : asks_nothing s ≡ true → W ≡ V → changed ≡ changed_told n r.head r.head → IsSet V W c s now n r changed
-  sets : (k : Head) → asks_nothing s ≡ false → IsSetHead c s now r.head k → W ≡ with_set V n r k (tail_of r.head k.size) → changed ≡ changed_told n r.head k → IsSet V W c s now n r changed
+  sets : (k : Head) → asks_nothing s ≡ false → IsSetHead c s now r.head k → W ≡ with_set V n r k (tails_of V r.head k.size) → changed ≡ changed_told n r.head k → IsSet V W c s now n r changed
 
 pub record SetsAllowed (old new : View → Type 0) (ws : List Write) (c : Caller) (s : Settings) (now : Time) (n : ℕ) (r : Record) (changed : Changed) : Type 0 where
   pub same : (V : View) → new V → old V

@@ -62,6 +62,7 @@ with_first h b = record {
   place = h.place;
   size = h.size;
   blocks = slice_set h.blocks 0 b;
+  index = h.index;
 }
 
 -- the disk once a link got a block with its text

@@ -21,7 +21,7 @@ use Rattle.journal_treecalls.specs.declared.search.Hit.{Hit}
 use Rattle.journal_treecalls.specs.declared.named.Named.{Named}
 use Rattle.journal_treecalls.specs.Disks.{Write, inode_seen, written}
 use Rattle.journal_treecalls.specs.Targets.{told_of}
-use Rattle.journal_treecalls.specs.Sizes.{IsSetHead, tail_of, with_set}
+use Rattle.journal_treecalls.specs.Sizes.{IsSetHead, tails_of, with_set}
 use Rattle.journal_treecalls.specs.Rooms.{IsMakingPlanned}
 
 -- why the size of a file is not set, if one is asked for
@@ -55,7 +55,7 @@ pub record IsSized (V W : View) (c : Caller) (hit : Hit) (name : List ℕ) (size
   pub record_is : Record
   pub is : IsRecordOf hit.head name record_is
   pub sets : IsSetHead c (size_alone size) now hit.head k
-  pub view : W ≡ with_set V hit.number record_is k (tail_of hit.head k.size)
+  pub view : W ≡ with_set V hit.number record_is k (tails_of V hit.head k.size)
 
 pub record Sizes (old new : View → Type 0) (ws : List Write) (c : Caller) (hit : Hit) (name : List ℕ) (size : Option ℕ) (now : Time) (k : Head) : Type 0 where
   pub same : (V : View) → new V → old V

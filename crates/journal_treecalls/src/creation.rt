@@ -461,6 +461,7 @@ pub(crate) fn new_head(directory: u32, free: FreeNumber, place: u32, node: &NewN
         place,
         size: node.size,
         blocks: [0; DIRECT_BLOCKS],
+        index: 0,
     }
 }
 

@@ -1,5 +1,5 @@
 // A node gets a further block.
-ghost use Rattle.std.specs.Prelude.{◌≡◌, ◌<◌, slice_set};
+ghost use Rattle.std.specs.Prelude.{◌≡◌, ◌<◌, ◌^◌, slice_set};
 ghost use Rattle.journal_tree.specs.declared.limits.TheConstants.{MOST_BLOCKS};
 ghost use Rattle.journal_treestore.specs.Owners.{owner_from};
 ghost use Rattle.journal_treecalls.specs.Rooms.{owner_of, with_further};
@@ -9,11 +9,11 @@ use journal_tree::BLOCK_BYTES;
 use journal_treestore::{DIRECT_BLOCKS, Head, OWNER_BYTES, Owner};
 
 // The bytes of the record of a block that an inode has at a place.
-pub(crate) fn owner_at(number: u32, j: u64) -> [u8; OWNER_BYTES]
-    requires { j < MOST_BLOCKS }
-    ensures { owner_from result ≡ owner_of number j }
+pub(crate) fn owner_at(number: u32, place: u64) -> [u8; OWNER_BYTES]
+    requires { place < 2 ^ 32 }
+    ensures { owner_from result ≡ owner_of number place }
 {
-    let place = j as u32;
+    let place = place as u32;
     let owner = Owner { number, place };
     owner.bytes()
 }

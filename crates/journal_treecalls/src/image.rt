@@ -34,7 +34,7 @@ pub(crate) fn image_of<T: TreeDisk>(
     };
     let begin = begin_of(offset);
     let mut image = disk.zeros(image_bytes(span))?;
-    fetch(disk, &head.blocks, begin, span, &mut image)?;
+    fetch(disk, head, begin, span, &mut image)?;
     lay_over(&mut image, head.size, offset, bytes);
     Ok(image)
 }

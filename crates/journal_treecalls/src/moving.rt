@@ -278,6 +278,7 @@ fn rehomed(node: &Head, directory: u32, place: u32, now: Time) -> Head
     Head {
         attributes: Attributes {
             ctime: last.of_change(now),
+            verifier: None,
             ..head.attributes
         },
         directory,

@@ -1,25 +1,29 @@
 // WRITE.
-ghost use Rattle.std.specs.Prelude.{◌≡◌, ◌<◌, ◌≤◌, ◌+◌, ◌*◌, [], nat_lt, length, IfOk};
-ghost use Rattle.journal_tree.specs.declared.limits.TheConstants.{MOST_BLOCKS, MOST_BYTES};
+ghost use Rattle.std.specs.Prelude.{◌≡◌, ◌<◌, ◌≤◌, ◌+◌, ◌*◌, ◌^◌, [], nat_lt, length, IfOk};
+ghost use Rattle.journal_tree.specs.declared.limits.TheConstants.{MOST_BYTES};
 ghost use Rattle.journal_tree.specs.Times.{IsTime};
 ghost use Rattle.journal_tree.specs.Op.Call.{write as write_call};
 ghost use Rattle.journal_tree.specs.Op.Reply.{wrote};
-ghost use Rattle.journal_treecalls.specs.Disks.{Does};
-ghost use Rattle.journal_treecalls.specs.Overlays.{status_of_writing, writing_status, image_bytes, gap_of, IsWrittenHead, ClearsGap, LaysOne, LaysAt, LaysBlocks, WritesFile, WritesRoom, WritesAllowed, WritesNode};
+ghost use Rattle.journal_treecalls.specs.Disks.{Learns, Does};
+ghost use Rattle.journal_treecalls.specs.Reaches.{reach_for, reach_count, IsReach, AreSized};
+ghost use Rattle.journal_treecalls.specs.Overlays.{status_of_writing, writing_status, gap_of, IsInsideTail, IsWrittenHead, ClearsGap, index_bytes, piece_at, is_kept, laying_at, LaysOne, LaysAt, LaysBlocks, WritesFile, WritesRoom, WritesAllowed, WritesNode};
 
 use crate::TreeDisk;
-use crate::blocks::take_blocks;
 use crate::bytes::{bounded, used_bytes};
 use crate::fetch::Span;
 use crate::growth::owner_at;
-use crate::image::{begin_of, image_of};
+use crate::image::image_of;
+use crate::index::block_at;
 use crate::node::{Record, node, told};
+use crate::reach::{
+    Changing, Numbers, Reach, numbers_of, reach_count, reach_for, reach_place, take_places,
+};
 use crate::removal::are_words;
-use crate::setting::{Tail, changed, clear_from, tail_of};
+use crate::setting::{Tail, changed, clear_from};
 use journal_tree::{
     Attributes, BLOCK_BYTES, Caller, Changed, Handle, Kind, MOST_BYTES, Status, Time,
 };
-use journal_treestore::{DIRECT_BLOCKS, Head};
+use journal_treestore::Head;
 use journal_world::Value;
 
 /// What a WRITE puts into a file.
@@ -33,7 +37,8 @@ pub struct WriteData<'a> {
 }
 
 /// WRITE (RFC 1813, 3.3.7): bytes of a file from an offset on. If it ends before the offset, zeros
-/// come between. Where it has no block for them, it gets the first of these that is free.
+/// come between. Where it has no block for them, and no index block for the numbers of these, it
+/// gets the first of the spare ones that nobody has. It may meet any number of index blocks.
 ///
 /// # Errors
 /// - The call is given up.
@@ -44,7 +49,9 @@ pub struct WriteData<'a> {
 /// - `Invalid`: the count is not that of the bytes.
 /// - `NoAccess`: the caller does not own the file, and may not write it.
 /// - `TooBig`: there are bytes, and they end after the most bytes of a file.
-/// - `NoSpace`: too few of the blocks are free.
+/// - `NoSpace`: too few of the spare blocks are free. One is taken for each block in which bytes
+///   lie and that the file lacks, one for each index block that it lacks for these, and one for the
+///   numbers of its index blocks if it has none and gets the first.
 pub fn write<T: TreeDisk>(
     disk: &mut T,
     caller: &Caller,
@@ -178,55 +185,54 @@ fn write_room<T: TreeDisk>(
         from: data.offset,
         to: data.offset + bytes.len() as u64,
     };
-    match take_blocks(disk, &target.head, span, blocks)? {
+    let reach = reach_for(span);
+    let old = numbers_of(disk, &target.head, reach)?;
+    match take_places(disk, reach, &old, blocks)? {
         None => Ok(Err(Status::NoSpace)),
-        Some(taken) => {
-            let changed = write_file(disk, caller, number, target, data, &taken, now)?;
+        Some(new) => {
+            let change = Changing { reach, old, new };
+            let changed = write_file(disk, caller, number, target, data, &change, now)?;
             Ok(Ok(changed))
         }
     }
 }
 
-// Bytes of a file of these blocks are written: the blocks in which they lie, the records of those
-// that are new, the block in which the file ended, if zeros come after it, and the inode.
+// Bytes of a file of these blocks are written: the block in which the file ended, if zeros come
+// after it, the blocks in which the bytes lie, the index blocks whose numbers are others, the
+// records of those that are new, and the inode.
 fn write_file<T: TreeDisk>(
     disk: &mut T,
     caller: &Caller,
     number: u32,
     target: &Record,
     data: &WriteData,
-    taken: &[u32; DIRECT_BLOCKS],
+    change: &Changing,
     now: Time,
 ) -> Result<Changed, T::Fault>
     requires first { T.writes disk.old ≡ [] }
     requires time { IsTime now }
     requires some { 0 < length data.now.bytes.now }
     requires fits { data.now.offset + length data.now.bytes.now ≤ MOST_BYTES }
-    ensures { IfOk result (WritesFile (T.may_be disk.old) (T.may_be disk.new) (T.writes disk.new) caller.now data.now.offset data.now.bytes.now taken.now now number target.now) }
+    requires reach { change.now.reach ≡ reach_for data.now.offset (data.now.offset + length data.now.bytes.now) }
+    requires is_reach { IsReach change.now.reach }
+    requires old_sized { AreSized change.now.reach change.now.old }
+    requires new_sized { AreSized change.now.reach change.now.new }
+    ensures { IfOk result (WritesFile (T.may_be disk.old) (T.may_be disk.new) (T.writes disk.new) caller.now data.now.offset data.now.bytes.now change.now now number target.now) }
 {
     let bytes = data.bytes;
-    let span = Span {
-        from: data.offset,
-        to: data.offset + bytes.len() as u64,
-    };
-    let head = written_head(caller, &target.head, taken, span.to, now);
+    let end = data.offset + bytes.len() as u64;
+    let head = written_head(caller, &target.head, &change.new, end, now);
     let image = image_of(disk, &target.head, data.offset, bytes)?;
     clear_gap(disk, &target.head, data.offset)?;
-    put_blocks(disk, number, &target.head.blocks, taken, span, &image)?;
+    put_places(disk, number, change, &image)?;
     disk.put_inode(number, used_bytes(head, target))?;
     Ok(changed(number, &target.head, &head))
 }
 
 // The fields of a file that a caller writes up to an end.
-fn written_head(
-    caller: &Caller,
-    head: &Head,
-    taken: &[u32; DIRECT_BLOCKS],
-    end: u64,
-    now: Time,
-) -> Head
+fn written_head(caller: &Caller, head: &Head, numbers: &Numbers, end: u64, now: Time) -> Head
     requires { IsTime now }
-    ensures { IsWrittenHead caller.now now head.now taken.now end result }
+    ensures { IsWrittenHead caller.now now head.now numbers.now end result }
 {
     let old = *head;
     let last = Attributes {
@@ -237,7 +243,8 @@ fn written_head(
     Head {
         attributes: last.written(caller, now),
         size,
-        blocks: *taken,
+        blocks: numbers.direct,
+        index: numbers.index,
         ..old
     }
 }
@@ -246,9 +253,10 @@ fn written_head(
 // blocks.
 fn clear_gap<T: TreeDisk>(disk: &mut T, head: &Head, offset: u64) -> Result<(), T::Fault>
     requires first { T.writes disk.old ≡ [] }
+    requires fits { offset ≤ MOST_BYTES }
     ensures { IfOk result (λ _. ClearsGap (T.may_be disk.old) (T.may_be disk.new) (T.writes disk.new) head.now offset) }
 {
-    match gap_of(head, offset) {
+    match gap_of(disk, head, offset)? {
         None => Ok(()),
         Some(tail) => {
             let block = disk.block(tail.block)?;
@@ -260,62 +268,119 @@ fn clear_gap<T: TreeDisk>(disk: &mut T, head: &Head, offset: u64) -> Result<(), 
 }
 
 // The block to clear, and from where on.
-fn gap_of(head: &Head, offset: u64) -> Option<Tail>
-    ensures { result ≡ gap_of head.now offset }
+fn gap_of<T: TreeDisk>(disk: &mut T, head: &Head, offset: u64) -> Result<Option<Tail>, T::Fault>
+    requires first { T.writes disk.old ≡ [] }
+    requires fits { offset ≤ MOST_BYTES }
+    ensures learns { IfOk result (λ tail. Learns (T.may_be disk.old) (T.may_be disk.new) (λ V. tail ≡ gap_of V head.now offset)) }
+    ensures inside { IfOk result IsInsideTail }
+    ensures first { T.writes disk.new ≡ [] }
 {
     let last = head.size / BLOCK_BYTES;
-    let first = offset / BLOCK_BYTES;
-    if last == first {
-        return None;
+    if offset / BLOCK_BYTES <= last {
+        return Ok(None);
     }
-    tail_of(head, offset)
+    let block = block_at(disk, head, last as u32)?;
+    if block == 0 {
+        return Ok(None);
+    }
+    let from = (head.size % BLOCK_BYTES) as usize;
+    Ok(Some(Tail { block, from }))
 }
 
-// The blocks in which the span lies are written.
-fn put_blocks<T: TreeDisk>(
+// The blocks that are reached are written.
+fn put_places<T: TreeDisk>(
     disk: &mut T,
     number: u32,
-    old: &[u32; DIRECT_BLOCKS],
-    new: &[u32; DIRECT_BLOCKS],
-    span: Span,
+    change: &Changing,
     image: &[u8],
 ) -> Result<(), T::Fault>
-    requires some { span.from < span.to }
-    requires fits { span.to ≤ MOST_BYTES }
-    requires whole { length image.now ≡ image_bytes span.from span.to }
-    ensures { IfOk result (λ _. LaysBlocks (T.may_be disk.old) (T.may_be disk.new) (T.writes disk.old) (T.writes disk.new) number old.now new.now span.from span.to image.now DIRECT_BLOCKS) }
+    requires is_reach { IsReach change.now.reach }
+    requires old_sized { AreSized change.now.reach change.now.old }
+    requires new_sized { AreSized change.now.reach change.now.new }
+    requires whole { length image.now ≡ 4096 * change.now.reach.blocks }
+    ensures { IfOk result (λ _. LaysBlocks (T.may_be disk.old) (T.may_be disk.new) (T.writes disk.old) (T.writes disk.new) number (laying_at change.now image.now) (reach_count change.now.reach)) }
 {
-    for j in 0..DIRECT_BLOCKS {
-        put_at(disk, number, (old[j], new[j]), j as u64, span, image)?;
+    for m in 0..reach_count(change.reach) {
+        put_place(disk, number, change, m, image)?;
     }
     Ok(())
 }
 
-// So is block j, if bytes of it are in the span.
-fn put_at<T: TreeDisk>(
+// So is block m of them, unless it is an index block that stays as it is.
+fn put_place<T: TreeDisk>(
     disk: &mut T,
     number: u32,
-    blocks: (u32, u32),
-    j: u64,
-    span: Span,
+    change: &Changing,
+    m: u64,
     image: &[u8],
 ) -> Result<(), T::Fault>
-    requires low { j < MOST_BLOCKS }
-    requires some { span.from < span.to }
-    requires fits { span.to ≤ MOST_BYTES }
-    requires whole { length image.now ≡ image_bytes span.from span.to }
-    ensures { IfOk result (λ _. LaysAt (T.may_be disk.old) (T.may_be disk.new) (T.writes disk.old) (T.writes disk.new) number blocks.0 blocks.1 j span.from span.to image.now) }
+    requires is_reach { IsReach change.now.reach }
+    requires old_sized { AreSized change.now.reach change.now.old }
+    requires new_sized { AreSized change.now.reach change.now.new }
+    requires low { m < reach_count change.now.reach }
+    requires whole { length image.now ≡ 4096 * change.now.reach.blocks }
+    ensures { IfOk result (λ _. LaysAt (T.may_be disk.old) (T.may_be disk.new) (T.writes disk.old) (T.writes disk.new) number (laying_at change.now image.now m)) }
 {
-    let begin = BLOCK_BYTES * j;
-    let after = begin + BLOCK_BYTES;
-    if span.to <= begin {
+    if is_kept(change, m) {
         return Ok(());
     }
-    if after <= span.from {
-        return Ok(());
+    let place = reach_place(change.reach, m);
+    let was = change.old.number(change.reach, place);
+    let block = change.new.number(change.reach, place);
+    let piece = piece_at(change, image, m);
+    put_piece(disk, number, (was, block), place, piece)
+}
+
+// True if block m of those that are reached is an index block, or that with the numbers of these,
+// and stays as it is.
+fn is_kept(change: &Changing, m: u64) -> bool
+    requires is_reach { IsReach change.now.reach }
+    requires old_sized { AreSized change.now.reach change.now.old }
+    requires new_sized { AreSized change.now.reach change.now.new }
+    requires low { m < reach_count change.now.reach }
+    ensures { result ≡ is_kept change.now m }
+{
+    let reach = change.reach;
+    if m < reach.blocks {
+        return false;
     }
-    let at = (begin - begin_of(span.from)) as usize;
-    put_piece(disk, number, blocks, j, &image[at..at + 4096])
+    let place = reach_place(reach, m);
+    if change.old.number(reach, place) != change.new.number(reach, place) {
+        return false;
+    }
+    index_bytes(reach, &change.old, m) == index_bytes(reach, &change.new, m)
+}
+
+// The bytes of block m of those that are reached.
+fn piece_at<'a>(change: &'a Changing, image: &'a [u8], m: u64) -> &'a [u8]
+    requires is_reach { IsReach change.now.reach }
+    requires new_sized { AreSized change.now.reach change.now.new }
+    requires low { m < reach_count change.now.reach }
+    requires whole { length image.now ≡ 4096 * change.now.reach.blocks }
+    ensures is { result.now ≡ piece_at change.now image.now m }
+    ensures whole { length result.now ≡ 4096 }
+{
+    if m < change.reach.blocks {
+        let at = (BLOCK_BYTES * m) as usize;
+        return &image[at..at + BLOCK_BYTES as usize];
+    }
+    index_bytes(change.reach, &change.new, m)
+}
+
+// The bytes of block m, where it is an index block or that with the numbers of these.
+fn index_bytes(reach: Reach, numbers: &Numbers, m: u64) -> &[u8]
+    requires is_reach { IsReach reach }
+    requires sized { AreSized reach numbers.now }
+    requires index { reach.blocks ≤ m }
+    requires low { m < reach_count reach }
+    ensures is { result.now ≡ index_bytes reach numbers.now m }
+    ensures whole { length result.now ≡ 4096 }
+{
+    if m < reach.blocks + reach.leaves {
+        let at = (BLOCK_BYTES * (m - reach.blocks)) as usize;
+        return &numbers.leaves[at..at + BLOCK_BYTES as usize];
+    }
+    &numbers.root
 }
 
 // A block is written, and its record if the file did not have it.
@@ -323,18 +388,18 @@ fn put_piece<T: TreeDisk>(
     disk: &mut T,
     number: u32,
     blocks: (u32, u32),
-    j: u64,
+    place: u64,
     piece: &[u8],
 ) -> Result<(), T::Fault>
-    requires low { j < MOST_BLOCKS }
+    requires low { place < 2 ^ 32 }
     requires whole { length piece.now ≡ 4096 }
-    ensures { IfOk result (λ _. LaysOne (T.may_be disk.old) (T.may_be disk.new) (T.writes disk.old) (T.writes disk.new) number blocks.0 blocks.1 j piece.now) }
+    ensures { IfOk result (λ _. LaysOne (T.may_be disk.old) (T.may_be disk.new) (T.writes disk.old) (T.writes disk.new) number blocks.0 blocks.1 place piece.now) }
 {
     let zeros = disk.zero_block()?;
     let value = value_of(zeros, piece);
     disk.put_block(blocks.1, value)?;
     if blocks.0 == 0 {
-        disk.put_owner(blocks.1, owner_at(number, j))?;
+        disk.put_owner(blocks.1, owner_at(number, place))?;
         return Ok(());
     }
     Ok(())

@@ -99,7 +99,7 @@ pub(crate) fn read_file<T: TreeDisk>(
 {
     let reach = reach_of(head.size, offset, count);
     let mut bytes = disk.zeros((reach - offset) as usize)?;
-    fetch(disk, &head.blocks, offset, NO_SPAN, &mut bytes)?;
+    fetch(disk, head, offset, NO_SPAN, &mut bytes)?;
     Ok(ReadReply {
         file: told(number, head),
         bytes,

@@ -1,9 +1,8 @@
 // Calls that the tree does not have: they are refused after their checks.
 ghost use Rattle.std.specs.Prelude.{◌≡◌, [], IfOk, Err};
 ghost use Rattle.journal_tree.specs.declared.time.Time.{Time};
-ghost use Rattle.journal_tree.specs.declared.settings.CreateMode.TheVariants.{Exclusive};
-ghost use Rattle.journal_tree.specs.Op.Call.{create as create_call, mknod as mknod_call, link as link_call};
-ghost use Rattle.journal_tree.specs.Op.Reply.{made, not_done};
+ghost use Rattle.journal_tree.specs.Op.Call.{mknod as mknod_call, link as link_call};
+ghost use Rattle.journal_tree.specs.Op.Reply.{not_done};
 ghost use Rattle.journal_treecalls.specs.Disks.{Learns, Does};
 ghost use Rattle.journal_treecalls.specs.Refusals.{status_of_making, IsRefused};
 
@@ -12,7 +11,7 @@ use crate::named::{Named, find_name};
 use crate::node::node;
 use journal_tree::{Caller, Handle, Status};
 
-/// CREATE in the mode EXCLUSIVE (RFC 1813, 3.3.8).
+/// MKNOD (RFC 1813, 3.3.11).
 ///
 /// # Errors
 /// - The call is given up.
@@ -27,22 +26,6 @@ use journal_tree::{Caller, Handle, Status};
 /// - `Exists`: the directory has a node of the name.
 /// - `NoAccess`: the caller may not write the directory.
 /// - `NotSupported`.
-pub fn create_exclusive<T: TreeDisk>(
-    disk: &mut T,
-    caller: &Caller,
-    directory: Handle,
-    name: &[u8],
-) -> Result<Status, T::Fault>
-    requires first { T.writes disk.old ≡ [] }
-    ensures { IfOk result (λ status. (now : Time) → Does (T.may_be disk.new) (T.writes disk.new) (create_call directory name.now Exclusive) caller.now now (made (Err status))) }
-{
-    refuse_making(disk, caller, directory, name)
-}
-
-/// MKNOD (RFC 1813, 3.3.11). Its answers are those of `create_exclusive`.
-///
-/// # Errors
-/// - The call is given up.
 pub fn mknod<T: TreeDisk>(
     disk: &mut T,
     caller: &Caller,
@@ -62,7 +45,7 @@ pub fn mknod<T: TreeDisk>(
 ///
 /// The answers. The first that holds:
 /// - `Stale`: the handle's node was removed.
-/// - Those of `create_exclusive`, of the directory and the name.
+/// - Those of `mknod`, of the directory and the name.
 pub fn link<T: TreeDisk>(
     disk: &mut T,
     caller: &Caller,

@@ -1,5 +1,5 @@
 // REMOVE.
-ghost use Rattle.std.specs.Prelude.{◌≡◌, ◌<◌, [], IfOk};
+ghost use Rattle.std.specs.Prelude.{◌≡◌, ◌<◌, ◌≤◌, [], IfOk, length};
 ghost use Rattle.journal_tree.specs.declared.time.Time.{Time};
 ghost use Rattle.journal_tree.specs.Times.{IsTime};
 ghost use Rattle.journal_tree.specs.Op.Call.{remove as remove_call};
@@ -43,7 +43,8 @@ pub fn remove<T: TreeDisk>(
 ) -> Result<Result<Changed, Status>, T::Fault>
     requires first { T.writes disk.old ≡ [] }
     requires time { IsTime now }
-    ensures { IfOk result (λ reply. Does (T.may_be disk.new) (T.writes disk.new) (remove_call directory name.now) caller.now now (removed reply)) }
+    ensures does { IfOk result (λ reply. Does (T.may_be disk.new) (T.writes disk.new) (remove_call directory name.now) caller.now now (removed reply)) }
+    ensures few { IfOk result (λ _. length (T.writes disk.new) ≤ 3) }
 {
     are_words(*caller);
     let dots = Status::IsDirectory;
@@ -69,7 +70,8 @@ fn remove_found<T: TreeDisk>(
     requires first { T.writes disk.old ≡ [] }
     requires time { IsTime now }
     requires inside { IsInside found.now.hit }
-    ensures { IfOk result (Removes (T.may_be disk.old) (T.may_be disk.new) (T.writes disk.new) caller.now number found.now now) }
+    ensures removes { IfOk result (Removes (T.may_be disk.old) (T.may_be disk.new) (T.writes disk.new) caller.now number found.now now) }
+    ensures few { IfOk result (λ _. length (T.writes disk.new) ≤ 3) }
 {
     match found.hit {
         None => Ok(Err(Status::NoEntry)),
@@ -89,7 +91,8 @@ fn remove_hit<T: TreeDisk>(
     requires first { T.writes disk.old ≡ [] }
     requires time { IsTime now }
     requires inside { hit.now.at < PLACES }
-    ensures { IfOk result (RemovesHit (T.may_be disk.old) (T.may_be disk.new) (T.writes disk.new) caller.now number directory.now hit.now now) }
+    ensures removes { IfOk result (RemovesHit (T.may_be disk.old) (T.may_be disk.new) (T.writes disk.new) caller.now number directory.now hit.now now) }
+    ensures few { IfOk result (λ _. length (T.writes disk.new) ≤ 3) }
 {
     match removal_status(caller, &directory.head, &hit.head) {
         Some(status) => Ok(Err(status)),
@@ -127,7 +130,8 @@ pub(crate) fn take_out<T: TreeDisk>(
     requires first { T.writes disk.old ≡ [] }
     requires time { IsTime now }
     requires inside { hit.now.at < PLACES }
-    ensures { IfOk result (TakesOut (T.may_be disk.old) (T.may_be disk.new) (T.writes disk.new) number directory.now hit.now now) }
+    ensures takes { IfOk result (TakesOut (T.may_be disk.old) (T.may_be disk.new) (T.writes disk.new) number directory.now hit.now now) }
+    ensures few { IfOk result (λ _. length (T.writes disk.new) ≤ 3) }
 {
     let block = disk.block(hit.block)?;
     let entries = put_entry(block, hit.at, Entry::NONE);

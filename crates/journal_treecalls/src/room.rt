@@ -1,9 +1,10 @@
 // Room for a new node: a number that is free, and a place in its directory.
 ghost use Rattle.std.specs.Prelude.{◌≡◌, ◌<◌, [], IfOk, length};
 ghost use Rattle.journal_treecalls.specs.Disks.{Learns};
-ghost use Rattle.journal_treecalls.specs.Rooms.{if_young, IsFreeNumber, IsYoung, IsEmptyIn, IsPlaceIn, IsPlaceOf, IsPlaceInside, IsFreeBlock, IsThis, if_nobodys, IsHad, has_at, room_of, IsPlaceFor, IsFitPlace, IsRoomFor, IsFitRoom};
+ghost use Rattle.journal_treecalls.specs.Rooms.{if_young, IsFreeNumber, IsYoung, IsEmptyIn, IsPlaceIn, IsPlaceOf, IsPlaceInside, IsFreeBlock, IsThis, if_nobodys, IsHad, room_of, IsPlaceFor, IsFitPlace, IsRoomFor, IsFitRoom};
 
 use crate::TreeDisk;
+use crate::index::block_at;
 use crate::node::inode_of;
 use journal_tree::{BLOCK_BYTES, LAST_GENERATION, MOST_BLOCKS};
 use journal_treestore::{DIRECT_BLOCKS, Entry, Head, Inode, Owner, PLACES};
@@ -294,16 +295,10 @@ fn is_had<T: TreeDisk>(disk: &mut T, block: u32, owner: Owner) -> Result<bool, T
         return Ok(false);
     }
     match inode_of(disk, owner.number)? {
-        Inode::Used(head) => Ok(has_at(&head.blocks, owner.place, block)),
+        Inode::Used(head) => {
+            let has = block_at(disk, &head, owner.place)?;
+            Ok(has == block)
+        }
         Inode::Free(_) => Ok(false),
     }
-}
-
-// True if these blocks have a block at a place.
-fn has_at(blocks: &[u32; DIRECT_BLOCKS], place: u32, block: u32) -> bool
-    ensures is { result ≡ has_at blocks.now place block }
-    ensures all { length blocks.now ≡ DIRECT_BLOCKS }
-{
-    let at = place as usize;
-    at < DIRECT_BLOCKS && blocks[at] == block
 }

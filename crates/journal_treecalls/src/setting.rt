@@ -4,30 +4,47 @@ ghost use Rattle.journal_tree.specs.Attributes.{is_other_time};
 ghost use Rattle.journal_tree.specs.Times.{IsTime};
 ghost use Rattle.journal_tree.specs.Op.Call.{setattr as setattr_call};
 ghost use Rattle.journal_tree.specs.Op.Reply.{set};
-ghost use Rattle.journal_treecalls.specs.Disks.{Does};
+ghost use Rattle.journal_treecalls.specs.declared.setting.Tails.TheVariants.{NoTail, OneTail, TwoTails};
+ghost use Rattle.journal_treecalls.specs.Disks.{Learns, Does};
+ghost use Rattle.journal_treecalls.specs.Fetches.{last_leaf};
 ghost use Rattle.journal_treecalls.specs.Names.{is_directory_kind, is_file_kind};
-ghost use Rattle.journal_treecalls.specs.Sizes.{setting_status, cut_one, IsCutAt, IsSetHead, tail_of, cleared, changed_told, PutsPlain, PutsCleared, SetsHead, SetsAllowed, SetsNode};
+ghost use Rattle.journal_treecalls.specs.Sizes.{setting_status, cut_one, IsCutAt, IsSetHead, if_some, grown_tails, with_leaf, kept_tails, cut_tails, tails_of, AreInside, cleared, changed_told, PutsHead, SetsHead, SetsAllowed, SetsNode};
 
 use crate::TreeDisk;
 use crate::bytes::{bounded, used_bytes};
 use crate::creation::{are_asked, is_no_time, is_too_big};
+use crate::fetch::{last_block, last_leaf};
+use crate::index::{block_at, index_block};
 use crate::node::{Record, node, told};
 use crate::removal::are_words;
 use journal_tree::{
-    Attributes, BLOCK_BYTES, Caller, Changed, Handle, Kind, Settings, Status, Time,
+    Attributes, BLOCK_BYTES, Caller, Changed, Handle, Kind, MOST_FILE_BLOCKS, Settings, Status,
+    Time,
 };
-use journal_treestore::{DIRECT_BLOCKS, Head};
+use journal_treestore::{DIRECT_BLOCKS, Head, INDEX_NUMBERS};
 use journal_world::Value;
 
-// The last block of a file, and where the bytes begin in it that the file does not have.
+// The bytes of a number in a block of numbers.
+const NUMBER_BYTES: usize = 4;
+
+// A block of a file, and where zeros begin in it.
 #[derive(Clone, Copy)]
 pub(crate) struct Tail {
     pub(crate) block: u32,
     pub(crate) from: usize,
 }
 
-/// SETATTR (RFC 1813, 3.3.2): attributes of a node are set, and the size of a file. At most two
-/// objects are written, whatever the size: blocks after it are nobody's then.
+// The blocks in which zeros are put before a file has another size.
+#[derive(Clone, Copy)]
+pub(crate) enum Tails {
+    NoTail,
+    OneTail(Tail),
+    TwoTails(Tail, Tail),
+}
+
+/// SETATTR (RFC 1813, 3.3.2): attributes of a node are set, and the size of a file. At most three
+/// objects are written, whatever the size: the inode, and the block in which a file ends that
+/// grows, or the index blocks that a smaller one keeps. Blocks after the size are nobody's then.
 ///
 /// # Errors
 /// - The call is given up.
@@ -51,7 +68,8 @@ pub fn setattr<T: TreeDisk>(
 ) -> Result<Result<Changed, Status>, T::Fault>
     requires first { T.writes disk.old ≡ [] }
     requires time { IsTime now }
-    ensures { IfOk result (λ reply. Does (T.may_be disk.new) (T.writes disk.new) (setattr_call handle settings guard) caller.now now (set reply)) }
+    ensures does { IfOk result (λ reply. Does (T.may_be disk.new) (T.writes disk.new) (setattr_call handle settings guard) caller.now now (set reply)) }
+    ensures few { IfOk result (λ _. length (T.writes disk.new) ≤ 3) }
 {
     are_words(*caller);
     are_asked(settings);
@@ -73,7 +91,8 @@ fn set_node<T: TreeDisk>(
 ) -> Result<Result<Changed, Status>, T::Fault>
     requires first { T.writes disk.old ≡ [] }
     requires time { IsTime now }
-    ensures { IfOk result (SetsNode (T.may_be disk.old) (T.may_be disk.new) (T.writes disk.new) caller.now settings.now guard now number target.now) }
+    ensures sets { IfOk result (SetsNode (T.may_be disk.old) (T.may_be disk.new) (T.writes disk.new) caller.now settings.now guard now number target.now) }
+    ensures few { IfOk result (λ _. length (T.writes disk.new) ≤ 3) }
 {
     match setting_status(caller, settings, guard, &target.head) {
         Some(status) => Ok(Err(status)),
@@ -155,7 +174,8 @@ fn set_allowed<T: TreeDisk>(
 ) -> Result<Changed, T::Fault>
     requires first { T.writes disk.old ≡ [] }
     requires time { IsTime now }
-    ensures { IfOk result (SetsAllowed (T.may_be disk.old) (T.may_be disk.new) (T.writes disk.new) caller.now settings.now now number target.now) }
+    ensures sets { IfOk result (SetsAllowed (T.may_be disk.old) (T.may_be disk.new) (T.writes disk.new) caller.now settings.now now number target.now) }
+    ensures few { IfOk result (λ _. length (T.writes disk.new) ≤ 3) }
 {
     if settings.asks_nothing() {
         let same = told(number, &target.head);
@@ -183,6 +203,7 @@ pub(crate) fn set_head(caller: &Caller, settings: &Settings, head: &Head, now: T
         attributes: last.set(caller, settings, old.kind, now),
         size,
         blocks: cut_at(&old.blocks, size),
+        index: cut_one(old.index, size, DIRECT_BLOCKS),
         ..old
     }
 }
@@ -198,9 +219,9 @@ fn cut_at(blocks: &[u32; DIRECT_BLOCKS], size: u64) -> [u32; DIRECT_BLOCKS]
     kept
 }
 
-// Block j of such a file.
+// A block of such a file that it needs if it has more than j blocks.
 fn cut_one(block: u32, size: u64, j: usize) -> u32
-    requires { j < DIRECT_BLOCKS }
+    requires { j ≤ DIRECT_BLOCKS }
     ensures { result ≡ cut_one block size j }
 {
     if size <= BLOCK_BYTES * j as u64 {
@@ -210,8 +231,8 @@ fn cut_one(block: u32, size: u64, j: usize) -> u32
     }
 }
 
-// The inode is written, and before it the last block, if there may be other bytes than zeros where
-// the file grows.
+// The inode is written, and before it the blocks in which there may be other bytes than zeros where
+// the file grows, or numbers of blocks where it gets smaller.
 pub(crate) fn put_head<T: TreeDisk>(
     disk: &mut T,
     number: u32,
@@ -219,31 +240,114 @@ pub(crate) fn put_head<T: TreeDisk>(
     head: &Head,
 ) -> Result<Changed, T::Fault>
     requires first { T.writes disk.old ≡ [] }
-    ensures { IfOk result (SetsHead (T.may_be disk.old) (T.may_be disk.new) (T.writes disk.new) number target.now head.now) }
+    ensures sets { IfOk result (SetsHead (T.may_be disk.old) (T.may_be disk.new) (T.writes disk.new) number target.now head.now) }
+    ensures few { IfOk result (λ _. length (T.writes disk.new) ≤ 3) }
 {
-    match tail_of(&target.head, head.size) {
-        None => put_plain(disk, number, target, head),
-        Some(tail) => put_cleared(disk, number, target, head, tail),
+    match tails_of(disk, &target.head, head.size)? {
+        Tails::NoTail => put_plain(disk, number, target, head),
+        Tails::OneTail(tail) => put_cleared(disk, number, target, head, tail),
+        Tails::TwoTails(first, second) => put_both(disk, number, target, head, first, second),
     }
 }
 
-// The block to clear before a file has this size. A block after the file's end is none.
-pub(crate) fn tail_of(head: &Head, size: u64) -> Option<Tail>
-    ensures { result ≡ tail_of head.now size }
+// The blocks to clear before a file has this size.
+fn tails_of<T: TreeDisk>(disk: &mut T, head: &Head, size: u64) -> Result<Tails, T::Fault>
+    requires first { T.writes disk.old ≡ [] }
+    ensures learns { IfOk result (λ tails. Learns (T.may_be disk.old) (T.may_be disk.new) (λ V. tails_of V head.now size ≡ tails)) }
+    ensures inside { IfOk result AreInside }
+    ensures first { T.writes disk.new ≡ [] }
 {
-    let j = (head.size / BLOCK_BYTES) as usize;
-    if size <= head.size {
-        return None;
+    if head.size < size {
+        return grown_tails(disk, head);
     }
-    if DIRECT_BLOCKS <= j {
-        return None;
+    if size < head.size {
+        return cut_tails(disk, head, size);
     }
-    let block = head.blocks[j];
+    Ok(Tails::NoTail)
+}
+
+// Where the file grows, the block in which it ends, after its end.
+fn grown_tails<T: TreeDisk>(disk: &mut T, head: &Head) -> Result<Tails, T::Fault>
+    requires first { T.writes disk.old ≡ [] }
+    ensures learns { IfOk result (λ tails. Learns (T.may_be disk.old) (T.may_be disk.new) (λ V. grown_tails V head.now ≡ tails)) }
+    ensures inside { IfOk result AreInside }
+    ensures first { T.writes disk.new ≡ [] }
+{
+    let j = head.size / BLOCK_BYTES;
+    if MOST_FILE_BLOCKS <= j {
+        return Ok(Tails::NoTail);
+    }
+    let block = block_at(disk, head, j as u32)?;
+    Ok(if_some(block, (head.size % BLOCK_BYTES) as usize))
+}
+
+// The block, if it is one, from a place on.
+fn if_some(block: u32, from: usize) -> Tails
+    requires { from ≤ 4096 }
+    ensures is { result ≡ if_some block from }
+    ensures inside { AreInside result }
+{
     if block == 0 {
-        return None;
+        Tails::NoTail
+    } else {
+        Tails::OneTail(Tail { block, from })
     }
-    let from = (head.size % BLOCK_BYTES) as usize;
-    Some(Tail { block, from })
+}
+
+// Where the file gets smaller, the index blocks that it keeps in part. One that needs none of them
+// keeps none.
+fn cut_tails<T: TreeDisk>(disk: &mut T, head: &Head, size: u64) -> Result<Tails, T::Fault>
+    requires first { T.writes disk.old ≡ [] }
+    ensures learns { IfOk result (λ tails. Learns (T.may_be disk.old) (T.may_be disk.new) (λ V. cut_tails V head.now size ≡ tails)) }
+    ensures inside { IfOk result AreInside }
+    ensures first { T.writes disk.new ≡ [] }
+{
+    if head.index == 0 {
+        return Ok(Tails::NoTail);
+    }
+    let leaves = last_leaf(size) as usize;
+    if leaves == 0 {
+        return Ok(Tails::NoTail);
+    }
+    kept_tails(disk, head, leaves, size)
+}
+
+// Where it keeps index blocks, the block with their numbers, after the last of these; and
+// the last of them, after its last number.
+fn kept_tails<T: TreeDisk>(
+    disk: &mut T,
+    head: &Head,
+    leaves: usize,
+    size: u64,
+) -> Result<Tails, T::Fault>
+    requires first { T.writes disk.old ≡ [] }
+    requires some { 0 < leaves }
+    requires are { leaves ≡ last_leaf size }
+    ensures learns { IfOk result (λ tails. Learns (T.may_be disk.old) (T.may_be disk.new) (λ V. kept_tails V head.now leaves size ≡ tails)) }
+    ensures inside { IfOk result AreInside }
+    ensures first { T.writes disk.new ≡ [] }
+{
+    let last = leaves - 1;
+    let leaf = index_block(disk, head, last)?;
+    let numbers = last_block(size) as usize - (DIRECT_BLOCKS + INDEX_NUMBERS * last);
+    let root = Tail {
+        block: head.index,
+        from: NUMBER_BYTES * leaves,
+    };
+    Ok(with_leaf(root, leaf, NUMBER_BYTES * numbers))
+}
+
+// The first block, and the other one, if it is one, from a place on.
+fn with_leaf(root: Tail, leaf: u32, from: usize) -> Tails
+    requires { (root.from ≤ 4096) × (from ≤ 4096) }
+    ensures is { result ≡ with_leaf root leaf from }
+    ensures inside { AreInside result }
+{
+    if leaf == 0 {
+        Tails::OneTail(root)
+    } else {
+        Tails::TwoTails(root, Tail { block: leaf, from })
+    }
 }
 
 // The inode alone is written.
@@ -254,13 +358,14 @@ fn put_plain<T: TreeDisk>(
     head: &Head,
 ) -> Result<Changed, T::Fault>
     requires first { T.writes disk.old ≡ [] }
-    ensures { IfOk result (PutsPlain (T.may_be disk.old) (T.may_be disk.new) (T.writes disk.new) number target.now head.now) }
+    ensures puts { IfOk result (PutsHead (T.may_be disk.old) (T.may_be disk.new) (T.writes disk.new) number target.now head.now NoTail) }
+    ensures few { IfOk result (λ _. length (T.writes disk.new) ≤ 3) }
 {
     disk.put_inode(number, used_bytes(*head, target))?;
     Ok(changed(number, &target.head, head))
 }
 
-// The last block is cleared, and the inode is written.
+// A block is cleared, and the inode is written.
 fn put_cleared<T: TreeDisk>(
     disk: &mut T,
     number: u32,
@@ -270,11 +375,36 @@ fn put_cleared<T: TreeDisk>(
 ) -> Result<Changed, T::Fault>
     requires first { T.writes disk.old ≡ [] }
     requires inside { tail.from ≤ 4096 }
-    ensures { IfOk result (PutsCleared (T.may_be disk.old) (T.may_be disk.new) (T.writes disk.new) number target.now head.now tail) }
+    ensures puts { IfOk result (PutsHead (T.may_be disk.old) (T.may_be disk.new) (T.writes disk.new) number target.now head.now (OneTail tail)) }
+    ensures few { IfOk result (λ _. length (T.writes disk.new) ≤ 3) }
 {
     let block = disk.block(tail.block)?;
     let cleared = clear_from(block, tail.from);
     disk.put_block(tail.block, cleared)?;
+    disk.put_inode(number, used_bytes(*head, target))?;
+    Ok(changed(number, &target.head, head))
+}
+
+// Two blocks are cleared, and the inode is written.
+fn put_both<T: TreeDisk>(
+    disk: &mut T,
+    number: u32,
+    target: &Record,
+    head: &Head,
+    first: Tail,
+    second: Tail,
+) -> Result<Changed, T::Fault>
+    requires first { T.writes disk.old ≡ [] }
+    requires inside { (first.from ≤ 4096) × (second.from ≤ 4096) }
+    ensures puts { IfOk result (PutsHead (T.may_be disk.old) (T.may_be disk.new) (T.writes disk.new) number target.now head.now (TwoTails first second)) }
+    ensures few { IfOk result (λ _. length (T.writes disk.new) ≤ 3) }
+{
+    let one = disk.block(first.block)?;
+    let other = disk.block(second.block)?;
+    let one = clear_from(one, first.from);
+    let other = clear_from(other, second.from);
+    disk.put_block(first.block, one)?;
+    disk.put_block(second.block, other)?;
     disk.put_inode(number, used_bytes(*head, target))?;
     Ok(changed(number, &target.head, head))
 }

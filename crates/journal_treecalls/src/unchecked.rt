@@ -224,7 +224,7 @@ fn record_of(head: Head, name: &[u8]) -> Record
 }
 
 // The reply: a file that was there, and its directory, which stays.
-fn taken_made(directory: Told, hit: &Hit, head: &Head) -> Made
+pub(crate) fn taken_made(directory: Told, hit: &Hit, head: &Head) -> Made
     ensures { result ≡ taken_made directory hit.now head.now }
 {
     Made {

@@ -67,14 +67,16 @@ root-room t p =
       place = omega arith;
       mtime = (p.made.0, omega (arith, nanos));
       ctime = (p.made.0, omega (arith, nanos));
+      verifier = tt;
       count = refl;
       blocks = λ j. let none = zero-item 48 j in omega (arith, none);
+      index = omega arith;
     }
 
 -- it shows the root
 pub root-seen : (t : NewTree) → IsPossible t → inode_seen (root_bytes t) ≡ used (held_of (root_head t) [])
 root-seen t p =
-    let inode = inode_read (Used (root_head t)) [] (root-room t p) in
+    let inode = inode_read (Used (root_head t)) [] (root-room t p) (omega arith) in
     let name = name_read (root_head t) [] refl in
     λ i. seen (inode i) (name i)
 

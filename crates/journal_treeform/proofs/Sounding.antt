@@ -1,5 +1,5 @@
 -- A view whose only inode in use is an empty root's has a sound tree.
-use Rattle.std.proofs.Common.{ℕ, ◌≡◌, ◌≢◌, ◌≤◌, ◌/◌, ◌%◌, ◌==◌, inl, Bool, true, false, cond, List, [], option_map, Some, None, refl, sym, ap, subst, arith}
+use Rattle.std.proofs.Common.{ℕ, ◌≡◌, ◌≢◌, ◌≤◌, ◌/◌, ◌%◌, ◌==◌, inl, Bool, true, false, cond, List, [], option_map, Some, None, refl, sym, ap, subst, ◌∙◌, arith}
 use Rattle.std.proofs.lemmas.Bool.{eqb-true}
 use Rattle.journal_tree.specs.declared.limits.TheConstants.{ROOT}
 use Rattle.journal_tree.specs.Trees.{Home, Node, Slot, Tree}
@@ -10,8 +10,9 @@ use Rattle.journal_treestore.specs.declared.entry.Entry.{Entry}
 use Rattle.journal_treestore.specs.Entries.{no_entry}
 use Rattle.journal_treestore.specs.Owners.{no_owner}
 use Rattle.journal_treestore.specs.Places.{first_data, data_blocks}
-use Rattle.journal_treestore.specs.Views.{Held, Seen, View, held_of, slot_of, tree_of, entry_in, entry_of, entry_at, home_in, homes}
+use Rattle.journal_treestore.specs.Views.{Held, Seen, View, held_of, block_at, slot_of, tree_of, entry_in, entry_of, entry_at, home_in, homes}
 use Rattle.journal_treestore.specs.Views.Seen.{free, used}
+use Rattle.journal_treestore.proofs.Indexing.{no-index}
 use Rattle.journal_treestore.specs.Sound.{IsHung, IsSoundInode, IsSoundView}
 use Rattle.journal_treeform.specs.declared.new_tree.NewTree.{NewTree}
 use Rattle.journal_treeform.specs.NewDisks.{root_head, new_root, new_tree, IsPossible}
@@ -64,7 +65,7 @@ module _ (t : NewTree) (p : IsPossible t) where
       node : (b : Bool) (x : Node) → (slot_by (new_root t) b).node ≡ Some x → IsFit x
       node true x is =
           let e : new_root t ≡ x = cc (is) in
-          subst IsFit e (record { home = inl refl; place = omega arith; body = (omega arith, (0, refl)); mode = p.mode; owner = p.owner; group = p.group; mtime = p.made; ctime = p.made })
+          subst IsFit e (record { home = inl refl; place = omega arith; body = (omega arith, (0, refl)); mode = p.mode; owner = p.owner; group = p.group; mtime = p.made; ctime = p.made; verifier = tt })
       node false x is = absurd (cc (is))
 
       old : (b : Bool) (x : Node) → (slot_by (new_root t) b).node ≡ Some x → 1 ≤ (slot_by (new_root t) b).generation
@@ -91,13 +92,18 @@ module _ (t : NewTree) (p : IsPossible t) where
     no-block : (j : ℕ) → (root_held t).blocks j ≡ 0
     no-block j = zero-item 48 j
 
+    none-at : (p : ℕ) → block_at V (root_held t) p ≡ 0
+    none-at p = no-index V (root_held t) refl (λ j _. no-block j) p ∙ no-block p
+
     root-sound : IsSoundInode V ROOT (root_held t)
     root-sound = record {
-      owned = λ j some. absurd (some (no-block j));
-      there = λ j some. absurd (some (no-block j));
-      after = λ j _. no-block j;
-      sized = λ j some. absurd (some (no-block j));
+      owned = λ p some. absurd (some (none-at p));
+      there = λ p some. absurd (some (none-at p));
+      after = λ p _. none-at p;
+      sized = λ p some. absurd (some (none-at p));
       whole = λ _. (0, refl);
+      plain = λ _. refl;
+      first = λ j _. no-block j;
     }
 
     inodes : (n : ℕ) (h : Held) → V.inode n ≡ used h → IsSoundInode V n h

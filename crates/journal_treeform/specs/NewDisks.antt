@@ -25,7 +25,7 @@ use Rattle.journal_treeform.specs.declared.new_tree.NewTree.{NewTree}
 -- ── its blocks ──
 
 abbrev pub root_attributes : NewTree → Attributes
-root_attributes t = record { mode = t.mode; owner = t.owner; group = t.group; mtime = t.made; ctime = t.made }
+root_attributes t = record { mode = t.mode; owner = t.owner; group = t.group; mtime = t.made; ctime = t.made; verifier = None }
 
 -- the root's inode: a directory without blocks
 abbrev pub root_head : NewTree → Head
@@ -37,6 +37,7 @@ root_head t = record {
   place = 0;
   size = 0;
   blocks = no_blocks;
+  index = 0;
 }
 
 -- the first block of inodes: the second is the root's, and all others are zeros

@@ -88,6 +88,7 @@ impl NewTree {
             place: 0,
             size: 0,
             blocks: [0; DIRECT_BLOCKS],
+            index: 0,
         }
     }
 
@@ -101,6 +102,7 @@ impl NewTree {
             group: self.group,
             mtime: self.made,
             ctime: self.made,
+            verifier: None,
         }
     }
 }

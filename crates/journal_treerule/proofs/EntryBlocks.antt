@@ -14,6 +14,7 @@ use Rattle.journal_treerule.specs.declared.children.Child.{Child}
 use Rattle.journal_treerule.specs.declared.children.Children.{Children}
 use Rattle.journal_treerule.specs.Parts.{IsNode, IsRightInode, AreInodesRight}
 use Rattle.journal_treerule.specs.Directories.{is_of_directory, IsDataBlock, AreEntriesSound, IsChild, AreChildren, IsListed, HasEntriesAt, HasBlockAt, HasBlocks}
+use Rattle.journal_treerule.proofs.RightInodes.{first-block}
 use Rattle.journal_treerule.proofs.Trees.{IsDirectoryAt, directory-is, entry-of-directory, entry-in-block}
 use Rattle.journal_treerule.proofs.Listing.{listed-blanks, fewer-sound}
 
@@ -26,7 +27,7 @@ module _ (V : View) (d : ℕ) where
   pub has-blocks : (head : Head) (name : List ℕ) → V.inode d ≡ used (held_of head name) → is_of_directory head.kind ≡ true → IsRightInode V d (V.inode d) → HasBlocks V d head.blocks
   has-blocks head name is dir right = record {
     entries = λ place. entry-in-block V d (record { held = held_of head name; is = is; kind = directory-is head.kind dir }) place;
-    there = λ j low some. ((node.blocks j some).first, (node.blocks j some).last);
+    there = λ j low some. let sound = first-block V d (held_of head name) node j some in (sound.first, sound.last);
   }
     where
       node : IsNode V d (held_of head name)

@@ -5,6 +5,7 @@ pub mod Meeting
 pub mod Reaching
 pub mod Listing
 pub mod Naming
+pub mod BlockParts
 pub mod Scanning
 pub mod EntryBlocks
 pub mod NameKinds

@@ -11,29 +11,30 @@ use Rattle.journal_tree.specs.Rule.{Stem, stem_of, stems}
 use Rattle.journal_tree.specs.Fit.{IsFit, IsFitBody}
 use Rattle.journal_tree.proofs.Changing.{stem_from_node}
 use Rattle.journal_treestore.specs.declared.owner.Owner.{Owner}
-use Rattle.journal_treestore.specs.Views.{Held, Seen, View, zero_block, bytes_in, bytes_of, content, body_of, node_of, slot_of, tree_of}
+use Rattle.journal_treestore.specs.Views.{Held, Seen, View, block_at, begin_at, zero_block, bytes_in, bytes_of, content, body_of, node_of, slot_of, tree_of}
 use Rattle.journal_treestore.specs.Views.Seen.{free, used}
 use Rattle.journal_treestore.specs.Sound.{IsSoundInode, IsSoundView}
+use Rattle.journal_treestore.proofs.Indexing.{at-direct, begin-content}
 use Rattle.journal_treestore.proofs.Recording.{zero-long}
 use Rattle.journal_treestore.proofs.Viewing.{inode-node, used_some}
-use Rattle.journal_treerule.specs.Parts.{IsRootHome, IsInPlace, IsSizeOf, IsWithinBounds, IsSoundBlock, AreBlocksSound, IsNode, IsRightInode, AreInodesRight}
+use Rattle.journal_treerule.specs.Parts.{IsRootHome, IsInPlace, IsSizeOf, IsIndexOf, IsWithinBounds, IsSoundBlock, AreBlocksSound, IsNode, IsRightInode, AreInodesRight}
 use Rattle.journal_treerule.proofs.Disks.{IsDisk}
 
 -- ── how many bytes a file has ──
 
-length-bytes_of : (V : View) (n : ℕ) (h : Held) → IsSoundInode V n h → (k : ℕ) → length (bytes_of V h.blocks k) ≡ 4096 * k
+block-long : (V : View) (b : ℕ) → (b ≡ 0) ⊎ (b ≡ 0 → ⊥) → (b ≢ 0 → length (V.block b) ≡ 4096) → length (bytes_in V b) ≡ 4096
+block-long V b (inl none) sized = ap (λ t. length (cond t zero_block (V.block b))) (eq-eqb b 0 none) ∙ zero-long
+block-long V b (inr some) sized = ap (λ t. length (cond t zero_block (V.block b))) (ne_eqb b 0 some) ∙ sized some
+
+length-bytes_of : (V : View) (n : ℕ) (h : Held) → IsSoundInode V n h → (k : ℕ) → length (bytes_of V (block_at V h) k) ≡ 4096 * k
 length-bytes_of V n h s zero = refl
 length-bytes_of V n h s (suc k) =
     let rest = length-bytes_of V n h s k in
-    let one = one_long (cases_eq (h.blocks k) 0) in
-    length-append (bytes_of V h.blocks k) (bytes_in V (h.blocks k)) ∙ omega (arith, rest, one)
-  where
-    one_long : (h.blocks k ≡ 0) ⊎ (h.blocks k ≡ 0 → ⊥) → length (bytes_in V (h.blocks k)) ≡ 4096
-    one_long (inl none) = ap (λ b. length (cond b zero_block (V.block (h.blocks k)))) (eq-eqb (h.blocks k) 0 none) ∙ zero-long
-    one_long (inr some) = ap (λ b. length (cond b zero_block (V.block (h.blocks k)))) (ne_eqb (h.blocks k) 0 some) ∙ s.sized k some
+    let one = block-long V (block_at V h k) (cases_eq (block_at V h k) 0) (s.sized k) in
+    length-append (bytes_of V (block_at V h) k) (bytes_in V (block_at V h k)) ∙ omega (arith, rest, one)
 
 pub length-content : (V : View) (n : ℕ) (h : Held) → IsSoundInode V n h → length (content V h) ≡ h.size
-length-content V n h s = length-take-le h.size (bytes_of V h.blocks ((h.size + 4095) / 4096)) (let l = length-bytes_of V n h s ((h.size + 4095) / 4096) in omega (arith, l))
+length-content V n h s = length-take-le h.size (bytes_of V (block_at V h) ((h.size + 4095) / 4096)) (let l = length-bytes_of V n h s ((h.size + 4095) / 4096) in omega (arith, l))
 
 -- ── from the rule ──
 
@@ -43,15 +44,15 @@ whole-size size blocks is = omega (arith, is)
 few-places : (size blocks : ℕ) → size ≡ 4096 * blocks → size / 8 ≤ 24576 → size ≤ 196608
 few-places size blocks is few = omega (arith, is, few)
 
-few-bytes : (V : View) (n : ℕ) (h : Held) (kind : Kind) → IsSoundInode V n h → (kind ≡ Directory → (blocks : ℕ) × (h.size ≡ 4096 * blocks)) → IsFitBody (body_of V kind h) → h.size ≤ MOST_BYTES
-few-bytes V n h Directory s whole fit = let w = whole refl in few-places h.size w.0 w.1 fit.0
-few-bytes V n h File s whole fit = subst (λ (k : ℕ). k ≤ MOST_BYTES) (length-content V n h s) fit
-few-bytes V n h Link s whole fit = let few = subst (λ (k : ℕ). k ≤ MOST_LINK) (length-content V n h s) fit in omega (arith, few)
-
 size-of : (V : View) (n : ℕ) (h : Held) (kind : Kind) → IsSoundInode V n h → (kind ≡ Directory → (blocks : ℕ) × (h.size ≡ 4096 * blocks)) → IsFitBody (body_of V kind h) → IsSizeOf kind h.size
-size-of V n h Directory s whole fit = let w = whole refl in whole-size h.size w.0 w.1
-size-of V n h File s whole fit = tt
+size-of V n h Directory s whole fit = let w = whole refl in (whole-size h.size w.0 w.1, few-places h.size w.0 w.1 fit.0)
+size-of V n h File s whole fit = subst (λ (k : ℕ). k ≤ MOST_BYTES) (length-content V n h s) fit
 size-of V n h Link s whole fit = subst (λ (k : ℕ). k ≤ MOST_LINK) (length-content V n h s) fit
+
+index-of : (kind : Kind) (index : ℕ) → (kind ≢ File → index ≡ 0) → IsIndexOf kind index
+index-of Directory index plain = plain (λ e. cc e)
+index-of File index plain = tt
+index-of Link index plain = plain (λ e. cc e)
 
 -- what has places is a directory
 pub kind_of_places : (V : View) (h : Held) (kind : Kind) (p : ℕ) → places_of (body_of V kind h) ≡ Some p → kind ≡ Directory
@@ -59,9 +60,9 @@ kind_of_places V h Directory p is = refl
 kind_of_places V h File p is = absurd (let e : None ≡ Some p = is in cc)
 kind_of_places V h Link p is = absurd (let e : None ≡ Some p = is in cc)
 
-block-inside : (size j : ℕ) → (size ≤ 4096 * j) ⊎ (4096 * j < size) → (size ≤ 4096 * j → ⊥) → 4096 * j < size
-block-inside size j (inl after) not = absurd (not after)
-block-inside size j (inr low) not = low
+block-inside : (size at : ℕ) → (at < size) ⊎ (size ≤ at) → (size ≤ at → ⊥) → at < size
+block-inside size at (inl low) not = low
+block-inside size at (inr after) not = absurd (not after)
 
 module _ (V : View) (sound : IsSoundView V) where
   module _ (n : ℕ) (h : Held) (is : V.inode n ≡ used h) where
@@ -103,30 +104,23 @@ module _ (V : View) (sound : IsSoundView V) where
     within = record {
       home = fit.home;
       place = fit.place;
-      size = few-bytes V n h h.kind s s.whole fit.body;
       sized = size-of V n h h.kind s s.whole fit.body;
-      attributes = record { mode = fit.mode; owner = fit.owner; group = fit.group; mtime = fit.mtime; ctime = fit.ctime };
+      indexed = index-of h.kind h.index s.plain;
+      attributes = record { mode = fit.mode; owner = fit.owner; group = fit.group; mtime = fit.mtime; ctime = fit.ctime; verifier = fit.verifier };
       born = let b = sound.fit.born n (node_of V h) node in omega (arith, b, generation);
       young = let y = sound.fit.young n in omega (arith, y, generation);
     }
 
-    blocks : AreBlocksSound V n h.size h.blocks
-    blocks j some = record {
-      inside = block-inside h.size j (cases h.size (4096 * j)) (λ after. some (s.after j after));
-      first = (s.there j some).0;
-      last = (s.there j some).1;
-      owned = s.owned j some;
+    blocks : AreBlocksSound V n h.size (block_at V h)
+    blocks p some = record {
+      inside = block-inside h.size (begin_at p) (cases_lt (begin_at p) h.size) (λ after. some (s.after p after));
+      first = (s.there p some).0;
+      last = (s.there p some).1;
+      owned = s.owned p some;
     }
-      where
-        cases : (a b : ℕ) → (a ≤ b) ⊎ (b < a)
-        cases a b = swap (cases_lt b a)
-          where
-            swap : (b < a) ⊎ (a ≤ b) → (a ≤ b) ⊎ (b < a)
-            swap (inl low) = inr low
-            swap (inr high) = inl high
 
     right-node : IsNode V n h
-    right-node = record { placed = placed; within = within; blocks = blocks }
+    right-node = record { placed = placed; within = within; first = s.first; blocks = blocks }
 
   right-inode : (n : ℕ) (x : Seen) → V.inode n ≡ x → IsRightInode V n x
   right-inode n (free g) is = (
@@ -139,25 +133,54 @@ module _ (V : View) (sound : IsSoundView V) where
   pub inodes-right : AreInodesRight V V.numbers
   inodes-right n low = right-inode n (V.inode n) refl
 
+-- ── the first blocks of a right inode ──
+
+module _ (V : View) (n : ℕ) (h : Held) (right : IsNode V n h) (j : ℕ) (some : h.blocks j ≢ 0) where
+  low-block : j < 48
+  low-block = by (cases_lt j 48)
+    where
+      by : (j < 48) ⊎ (48 ≤ j) → j < 48
+      by (inl low) = low
+      by (inr past) = absurd (some (right.first j past))
+
+  pub first-block : IsSoundBlock V h.size (record { number = n; place = j }) (h.blocks j)
+  first-block =
+      let e = at-direct V h j low-block in
+      subst (IsSoundBlock V h.size (record { number = n; place = j })) e (right.blocks j (λ z. some (sym e ∙ z)))
+
+  pub first-inside : 4096 * j < h.size
+  first-inside = subst (λ at. at < h.size) (begin-content j (let low = low-block in omega (arith, low))) first-block.inside
+
+-- a directory has no more than the most entries
+pub directory-size : (h : Held) → IsWithinBounds h → h.kind ≡ Directory → h.size ≤ 196608
+directory-size h within kind = let sized : IsSizeOf Directory h.size = subst (λ k. IsSizeOf k h.size) kind within.sized in sized.1
+
 -- ── to the rule ──
 
 module _ (V : View) (disk : IsDisk V) (n : ℕ) (h : Held) (right : IsNode V n h) where
-  after : (j : ℕ) → h.size ≤ 4096 * j → (h.blocks j ≡ 0) ⊎ (h.blocks j ≡ 0 → ⊥) → h.blocks j ≡ 0
-  after j far (inl none) = none
-  after j far (inr some) = absurd (let low = (right.blocks j some).inside in omega (arith, low, far))
+  after : (p : ℕ) → h.size ≤ begin_at p → (block_at V h p ≡ 0) ⊎ (block_at V h p ≡ 0 → ⊥) → block_at V h p ≡ 0
+  after p far (inl none) = none
+  after p far (inr some) = absurd (let low = (right.blocks p some).inside in omega (arith, low, far))
 
   whole : (kind : Kind) (size : ℕ) → IsSizeOf kind size → kind ≡ Directory → (blocks : ℕ) × (size ≡ 4096 * blocks)
-  whole Directory size is e = (size / 4096, omega (arith, is))
+  whole Directory size is e = (size / 4096, (let w = is.0 in omega (arith, w)))
   whole File size is e = absurd (cc e)
   whole Link size is e = absurd (cc e)
 
+  plain : (kind : Kind) (index : ℕ) → IsIndexOf kind index → kind ≢ File → index ≡ 0
+  plain Directory index is other = is
+  plain File index is other = absurd (other refl)
+  plain Link index is other = is
+
   pub sound-inode : IsSoundInode V n h
   sound-inode = record {
-    owned = λ j some. (right.blocks j some).owned;
-    there = λ j some. ((right.blocks j some).first, (right.blocks j some).last);
-    after = λ j far. after j far (cases_eq (h.blocks j) 0);
-    sized = λ j some. disk.sized (h.blocks j) (right.blocks j some).first (right.blocks j some).last;
+    owned = λ p some. (right.blocks p some).owned;
+    there = λ p some. ((right.blocks p some).first, (right.blocks p some).last);
+    after = λ p far. after p far (cases_eq (block_at V h p) 0);
+    sized = λ p some. disk.sized (block_at V h p) (right.blocks p some).first (right.blocks p some).last;
     whole = whole h.kind h.size right.within.sized;
+    plain = plain h.kind h.index right.within.indexed;
+    first = right.first;
   }
 
   few_of_bytes : (size : ℕ) → size ≤ 196608 → size / 8 ≤ 24576
@@ -167,8 +190,8 @@ module _ (V : View) (disk : IsDisk V) (n : ℕ) (h : Held) (right : IsNode V n h
   places size blocks is = omega (arith, is)
 
   body : (kind : Kind) → kind ≡ h.kind → IsFitBody (body_of V kind h)
-  body Directory is = let w = whole h.kind h.size right.within.sized (sym is) in (few_of_bytes h.size right.within.size, (w.0, places h.size w.0 w.1))
-  body File is = subst (λ (k : ℕ). k ≤ MOST_BYTES) (sym (length-content V n h sound-inode)) right.within.size
+  body Directory is = let w = whole h.kind h.size right.within.sized (sym is) in let sized : IsSizeOf Directory h.size = subst (λ kind. IsSizeOf kind h.size) (sym is) right.within.sized in (few_of_bytes h.size sized.1, (w.0, places h.size w.0 w.1))
+  body File is = let few : h.size ≤ MOST_BYTES = subst (λ kind. IsSizeOf kind h.size) (sym is) right.within.sized in subst (λ (k : ℕ). k ≤ MOST_BYTES) (sym (length-content V n h sound-inode)) few
   body Link is = let few : h.size ≤ MOST_LINK = subst (λ kind. IsSizeOf kind h.size) (sym is) right.within.sized in subst (λ (k : ℕ). k ≤ MOST_LINK) (sym (length-content V n h sound-inode)) few
 
   pub fit-node : IsFit (node_of V h)
@@ -181,4 +204,5 @@ module _ (V : View) (disk : IsDisk V) (n : ℕ) (h : Held) (right : IsNode V n h
     group = right.within.attributes.group;
     mtime = right.within.attributes.mtime;
     ctime = right.within.attributes.ctime;
+    verifier = right.within.attributes.verifier;
   }

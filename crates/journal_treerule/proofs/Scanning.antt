@@ -5,6 +5,7 @@ use Rattle.std.proofs.lemmas.Bool.{cases_eq, cases_lt, false≢true}
 use Rattle.std.proofs.lemmas.List.{length-set, get_or_past}
 use Rattle.journal_world.specs.Maps.{Map}
 use Rattle.journal_treestore.specs.declared.description.Description.{Description}
+use Rattle.journal_treestore.specs.declared.inode.TheConstants.{DIRECT_BLOCKS, INDEX_NUMBERS, INDEX_PLACE, FIRST_INDEX_PLACE}
 use Rattle.journal_treestore.specs.declared.inode.Inode.{Inode}
 use Rattle.journal_treestore.specs.declared.inode.Inode.TheVariants.{Free, Used}
 use Rattle.journal_treestore.specs.declared.inode.Head.{Head}
@@ -13,11 +14,12 @@ use Rattle.journal_treestore.specs.declared.place.Cut.{Cut}
 use Rattle.journal_treestore.specs.Descriptions.{description_bytes}
 use Rattle.journal_treestore.specs.Inodes.{inode_from, name_from}
 use Rattle.journal_treestore.specs.Places.{first_data, IsCut}
-use Rattle.journal_treestore.specs.Views.{Held, Seen, View, held_of, seen}
+use Rattle.journal_treestore.specs.Views.{Held, Seen, View, begin_at, held_of, seen}
 use Rattle.journal_treestore.specs.Views.Seen.{free, used}
 use Rattle.journal_treecalls.specs.Disks.{inode_seen}
 use Rattle.journal_treeobjects.specs.Maps.{description_of, view_of}
-use Rattle.journal_treerule.specs.Parts.{IsDescriptionOf, IsInPlace, IsWithinBounds, IsSoundBlock, AreBlocksSound, IsNode, IsRightInode, AreInodesRight, is_used, AreInUse, IsScanned, AreBlocksScanned}
+use Rattle.journal_treerule.specs.Parts.{IsDescriptionOf, IsInPlace, IsWithinBounds, IsSoundBlock, IsNode, IsRightInode, AreInodesRight, is_used, AreInUse, IsFirstSound, IsNumberSound, IsSoundIndexBlock, IsIndexBlockSound, IsSoundIndex, AreAllSound, IsScanned, ArePassed}
+use Rattle.journal_treerule.proofs.BlockParts.{all-blocks, in-parts}
 
 -- what was found of the map that is there now, of that before
 pub at-before : (P : Map → Type 0) (before now : Map) (trusted still : Bool) → now ≡ before → still ≡ trusted → (IsTrue still → P now) → IsTrue trusted → P before
@@ -144,44 +146,95 @@ used-fails V n h b is test fails right = fails-test b test fails (subst (IsRight
 pub used-passes : (V : View) (n : ℕ) (h : Held) (b : Bool) → V.inode n ≡ used h → (IsTrue b ↔ IsNode V n h) → b ≡ true → IsRightInode V n (V.inode n) × (true ≡ is_used (V.inode n))
 used-passes V n h b is test passes = (subst (IsRightInode V n) (sym is) (test.0 passes), sym (ap is_used is))
 
-pub node-parts : (V : View) (n : ℕ) (h : Held) (b : Bool) → IsInPlace n h → IsWithinBounds h → (IsTrue b ↔ AreBlocksSound V n h.size h.blocks) → IsTrue b ↔ IsNode V n h
-node-parts V n h b placed within decides = (
-  (λ yes. record { placed = placed; within = within; blocks = decides.0 yes }),
-  (λ node. decides.1 node.blocks),
+pub node-parts : (V : View) (n : ℕ) (head : Head) (name : List ℕ) (b : Bool) → IsInPlace n (held_of head name) → IsWithinBounds (held_of head name) → length head.blocks ≡ DIRECT_BLOCKS → (IsTrue b ↔ AreAllSound V n head)
+    → IsTrue b ↔ IsNode V n (held_of head name)
+node-parts V n head name b placed within whole decides = (
+  (λ yes. record { placed = placed; within = within; first = none; blocks = all-blocks V n head name (decides.0 yes) }),
+  (λ node. decides.1 (in-parts V n head name node.blocks)),
 )
+  where
+    none : (j : ℕ) → DIRECT_BLOCKS ≤ j → get_or head.blocks j 0 ≡ 0
+    none j far = get_or_past head.blocks j 0 (omega (arith, whole, far))
 
 -- ── its blocks ──
 
-module _ (c : Cut) (before now : Map) (trusted still failed fails : Bool) (n size : ℕ) (blocks : List ℕ) (to : ℕ) (scanned : AreBlocksScanned c before now trusted still failed fails n size blocks to) (b : Bool)
-    (answer : IsTrue still → IsTrue b ↔ (get_or blocks to 0 ≢ 0 → IsSoundBlock (view_of c now) size (record { number = n; place = to }) (get_or blocks to 0))) where
-  here : IsTrue trusted → IsTrue b ↔ (get_or blocks to 0 ≢ 0 → IsSoundBlock (view_of c before) size (record { number = n; place = to }) (get_or blocks to 0))
-  here = at-before (λ m. IsTrue b ↔ (get_or blocks to 0 ≢ 0 → IsSoundBlock (view_of c m) size (record { number = n; place = to }) (get_or blocks to 0))) before now trusted still scanned.same_map scanned.same_trust answer
+-- some blocks are looked at, one after another
+module _ (P : Map → ℕ → Type 0) (before now : Map) (trusted still failed fails : Bool) (to : ℕ) (passed : ArePassed before now trusted still failed fails P to) (b : Bool) (answer : IsTrue still → IsTrue b ↔ P now to) where
+  passes-here : IsTrue trusted → IsTrue b ↔ P before to
+  passes-here = at-before (λ m. IsTrue b ↔ P m to) before now trusted still passed.same_map passed.same_trust answer
 
-  pub blocks-more : (after : Map) (later failing : Bool) → after ≡ now → later ≡ still → (IsTrue fails → IsTrue failing) → b ≡ true → AreBlocksScanned c before after trusted later failed failing n size blocks (to + 1)
-  blocks-more after later failing same_map same_trust stays is = record {
-    same_map = same_map ∙ scanned.same_map;
-    same_trust = same_trust ∙ scanned.same_trust;
-    stays_failed = λ f. stays (scanned.stays_failed f);
-    sound = λ trust j low. sound trust j low (cases_eq j to);
+  pub passed-more : (after : Map) (later failing : Bool) → after ≡ now → later ≡ still → (IsTrue fails → IsTrue failing) → b ≡ true → ArePassed before after trusted later failed failing P (to + 1)
+  passed-more after later failing same_map same_trust stays is = record {
+    same_map = same_map ∙ passed.same_map;
+    same_trust = same_trust ∙ passed.same_trust;
+    stays_failed = λ f. stays (passed.stays_failed f);
+    sound = λ trust k low. sound trust k low (cases_eq k to);
   }
     where
-      sound : IsTrue trusted → (j : ℕ) → j < to + 1 → (j ≡ to) ⊎ (j ≡ to → ⊥) → get_or blocks j 0 ≢ 0 → IsSoundBlock (view_of c before) size (record { number = n; place = j }) (get_or blocks j 0)
-      sound trust j low (inl e) = subst (λ k. get_or blocks k 0 ≢ 0 → IsSoundBlock (view_of c before) size (record { number = n; place = k }) (get_or blocks k 0)) (sym e) ((here trust).0 is)
-      sound trust j low (inr ne) = scanned.sound trust j (omega (arith, low, ne))
+      sound : IsTrue trusted → (k : ℕ) → k < to + 1 → (k ≡ to) ⊎ (k ≡ to → ⊥) → P before k
+      sound trust k low (inl e) = subst (P before) (sym e) ((passes-here trust).0 is)
+      sound trust k low (inr ne) = passed.sound trust k (omega (arith, low, ne))
 
-  pub blocks-fail : b ≡ false → IsTrue trusted → IsTrue false ↔ AreBlocksSound (view_of c before) n size (λ j. get_or blocks j 0)
-  blocks-fail is trust = refuses b (here trust) is (λ all. all to)
+  pub passed-fails : (most : ℕ) → to < most → b ≡ false → IsTrue trusted → IsTrue false ↔ ((k : ℕ) → k < most → P before k)
+  passed-fails most low is trust = refuses b (passes-here trust) is (λ all. all to low)
 
-pub blocks-all : (c : Cut) (before now : Map) (trusted still failed fails : Bool) (n size : ℕ) (blocks : List ℕ) (to : ℕ) → AreBlocksScanned c before now trusted still failed fails n size blocks to → length blocks ≤ to
-    → IsTrue trusted → IsTrue true ↔ AreBlocksSound (view_of c before) n size (λ j. get_or blocks j 0)
-blocks-all c before now trusted still failed fails n size blocks to scanned over trust = ((λ _ j some. sound j some (cases_lt j to)), (λ _. refl))
-  where
-    sound : (j : ℕ) → get_or blocks j 0 ≢ 0 → (j < to) ⊎ (to ≤ j) → IsSoundBlock (view_of c before) size (record { number = n; place = j }) (get_or blocks j 0)
-    sound j some (inl low) = scanned.sound trust j low some
-    sound j some (inr far) = absurd (some (past blocks j (omega (arith, over, far))))
-      where
-        past : (xs : List ℕ) (k : ℕ) → length xs ≤ k → get_or xs k 0 ≡ 0
-        past xs k beyond = get_or_past xs k 0 beyond
+pub passed-none : (P : Map → ℕ → Type 0) (m : Map) (trusted failed : Bool) → ArePassed m m trusted trusted failed failed P 0
+passed-none P m trusted failed = record { same_map = refl; same_trust = refl; stays_failed = λ f. f; sound = λ trust k low. absurd (omega (arith, low)) }
+
+pub passed-all : (P : Map → ℕ → Type 0) (before now : Map) (trusted still failed fails : Bool) (to most : ℕ) → ArePassed before now trusted still failed fails P to → most ≤ to → IsTrue trusted
+    → IsTrue true ↔ ((k : ℕ) → k < most → P before k)
+passed-all P before now trusted still failed fails to most passed over trust = ((λ _ k low. passed.sound trust k (omega (arith, over, low))), (λ _. refl))
+
+-- a number that was read from bytes
+pub of-number : (Q : ℕ → Type 0) (T : Type 0) (b : Bool) (block w : ℕ) → block ≡ w → (T → IsTrue b ↔ (block ≢ 0 → Q block)) → T → IsTrue b ↔ (w ≢ 0 → Q w)
+of-number Q T b block w is answer t = subst (λ x. IsTrue b ↔ (x ≢ 0 → Q x)) is (answer t)
+
+-- what was found
+pub found-none : {X : Type 0} (A : Type 0) (B : X → Type 0) (o : Option X) → o ≡ None → MatchOption o A B → A
+found-none A B o is found = subst (λ o. MatchOption o A B) is found
+
+pub found-some : {X : Type 0} (A : Type 0) (B : X → Type 0) (o : Option X) (x : X) → o ≡ Some x → MatchOption o A B → B x
+found-some A B o x is found = subst (λ o. MatchOption o A B) is found
+
+module _ (V : View) (n size : ℕ) where
+  -- the first blocks, and the index
+  pub first-fails : (h : Head) (b : Bool) → (IsTrue b ↔ ((j : ℕ) → j < DIRECT_BLOCKS → IsFirstSound V n h.size h.blocks j)) → b ≡ false → IsTrue false ↔ AreAllSound V n h
+  first-fails h b test fails = refuses b test fails (λ all. all.first)
+
+  pub index-decides : (h : Head) (b : Bool) → ((j : ℕ) → j < DIRECT_BLOCKS → IsFirstSound V n h.size h.blocks j) → (IsTrue b ↔ (h.index ≢ 0 → IsSoundIndex V n h.size h.index)) → IsTrue b ↔ AreAllSound V n h
+  index-decides h b first test = ((λ yes. record { first = first; further = test.0 yes }), (λ all. test.1 all.further))
+
+  -- the block with the numbers of the index blocks, and these
+  pub no-index-passes : (block : ℕ) → block ≡ 0 → IsTrue true ↔ (block ≢ 0 → IsSoundIndex V n size block)
+  no-index-passes block none = ((λ _ some. absurd (some none)), (λ _. refl))
+
+  pub index-fails : (block : ℕ) → block ≢ 0 → (IsSoundBlock V size (record { number = n; place = INDEX_PLACE }) block → ⊥) → IsTrue false ↔ (block ≢ 0 → IsSoundIndex V n size block)
+  index-fails block some not = ((λ no. absurd (false≢true no)), (λ all. absurd (not (all some).sound)))
+
+  pub blocks-decide : (block : ℕ) (bytes : List ℕ) (b : Bool) → block ≢ 0 → IsSoundBlock V size (record { number = n; place = INDEX_PLACE }) block → V.block block ≡ bytes
+      → (IsTrue b ↔ ((i : ℕ) → i < INDEX_NUMBERS → IsIndexBlockSound V n size bytes i)) → IsTrue b ↔ (block ≢ 0 → IsSoundIndex V n size block)
+  blocks-decide block bytes b some sound is test = (
+    (λ yes _. record { sound = sound; blocks = subst (λ v. (i : ℕ) → i < INDEX_NUMBERS → IsIndexBlockSound V n size v i) (sym is) (test.0 yes) }),
+    (λ all. test.1 (subst (λ v. (i : ℕ) → i < INDEX_NUMBERS → IsIndexBlockSound V n size v i) is (all some).blocks)),
+  )
+
+  -- one index block, and its numbers
+  module _ (i : ℕ) where
+    abbrev first : Owner
+    first = record { number = n; place = DIRECT_BLOCKS + INDEX_NUMBERS * i }
+
+    pub no-index-block-passes : (block : ℕ) → block ≡ 0 → IsTrue true ↔ (block ≢ 0 → IsSoundIndexBlock V n size i block)
+    no-index-block-passes block none = ((λ _ some. absurd (some none)), (λ _. refl))
+
+    pub index-block-fails : (block : ℕ) → block ≢ 0 → (IsSoundBlock V size (record { number = n; place = FIRST_INDEX_PLACE + i }) block → ⊥) → IsTrue false ↔ (block ≢ 0 → IsSoundIndexBlock V n size i block)
+    index-block-fails block some not = ((λ no. absurd (false≢true no)), (λ all. absurd (not (all some).sound)))
+
+    pub numbers-decide : (block : ℕ) (bytes : List ℕ) (b : Bool) → block ≢ 0 → IsSoundBlock V size (record { number = n; place = FIRST_INDEX_PLACE + i }) block → V.block block ≡ bytes
+        → (IsTrue b ↔ ((k : ℕ) → k < INDEX_NUMBERS → IsNumberSound V size (record { number = n; place = DIRECT_BLOCKS + INDEX_NUMBERS * i }) bytes k)) → IsTrue b ↔ (block ≢ 0 → IsSoundIndexBlock V n size i block)
+    numbers-decide block bytes b some sound is test = (
+      (λ yes _. record { sound = sound; numbers = subst (λ v. (k : ℕ) → k < INDEX_NUMBERS → IsNumberSound V size first v k) (sym is) (test.0 yes) }),
+      (λ all. test.1 (subst (λ v. (k : ℕ) → k < INDEX_NUMBERS → IsNumberSound V size first v k) is (all some).numbers)),
+    )
 
 -- one block, by its record
 all_below : (f b k : ℕ) → f < b → k < b → k < f + (b - f)
@@ -191,16 +244,26 @@ below_all : (f b k : ℕ) → f < b → k < f + (b - f) → k < b
 below_all f b k low below = omega (arith, low, below)
 
 module _ (c : Cut) (m : Map) (size : ℕ) (o : Owner) (block : ℕ) (cut : IsCut c) where
+  -- it lies in the data
+  pub sound-in-data : block ≢ 0 → IsSoundBlock (view_of c m) size o block → (first_data c ≤ block) × (block < c.blocks)
+  sound-in-data some sound = (sound.first, below_all (first_data c) c.blocks block cut.some_data sound.last)
+
   pub no-block-passes : block ≡ 0 → IsTrue true ↔ (block ≢ 0 → IsSoundBlock (view_of c m) size o block)
   no-block-passes none = ((λ _ some. absurd (some none)), (λ _. refl))
 
-  pub behind-fails : (b : Bool) → (IsTrue b ↔ (4096 * o.place < size)) → b ≡ false → block ≢ 0 → IsTrue false ↔ (block ≢ 0 → IsSoundBlock (view_of c m) size o block)
+  pub behind-fails : (b : Bool) → (IsTrue b ↔ (begin_at o.place < size)) → b ≡ false → block ≢ 0 → IsTrue false ↔ (block ≢ 0 → IsSoundBlock (view_of c m) size o block)
   behind-fails b test fails some = refuses b test fails (λ sound. (sound some).inside)
 
   pub elsewhere-fails : (b : Bool) → (IsTrue b ↔ ((first_data c ≤ block) × (block < c.blocks))) → b ≡ false → block ≢ 0 → IsTrue false ↔ (block ≢ 0 → IsSoundBlock (view_of c m) size o block)
   elsewhere-fails b test fails some = refuses b test fails (λ sound. ((sound some).first, below_all (first_data c) c.blocks block cut.some_data (sound some).last))
 
-  pub record-decides : (found : Owner) (b : Bool) → 4096 * o.place < size → (first_data c ≤ block) × (block < c.blocks) → block ≢ 0 → (view_of c m).owner block ≡ found → (IsTrue b ↔ (found ≡ o)) → IsTrue b ↔ (block ≢ 0 → IsSoundBlock (view_of c m) size o block)
+  pub block-passes : (b : Bool) → (IsTrue b ↔ (block ≢ 0 → IsSoundBlock (view_of c m) size o block)) → b ≡ true → block ≢ 0 → IsSoundBlock (view_of c m) size o block
+  block-passes b test is some = test.0 is some
+
+  pub block-fails : (b : Bool) → block ≢ 0 → (IsTrue b ↔ (block ≢ 0 → IsSoundBlock (view_of c m) size o block)) → b ≡ false → IsSoundBlock (view_of c m) size o block → ⊥
+  block-fails b some test is sound = fails-test b test is (λ _. sound)
+
+  pub record-decides : (found : Owner) (b : Bool) → begin_at o.place < size → (first_data c ≤ block) × (block < c.blocks) → block ≢ 0 → (view_of c m).owner block ≡ found → (IsTrue b ↔ (found ≡ o)) → IsTrue b ↔ (block ≢ 0 → IsSoundBlock (view_of c m) size o block)
   record-decides found b inside there some is test = (
     (λ yes _. record { inside = inside; first = there.0; last = all_below (first_data c) c.blocks block cut.some_data there.1; owned = is ∙ test.0 yes }),
     (λ sound. test.1 (sym is ∙ (sound some).owned)),

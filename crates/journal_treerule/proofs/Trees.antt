@@ -23,7 +23,7 @@ use Rattle.journal_treerule.specs.Parts.{IsNode, IsRightInode, AreInodesRight, I
 use Rattle.journal_treerule.specs.Directories.{is_of_directory, is_directory, IsSoundEntry, HasNameOf, AreEntriesSound}
 use Rattle.journal_treerule.specs.Walks.{named_number, links_of}
 use Rattle.journal_treerule.proofs.Disks.{IsDisk}
-use Rattle.journal_treerule.proofs.RightInodes.{sound-inode, fit-node}
+use Rattle.journal_treerule.proofs.RightInodes.{sound-inode, fit-node, first-inside, directory-size}
 
 -- ── numbers that entries name ──
 
@@ -133,8 +133,8 @@ module _ (V : View) (disk : IsDisk V) (right : AreInodesRight V V.numbers) where
           let node = right-node d x.held x.is in
           let s = sound-inode V disk d x.held node in
           let w = s.whole x.kind in
-          let low = inside_directory place x.held.size w.0 (node.blocks (place / 512) there).inside w.1 in
-          record { directory = x; inside = low; few = few_places place x.held.size low node.within.size }
+          let low = inside_directory place x.held.size w.0 (first-inside V d x.held node (place / 512) there) w.1 in
+          record { directory = x; inside = low; few = few_places place x.held.size low (directory-size x.held node.within x.kind) }
 
       by : IsDirectoryAt V d ⊎ (entry_at V d place ≡ no_entry) → HasEntry d place
       by (inl x) = by_block x (cases_eq (x.held.blocks (place / 512)) 0)
@@ -148,7 +148,7 @@ module _ (V : View) (disk : IsDisk V) (right : AreInodesRight V V.numbers) where
       by_block x (inl none) = entry-in-block V d x place ∙ ap (λ b. entry_in V b (place % 512)) none
       by_block x (inr there) =
           let node = right-node d x.held x.is in
-          absurd (far_block place x.held.size far node.within.size (node.blocks (place / 512) there).inside)
+          absurd (far_block place x.held.size far (directory-size x.held node.within x.kind) (first-inside V d x.held node (place / 512) there))
 
       by : IsDirectoryAt V d ⊎ (entry_at V d place ≡ no_entry) → entry_at V d place ≡ no_entry
       by (inl x) = by_block x (cases_eq (x.held.blocks (place / 512)) 0)

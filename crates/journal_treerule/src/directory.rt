@@ -12,8 +12,9 @@ ghost use Rattle.journal_treeobjects.specs.Maps.{view_of};
 ghost use Rattle.journal_treerule.specs.Parts.{AreInodesRight};
 ghost use Rattle.journal_treerule.specs.Directories.{AreEntriesSound, AreChildren, AreBelow, ListsMore, HasEntriesAt, HasBlockAt, HasBlocks, IsNamedBy, HangsThere};
 
+use crate::blocks::is_data;
 use crate::children::{Child, Children};
-use crate::inodes::{is_data, is_directory};
+use crate::inodes::is_directory;
 use crate::reading::{read_block, read_inode};
 use journal_treestore::{Cut, DIRECT_BLOCKS, Entry, Head, Inode, PLACES, name_in, tag_of};
 use journal_world::{ObjectReader, Refusal, Value};

@@ -1,27 +1,29 @@
 // Each inode alone.
-ghost use Rattle.std.specs.Prelude.{◌≡◌, ◌≢◌, ◌<◌, ◌≤◌, ◌*◌, ◌↔◌, ◌⊎◌, IsTrue, IfOk, IfErr, IfSome, MatchOption, length, get_or};
+ghost use Rattle.std.specs.Prelude.{◌≡◌, ◌≢◌, ◌<◌, ◌≤◌, ◌↔◌, ◌⊎◌, IsTrue, IfOk, IfErr, IfSome, MatchOption, length};
 ghost use Rattle.journal_world.specs.Refusals.{IsReadingRefusal};
-ghost use Rattle.journal_tree.specs.declared.limits.TheConstants.{ROOT, MOST_NAME, MOST_BYTES, MOST_PLACES, LAST_GENERATION};
+ghost use Rattle.journal_tree.specs.declared.limits.TheConstants.{ROOT, MOST_NAME, MOST_PLACES, LAST_GENERATION};
 ghost use Rattle.journal_tree.specs.Calls.{name_kind, has_zero_or_slash};
+ghost use Rattle.journal_tree.specs.Fit.{IsOptionalLong};
 ghost use Rattle.journal_tree.specs.Times.{IsTime};
 ghost use Rattle.journal_tree.specs.declared.name.NameKind.TheVariants.{Name};
-ghost use Rattle.journal_treestore.specs.Places.{shape_of, first_data, IsCut};
+ghost use Rattle.journal_treestore.specs.Places.{shape_of, IsCut};
 ghost use Rattle.journal_treestore.specs.Views.{held_of};
-ghost use Rattle.journal_treestore.specs.declared.inode.TheConstants.{DIRECT_BLOCKS};
 ghost use Rattle.journal_treeobjects.specs.Maps.{view_of};
 ghost use Rattle.journal_treerule.specs.Directories.{is_of_directory};
-ghost use Rattle.journal_treerule.specs.Parts.{IsNode, IsInPlace, IsWithinBounds, AreAttributesFit, IsSizeOf, is_dots, IsSoundBlock, AreBlocksSound, IsRightInode, AreInodesRight, is_used, AreInUse};
+ghost use Rattle.journal_treerule.specs.Parts.{IsNode, IsInPlace, IsWithinBounds, AreAttributesFit, IsSizeOf, IsIndexOf, is_dots, IsRightInode, AreInodesRight, is_used, AreInUse};
 
-use crate::reading::{read_inode, read_owner};
+use crate::blocks::are_blocks_sound;
+use crate::reading::read_inode;
 use journal_tree::{
-    Attributes, Kind, MODES, MOST_BYTES, MOST_LINK, MOST_NAME, MOST_PLACES, NANOS, ROOT, Time,
+    Attributes, BLOCK_BYTES, ENTRY_BYTES, Kind, MODES, MOST_BYTES, MOST_LINK, MOST_NAME,
+    MOST_PLACES, NANOS, ROOT, Time,
 };
-use journal_treestore::{Cut, DIRECT_BLOCKS, Head, Inode, Owner, name_in};
-use journal_world::{BLOCK_BYTES, ObjectReader, Refusal};
+use journal_treestore::{Cut, Head, Inode, name_in};
+use journal_world::{ObjectReader, Refusal};
 use std::alloc::Global;
 
-// The bytes of a block.
-const BLOCK: u64 = BLOCK_BYTES as u64;
+// The most bytes of a directory.
+const MOST_DIRECTORY: u64 = ENTRY_BYTES * MOST_PLACES;
 
 // Which of the numbers have nodes, or `None` if some inode is not right by itself. The map stays.
 pub(crate) fn nodes_in_use<O: ObjectReader>(
@@ -139,6 +141,7 @@ fn is_within_bounds(head: &Head, name: &[u8]) -> bool
     is_home(head.directory, name)
         && is_place(head.place)
         && has_size(head.kind, head.size)
+        && may_have_index(head.kind, head.index)
         && are_fit(head.attributes)
         && is_generation(head.generation)
 }
@@ -168,7 +171,18 @@ fn is_generation(generation: u32) -> bool
 fn are_fit(attributes: Attributes) -> bool
     ensures { IsTrue result ↔ AreAttributesFit attributes }
 {
+    is_verifier(attributes.verifier);
     u32::from(attributes.mode) < MODES && is_time(attributes.mtime) && is_time(attributes.ctime)
+}
+
+// Does nothing. Its contract says that a verifier fits its type.
+fn is_verifier(verifier: Option<u64>)
+    ensures { IsOptionalLong verifier }
+{
+    match verifier {
+        None => {}
+        Some(_verifier) => {}
+    }
 }
 
 // True if it is a time.
@@ -180,12 +194,23 @@ fn is_time(time: Time) -> bool
 
 // True if a node of the kind may have the size.
 fn has_size(kind: Kind, size: u64) -> bool
-    ensures { IsTrue result ↔ ((size ≤ MOST_BYTES) × IsSizeOf kind size) }
+    ensures { IsTrue result ↔ IsSizeOf kind size }
 {
     match kind {
-        Kind::Directory => size <= MOST_BYTES && size % BLOCK == 0,
+        Kind::Directory => size % BLOCK_BYTES == 0 && size <= MOST_DIRECTORY,
         Kind::File => size <= MOST_BYTES,
         Kind::Link => size <= MOST_LINK,
+    }
+}
+
+// True if a node of the kind may have this block with the numbers of its index blocks. Where there
+// is none, it is 0.
+fn may_have_index(kind: Kind, index: u32) -> bool
+    ensures { IsTrue result ↔ IsIndexOf kind index }
+{
+    match kind {
+        Kind::Directory | Kind::Link => index == 0,
+        Kind::File => true,
     }
 }
 
@@ -236,90 +261,4 @@ fn is_dots(name: &[u8]) -> bool
         [first, second] => *first == b'.' && *second == b'.',
         _ => false,
     }
-}
-
-// True if each block that an inode has lies before its end and among the data, and has its record.
-// The map stays.
-fn are_blocks_sound<O: ObjectReader>(
-    reader: &mut O,
-    cut: Cut,
-    number: u32,
-    head: &Head,
-) -> Result<bool, Refusal<O::Cause>>
-    requires cut { IsCut cut }
-    requires layout { (O.map reader.old).layout ≡ shape_of cut }
-    ensures sound { IsTrue (O.trusted reader.old) → IfOk result (λ sound. IsTrue sound
-        ↔ AreBlocksSound (view_of cut (O.map reader.old)) number head.now.size (λ j. get_or head.now.blocks j 0)) }
-    ensures refusal { IfErr result (IsReadingRefusal (O.failed reader.new)) }
-    ensures stays_failed { IsTrue (O.failed reader.old) → IsTrue (O.failed reader.new) }
-    ensures same_map { O.map reader.new ≡ O.map reader.old }
-    ensures same_trust { O.trusted reader.new ≡ O.trusted reader.old }
-{
-    for j in 0..DIRECT_BLOCKS {
-        let owner = Owner {
-            number,
-            place: j as u32,
-        };
-        let is_sound = is_block_sound(reader, cut, owner, head.size, head.blocks[j])?;
-        if !is_sound {
-            return Ok(false);
-        }
-    }
-    Ok(true)
-}
-
-// True if there is no block, or it lies before the inode's end and among the data, and has this
-// record. The map stays.
-fn is_block_sound<O: ObjectReader>(
-    reader: &mut O,
-    cut: Cut,
-    owner: Owner,
-    size: u64,
-    block: u32,
-) -> Result<bool, Refusal<O::Cause>>
-    requires cut { IsCut cut }
-    requires layout { (O.map reader.old).layout ≡ shape_of cut }
-    requires place { owner.place < DIRECT_BLOCKS }
-    ensures sound { IsTrue (O.trusted reader.old) → IfOk result (λ sound. IsTrue sound
-        ↔ (block ≢ 0 → IsSoundBlock (view_of cut (O.map reader.old)) size owner block)) }
-    ensures refusal { IfErr result (IsReadingRefusal (O.failed reader.new)) }
-    ensures stays_failed { IsTrue (O.failed reader.old) → IsTrue (O.failed reader.new) }
-    ensures same_map { O.map reader.new ≡ O.map reader.old }
-    ensures same_trust { O.trusted reader.new ≡ O.trusted reader.old }
-{
-    if block == 0 {
-        return Ok(true);
-    }
-    if !is_inside(owner.place, size) {
-        return Ok(false);
-    }
-    if !is_data(cut, block) {
-        return Ok(false);
-    }
-    let found = read_owner(reader, cut, block)?;
-    Ok(is_owner(found, owner))
-}
-
-// True if the block at a place begins before the end.
-fn is_inside(place: u32, size: u64) -> bool
-    requires { place < DIRECT_BLOCKS }
-    ensures { IsTrue result ↔ (4096 * place < size) }
-{
-    BLOCK * u64::from(place) < size
-}
-
-// True if the two are one record.
-fn is_owner(found: Owner, owner: Owner) -> bool
-    ensures { IsTrue result ↔ (found ≡ owner) }
-{
-    found.number == owner.number && found.place == owner.place
-}
-
-// True if the disk has a block of data of this number.
-pub(crate) fn is_data(cut: Cut, block: u32) -> bool
-    requires { IsCut cut }
-    ensures { IsTrue result ↔ ((first_data cut ≤ block) × (block < cut.blocks)) }
-{
-    let index = u64::from(block);
-    cut.first_data() <= index && index < cut.blocks
 }

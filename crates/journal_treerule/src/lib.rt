@@ -3,7 +3,8 @@
 //! `SoundTree` is the rule: a map is a disk that is cut for a tree, with its description, and its
 //! tree is sound (`IsTreeMap` of `journal_treeobjects`). `admit` decides it in parts, each of them
 //! one loop. The layout says how the disk is cut. The description is compared to the last byte.
-//! Each inode is looked at alone, and each of its blocks, whose record has to name it. Then the
+//! Each inode is looked at alone, and each of its blocks, whose record has to name it: its first
+//! ones, its index blocks, which are read once each, and those whose numbers lie there. Then the
 //! directories are read from the root on: each entry has to name a node that says itself that it
 //! hangs there, no two names of a directory may be alike, and at the end no node may be left that
 //! no entry has named. So each node is named once, and the parents of each lead to the root.
@@ -12,6 +13,7 @@
 //! each inode, 4 bytes for each directory, and the names of one directory at a time.
 #![tactic(auto)]
 
+mod blocks;
 mod children;
 mod cut;
 mod directory;

@@ -6,7 +6,7 @@ use Rattle.journal_protocol.specs.declared.held_reply.HeldReply.{HeldReply}
 use Rattle.journal_protocol.specs.declared.held_reply.HeldWait.{HeldWait}
 use Rattle.journal_tree.specs.declared.caller.Caller.{Caller}
 use Rattle.journal_tree.specs.declared.time.Time.{Time}
-use Rattle.journal_tree.specs.declared.settings.CreateMode.TheVariants.{Unchecked, Guarded}
+use Rattle.journal_tree.specs.declared.settings.CreateMode.TheVariants.{Unchecked, Guarded, Exclusive}
 use Rattle.journal_tree.specs.Op.{Call, write, create, mkdir, symlink, rename}
 use Rattle.journal_treestore.specs.declared.place.Cut.{Cut}
 use Rattle.journal_mount_wire.specs.Arguments.{mount_call_of}
@@ -38,6 +38,7 @@ abbrev pub taking_call : code_taking.Taking → Call
 taking_call (code_takes.Write w) = write w.handle w.offset w.count w.bytes.now
 taking_call (code_takes.CreateUnchecked p s) = create p.directory p.name.now (Unchecked s)
 taking_call (code_takes.CreateGuarded p s) = create p.directory p.name.now (Guarded s)
+taking_call (code_takes.CreateExclusive p v) = create p.directory p.name.now (Exclusive v)
 taking_call (code_takes.MakeDirectory p s) = mkdir p.directory p.name.now s
 taking_call (code_takes.MakeLink l) = symlink l.entry.directory l.entry.name.now l.settings l.text.now
 taking_call (code_takes.Rename p q) = rename p.directory p.name.now q.directory q.name.now

@@ -15,7 +15,7 @@ use journal_disk::BlockDisk;
 use journal_history::{Naming, Receipt, Session};
 use journal_tree::CreateMode;
 use journal_treefs::TreeRule;
-use journal_treeobjects::{CreateExclusive, MkNod, Remove, RmDir};
+use journal_treeobjects::{MkNod, Remove, RmDir};
 use journal_treewire::{NameIn, TreeCall};
 use std::alloc::Global;
 use std::sync::Wait;
@@ -89,9 +89,9 @@ impl<'s, 'b, D: BlockDisk, R: TreeRule, J: Naming, H: FreeHints> TreeServer<'s, 
                 let taking = Taking::CreateGuarded(entry, settings);
                 self.take(rt, alloc, session, asked, &taking)
             }
-            CreateMode::Exclusive => {
-                let NameIn { directory, name } = entry;
-                self.perform(rt, session, asked, &CreateExclusive { directory, name })
+            CreateMode::Exclusive(verifier) => {
+                let taking = Taking::CreateExclusive(entry, verifier);
+                self.take(rt, alloc, session, asked, &taking)
             }
         }
     }

@@ -5,8 +5,8 @@ use crate::hints::Drawn;
 use journal_tree::{Handle, Settings};
 use journal_treecalls::{NewLink, WriteData};
 use journal_treeobjects::{
-    Access, CreateGuarded, CreateUnchecked, Link, MkDir, Read, ReadDir, ReadDirPlus, Rename,
-    SetAttr, SymLink, Write,
+    Access, CreateExclusive, CreateGuarded, CreateUnchecked, Link, MkDir, Read, ReadDir,
+    ReadDirPlus, Rename, SetAttr, SymLink, Write,
 };
 use journal_treewire::{LinkCall, ListCall, ListPlusCall, NameIn, ReadCall, SetCall, WriteCall};
 
@@ -127,6 +127,24 @@ pub(crate) fn guarded_of<'n>(
         directory: entry.directory,
         name: entry.name,
         settings,
+        spare: drawn.spare(),
+    }
+}
+
+// CREATE of a file that the same call finds again.
+pub(crate) fn exclusive_of<'n>(
+    entry: NameIn<'n>,
+    verifier: u64,
+    drawn: &'n Drawn,
+) -> CreateExclusive<'n>
+    ensures directory { result.directory ≡ entry.entry.directory }
+    ensures name { result.name.now ≡ entry.entry.name.now }
+    ensures verifier { result.verifier ≡ verifier }
+{
+    CreateExclusive {
+        directory: entry.directory,
+        name: entry.name,
+        verifier,
         spare: drawn.spare(),
     }
 }

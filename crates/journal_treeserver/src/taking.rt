@@ -5,7 +5,9 @@ ghost use Rattle.journal_treewire.specs.Requests.{request_of};
 ghost use Rattle.journal_treeserver.specs.CodeViews.{served_as, taking_call, IsDone};
 
 use crate::hints::{Drawn, FreeHints, Taken};
-use crate::operations::{guarded_of, mkdir_of, rename_of, symlink_of, unchecked_of, write_of};
+use crate::operations::{
+    exclusive_of, guarded_of, mkdir_of, rename_of, symlink_of, unchecked_of, write_of,
+};
 use crate::performing::{Asked, Done};
 use crate::server::TreeServer;
 use journal_disk::BlockDisk;
@@ -13,6 +15,7 @@ use journal_history::{Naming, Receipt, Session};
 use journal_nfs3_wire::NfsError;
 use journal_tree::{BLOCK_BYTES, Changed, Kind, Made, Settings};
 use journal_treefs::TreeRule;
+use journal_treestore::{DIRECT_BLOCKS, INDEX_NUMBERS};
 use journal_treewire::{LinkCall, NameIn, TreeResults, WriteCall};
 use std::alloc::Global;
 use std::sync::Wait;
@@ -23,6 +26,8 @@ pub(crate) enum Taking<'n> {
     Write(WriteCall<'n>),
     CreateUnchecked(NameIn<'n>, Settings),
     CreateGuarded(NameIn<'n>, Settings),
+    // With its verifier.
+    CreateExclusive(NameIn<'n>, u64),
     MakeDirectory(NameIn<'n>, Settings),
     MakeLink(LinkCall<'n>),
     // The old name, and the new one.
@@ -36,10 +41,11 @@ struct Need {
     blocks: usize,
 }
 
-// The blocks in which the bytes of a WRITE lie, at most.
+// The blocks in which the bytes of a WRITE lie, at most, two index blocks with their numbers, and
+// the block with the numbers of these.
 const WRITE: Need = Need {
     numbers: 0,
-    blocks: 17,
+    blocks: 20,
 };
 
 // A new node, and a further block of its directory.
@@ -117,6 +123,10 @@ impl<'s, 'b, D: BlockDisk, R: TreeRule, J: Naming, H: FreeHints> TreeServer<'s, 
                 let operation = guarded_of(entry, settings, drawn);
                 self.perform(rt, session, asked, &operation)
             }
+            Taking::CreateExclusive(entry, verifier) => {
+                let operation = exclusive_of(entry, verifier, drawn);
+                self.perform(rt, session, asked, &operation)
+            }
             Taking::MakeDirectory(entry, settings) => {
                 let operation = mkdir_of(entry, settings, drawn);
                 self.perform(rt, session, asked, &operation)
@@ -169,10 +179,16 @@ fn text_blocks(made: &Made) -> u64 {
 
 // By how many blocks a node has grown.
 fn growth(changed: &Changed) -> u64 {
-    let before = changed.before.size.div_ceil(BLOCK_BYTES);
-    changed
-        .after
-        .size
-        .div_ceil(BLOCK_BYTES)
-        .saturating_sub(before)
+    blocks_of(changed.after.size).saturating_sub(blocks_of(changed.before.size))
+}
+
+// The blocks of a node of this size that has no holes, with those of its index.
+fn blocks_of(size: u64) -> u64 {
+    let content = size.div_ceil(BLOCK_BYTES);
+    let indexed = content.saturating_sub(DIRECT_BLOCKS as u64);
+    if indexed == 0 {
+        return content;
+    }
+    let index_blocks = indexed.div_ceil(INDEX_NUMBERS as u64);
+    content.saturating_add(index_blocks).saturating_add(1)
 }

@@ -15,6 +15,7 @@ use Rattle.journal_treestore.specs.Moves.{with_put, IsPlaced, dropped_view, Drop
 use Rattle.journal_treestore.proofs.Recording.{length-with}
 use Rattle.journal_treestore.proofs.Hanging.{with_home, with_place, entry-other, cut}
 use Rattle.journal_treestore.proofs.Viewing.{node-inode, used_some, entry_of_node}
+use Rattle.journal_treestore.proofs.Indexing.{first-sized}
 use Rattle.journal_treestore.proofs.Changing.{tree-inode, homes-inode, entries-inode, AreInodes, inodes-inode, inodes-block, tree-block, entries-block}
 use Rattle.journal_treestore.proofs.Placed.{seat-placed, in_d, at_place, no_root, not_d}
 
@@ -46,7 +47,7 @@ module _ (V : View) (sound : IsSoundView V) (s : Seat) (seat : IsSeat V s) where
       inodes1 : AreInodes V1
       inodes1 =
           inodes-block V s.d s.h s.j sound.inodes seat.is seat.there (with_entry (V.block (s.h.blocks s.j)) s.q no_entry)
-          (length-with (V.block (s.h.blocks s.j)) s.q no_entry ((sound.inodes s.d s.h seat.is).sized s.j seat.there) seat.low)
+          (length-with (V.block (s.h.blocks s.j)) s.q no_entry (first-sized V s.d s.h (sound.inodes s.d s.h seat.is) s.j seat.there) seat.low)
 
   pub tree-dropped : tree_of (dropped_view V s) ≡ with_node (tree_of V) s.n None
   tree-dropped =

@@ -1,9 +1,11 @@
 -- An inode is read from its bytes as it was written.
-use Rattle.std.proofs.Common.{ℕ, ◌≡◌, ◌<◌, ◌+◌, ◌-◌, ◌*◌, ◌^◌, ◌==◌, cond, List, [], ◌∷◌, ◌++◌, length, map, get_or, suc, replicate, refl, sym, ap, ◌∙◌, append_assoc, length-append, arith}
+use Rattle.std.proofs.Common.{ℕ, ◌≡◌, ◌<◌, ◌≤◌, Option, Some, None, ◌+◌, ◌-◌, ◌*◌, ◌^◌, ◌==◌, cond, List, [], ◌∷◌, ◌++◌, length, map, get_or, suc, replicate, refl, sym, ap, ◌∙◌, append_assoc, length-append, arith}
 use Rattle.std.specs.Prelude.{flat_map, slice_range}
-use Rattle.std.specs.Int.{w32, to_le_bytes, from_le_bytes}
+use Rattle.std.specs.Int.{w32, w64, to_le_bytes, from_le_bytes}
 use Rattle.std.specs.List.{range_with_len}
 use Rattle.std.proofs.lemmas.Nat.{from_le_bytes-to_le_bytes_2, from_le_bytes-to_le_bytes_4, from_le_bytes-to_le_bytes_8}
+use Rattle.std.proofs.lemmas.List.{get_or_push, length-replicate}
+use Rattle.journal_tree.specs.Fit.{IsOptionalLong}
 use Rattle.journal_tree.specs.declared.time.Time.{Time}
 use Rattle.journal_tree.specs.declared.reply.Attributes.{Attributes}
 use Rattle.journal_tree.specs.declared.reply.Kind.{Kind}
@@ -13,9 +15,10 @@ use Rattle.journal_treestore.specs.declared.inode.Head.{Head}
 use Rattle.journal_treestore.specs.declared.inode.Inode.{Inode}
 use Rattle.journal_treestore.specs.declared.inode.Inode.TheVariants.{Free, Used}
 use Rattle.journal_treestore.specs.Bytes.{half_at, word_at, long_at}
-use Rattle.journal_treestore.specs.Inodes.{kind_byte, front_bytes, rest_bytes, front_of, no_time, no_blocks, inode_bytes, blocks_at, head_from, inode_from, name_from, HasRoom, InodeHasRoom}
+use Rattle.journal_treestore.specs.Inodes.{kind_byte, front_bytes, verifier_bytes, verifier_flag, rest_bytes, verifier_at, front_of, no_time, no_blocks, inode_bytes, blocks_at, head_from, inode_from, name_from, HasRoom, InodeHasRoom}
 use Rattle.journal_treestore.proofs.Pieces.{slice_behind}
 use Rattle.journal_treestore.proofs.Splicing.{length-bytes_of}
+use Rattle.journal_treestore.proofs.Whole.{length-verifier}
 
 -- ── the numbers before the blocks, with anything behind them ──
 
@@ -104,75 +107,151 @@ words_read (n ∷ ns) front rest v from j is at fits =
     first = is ∙ ap (λ x. front ++ x) (append_assoc (to_le_bytes w32 n) (flat_map (to_le_bytes w32) ns) rest)
 
 -- what stands behind the front, from left to right
-regrouped : (front b z n w : List ℕ) → front ++ (b ++ z ++ n ++ w) ≡ front ++ (b ++ (z ++ (n ++ w)))
-regrouped front b z n w = ap (λ x. front ++ x) (append_assoc (b ++ z) n w ∙ append_assoc b z (n ++ w))
+regrouped : (front b z v n r t : List ℕ) → front ++ (b ++ z ++ v ++ n ++ r ++ t) ≡ front ++ (b ++ (z ++ (v ++ (n ++ (r ++ t)))))
+regrouped front b z v n r t =
+    ap (λ x. front ++ x) (
+    append_assoc (b ++ z ++ v ++ n) r t
+    ∙ append_assoc (b ++ z ++ v) n (r ++ t)
+    ∙ append_assoc (b ++ z) v (n ++ (r ++ t))
+    ∙ append_assoc b z (v ++ (n ++ (r ++ t))))
 
-blocks_read : (front blocks name : List ℕ) → length front ≡ 48 → length blocks ≡ DIRECT_BLOCKS → ((j : ℕ) → get_or blocks j 0 < 2 ^ 32) → blocks_at (front ++ rest_bytes blocks name) ≡ blocks
-blocks_read front blocks name at many fits =
-    ap (λ n. map (λ j. word_at (front ++ rest_bytes blocks name) (48 + 4 * j)) (range_with_len 0 n)) (sym many)
-    ∙ words_read blocks front (replicate 16 0 ++ (name ++ replicate (256 - length name) 0)) (front ++ rest_bytes blocks name) 48 0
-    (regrouped front (flat_map (to_le_bytes w32) blocks) (replicate 16 0) name (replicate (256 - length name) 0)) at fits
+module _ (front blocks : List ℕ) (index : ℕ) (verifier : Option ℕ) (name : List ℕ) (at : length front ≡ 48) (many : length blocks ≡ DIRECT_BLOCKS) where
+  abbrev b : List ℕ
+  b = flat_map (to_le_bytes w32) blocks ++ to_le_bytes w32 index
 
--- ── the name ──
+  abbrev z : List ℕ
+  z = replicate 4 0
 
-name_behind : (front blocks name : List ℕ) → length front ≡ 48 → length blocks ≡ DIRECT_BLOCKS → slice_range (front ++ rest_bytes blocks name) 256 (256 + length name) ≡ name
-name_behind front blocks name at many =
-    ap (λ v. slice_range v 256 (256 + length name)) (regrouped front b z name w ∙ sym (append_assoc (front ++ b) z (name ++ w) ∙ append_assoc front b (z ++ (name ++ w))))
-    ∙ slice_behind (front ++ b ++ z) name w 256 (256 + length name) all refl
-  where
-    b : List ℕ
-    b = flat_map (to_le_bytes w32) blocks
+  abbrev v : List ℕ
+  v = verifier_bytes verifier
 
-    z : List ℕ
-    z = replicate 16 0
+  abbrev r : List ℕ
+  r = replicate (255 - length name) 0
 
-    w : List ℕ
-    w = replicate (256 - length name) 0
+  abbrev t : List ℕ
+  t = verifier_flag verifier ∷ []
 
-    all : length (front ++ b ++ z) ≡ 256
-    all =
-        let bs = length-bytes_of blocks in
-        let zs : length z ≡ 16 = refl in
-        length-append (front ++ b) z ∙ ap (λ n. n + length z) (length-append front b) ∙ omega (arith, at, many, bs, zs)
+  grouped : front ++ rest_bytes blocks index verifier name ≡ front ++ (b ++ (z ++ (v ++ (name ++ (r ++ t)))))
+  grouped = regrouped front b z v name r t
+
+  blocks_read : ((j : ℕ) → get_or blocks j 0 < 2 ^ 32) → blocks_at (front ++ rest_bytes blocks index verifier name) ≡ blocks
+  blocks_read fits =
+      ap (λ n. map (λ j. word_at (front ++ rest_bytes blocks index verifier name) (48 + 4 * j)) (range_with_len 0 n)) (sym many)
+      ∙ words_read blocks front (to_le_bytes w32 index ++ (z ++ (v ++ (name ++ (r ++ t))))) (front ++ rest_bytes blocks index verifier name) 48 0
+      (grouped ∙ ap (λ x. front ++ x) (append_assoc (flat_map (to_le_bytes w32) blocks) (to_le_bytes w32 index) (z ++ (v ++ (name ++ (r ++ t)))))) at fits
+
+  -- ── the index block ──
+
+  before_index : length (front ++ flat_map (to_le_bytes w32) blocks) ≡ 240
+  before_index = let bs = length-bytes_of blocks in length-append front (flat_map (to_le_bytes w32) blocks) ∙ omega (arith, at, many, bs)
+
+  length-numbers : length b ≡ 196
+  length-numbers =
+      let bs = length-bytes_of blocks in
+      let four : length (to_le_bytes w32 index) ≡ 4 = refl in
+      length-append (flat_map (to_le_bytes w32) blocks) (to_le_bytes w32 index) ∙ omega (arith, many, bs, four)
+
+  index_read : index < 2 ^ 32 → word_at (front ++ rest_bytes blocks index verifier name) 240 ≡ index
+  index_read fits =
+      ap (λ x. word_at x 240) (
+      grouped
+      ∙ ap (λ x. front ++ x) (append_assoc (flat_map (to_le_bytes w32) blocks) (to_le_bytes w32 index) (z ++ (v ++ (name ++ (r ++ t)))))
+      ∙ sym (append_assoc front (flat_map (to_le_bytes w32) blocks) (to_le_bytes w32 index ++ (z ++ (v ++ (name ++ (r ++ t)))))))
+      ∙ word_read (front ++ flat_map (to_le_bytes w32) blocks) (z ++ (v ++ (name ++ (r ++ t)))) index 240 before_index fits
+
+  -- ── the verifier ──
+
+  before_verifier : length (front ++ b ++ z) ≡ 248
+  before_verifier =
+      let bs = length-numbers in
+      let zs : length z ≡ 4 = refl in
+      length-append (front ++ b) z ∙ ap (λ n. n + length z) (length-append front b) ∙ omega (arith, at, bs, zs)
+
+  behind_zeros : front ++ rest_bytes blocks index verifier name ≡ (front ++ b ++ z) ++ (v ++ (name ++ (r ++ t)))
+  behind_zeros = grouped ∙ sym (append_assoc (front ++ b) z (v ++ (name ++ (r ++ t))) ∙ append_assoc front b (z ++ (v ++ (name ++ (r ++ t)))))
+
+  before_name : length (front ++ b ++ z ++ v) ≡ 256
+  before_name = let l = length-verifier verifier in length-append (front ++ b ++ z) v ∙ omega (arith, before_verifier, l)
+
+  behind_verifier : front ++ rest_bytes blocks index verifier name ≡ (front ++ b ++ z ++ v) ++ (name ++ (r ++ t))
+  behind_verifier = behind_zeros ∙ sym (append_assoc (front ++ b ++ z) v (name ++ (r ++ t)))
+
+  flag_read : length name ≤ 255 → get_or (front ++ rest_bytes blocks index verifier name) 511 0 ≡ verifier_flag verifier
+  flag_read few =
+      ap (λ x. get_or x 511 0) (behind_verifier ∙ sym (append_assoc (front ++ b ++ z ++ v ++ name) r t ∙ append_assoc (front ++ b ++ z ++ v) name (r ++ t)))
+      ∙ get_or_push (front ++ b ++ z ++ v ++ name ++ r) (verifier_flag verifier) 0 511 before_flag
+    where
+      before_flag : length (front ++ b ++ z ++ v ++ name ++ r) ≡ 511
+      before_flag =
+          let l = length-replicate {A = ℕ} (255 - length name) 0 in
+          length-append (front ++ b ++ z ++ v ++ name) r ∙ ap (λ n. n + length r) (length-append (front ++ b ++ z ++ v) name) ∙ omega (arith, before_name, few, l)
+
+  -- ── the name ──
+
+  name_behind : slice_range (front ++ rest_bytes blocks index verifier name) 256 (256 + length name) ≡ name
+  name_behind = ap (λ x. slice_range x 256 (256 + length name)) behind_verifier ∙ slice_behind (front ++ b ++ z ++ v) name (r ++ t) 256 (256 + length name) before_name refl
+
+-- a verifier, if there is one
+verifier_by : (v : List ℕ) (flag : ℕ) → get_or v 511 0 ≡ flag → verifier_at v ≡ cond (flag == 1) (Some (long_at v 248)) None
+unfolding verifier_at
+verifier_by v flag is = ap (λ n. cond (n == 1) (Some (long_at v 248)) None) is
+
+eight_read : (front blocks : List ℕ) (index n : ℕ) (name : List ℕ) → length front ≡ 48 → length blocks ≡ DIRECT_BLOCKS → n < 2 ^ 64 → long_at (front ++ rest_bytes blocks index (Some n) name) 248 ≡ n
+unfolding long_at
+eight_read front blocks index n name at many fits =
+    ap (λ x. from_le_bytes w64 (slice_range x 248 256)) (behind_zeros front blocks index (Some n) name at many)
+    ∙ ap (from_le_bytes w64) (slice_behind (front ++ (flat_map (to_le_bytes w32) blocks ++ to_le_bytes w32 index) ++ replicate 4 0) (to_le_bytes w64 n) (name ++ (replicate (255 - length name) 0 ++ (1 ∷ []))) 248 256 (before_verifier front blocks index (Some n) name at many) refl)
+    ∙ from_le_bytes-to_le_bytes_8 n fits
+
+verifier_read : (front blocks : List ℕ) (index : ℕ) (verifier : Option ℕ) (name : List ℕ) → length front ≡ 48 → length blocks ≡ DIRECT_BLOCKS → length name ≤ 255 → IsOptionalLong verifier
+    → verifier_at (front ++ rest_bytes blocks index verifier name) ≡ verifier
+verifier_read front blocks index None name at many few fits = verifier_by (front ++ rest_bytes blocks index None name) 0 (flag_read front blocks index None name at many few)
+verifier_read front blocks index (Some n) name at many few fits =
+    verifier_by (front ++ rest_bytes blocks index (Some n) name) 1 (flag_read front blocks index (Some n) name at many few) ∙ ap Some (eight_read front blocks index n name at many fits)
 
 pub name_read : (h : Head) (name : List ℕ) → length h.blocks ≡ DIRECT_BLOCKS → name_from (inode_bytes (Used h) name) ≡ name
 unfolding name_from
 name_read h name many =
     ap (λ n. slice_range (inode_bytes (Used h) name) 256 (256 + n))
-    (length_read (kind_byte h.kind) (length name) h.attributes.mode h.generation h.size h.attributes.owner h.attributes.group h.directory h.place h.attributes.mtime h.attributes.ctime (rest_bytes h.blocks name))
-    ∙ name_behind (front_of (kind_byte h.kind) (length name) h) h.blocks name
+    (length_read (kind_byte h.kind) (length name) h.attributes.mode h.generation h.size h.attributes.owner h.attributes.group h.directory h.place h.attributes.mtime h.attributes.ctime (rest_bytes h.blocks h.index h.attributes.verifier name))
+    ∙ name_behind (front_of (kind_byte h.kind) (length name) h) h.blocks h.index h.attributes.verifier name
     (length-front (kind_byte h.kind) (length name) h.attributes.mode h.generation h.size h.attributes.owner h.attributes.group h.directory h.place h.attributes.mtime h.attributes.ctime) many
 
 -- ── the whole inode ──
 
-head_read : (h : Head) (kind length : ℕ) (name : List ℕ) → HasRoom h → head_from h.kind (front_of kind length h ++ rest_bytes h.blocks name) ≡ h
-head_read h kind length name room = λ i. record {
+head_read : (h : Head) (kind many : ℕ) (name : List ℕ) → HasRoom h → length name ≤ 255 → head_from h.kind (front_of kind many h ++ rest_bytes h.blocks h.index h.attributes.verifier name) ≡ h
+head_read h kind many name room few = λ i. record {
   kind = h.kind;
-  generation = generation_read kind length a.mode h.generation h.size a.owner a.group h.directory h.place a.mtime a.ctime rest room.generation i;
+  generation = generation_read kind many a.mode h.generation h.size a.owner a.group h.directory h.place a.mtime a.ctime rest room.generation i;
   attributes = record {
-    mode = mode_read kind length a.mode h.generation h.size a.owner a.group h.directory h.place a.mtime a.ctime rest room.mode i;
-    owner = owner_read kind length a.mode h.generation h.size a.owner a.group h.directory h.place a.mtime a.ctime rest room.owner i;
-    group = group_read kind length a.mode h.generation h.size a.owner a.group h.directory h.place a.mtime a.ctime rest room.group i;
+    mode = mode_read kind many a.mode h.generation h.size a.owner a.group h.directory h.place a.mtime a.ctime rest room.mode i;
+    owner = owner_read kind many a.mode h.generation h.size a.owner a.group h.directory h.place a.mtime a.ctime rest room.owner i;
+    group = group_read kind many a.mode h.generation h.size a.owner a.group h.directory h.place a.mtime a.ctime rest room.group i;
     mtime = record {
-      secs = mtime_secs kind length a.mode h.generation h.size a.owner a.group h.directory h.place a.mtime a.ctime rest room.mtime.0 i;
-      nanos = mtime_nanos kind length a.mode h.generation h.size a.owner a.group h.directory h.place a.mtime a.ctime rest room.mtime.1 i;
+      secs = mtime_secs kind many a.mode h.generation h.size a.owner a.group h.directory h.place a.mtime a.ctime rest room.mtime.0 i;
+      nanos = mtime_nanos kind many a.mode h.generation h.size a.owner a.group h.directory h.place a.mtime a.ctime rest room.mtime.1 i;
     };
     ctime = record {
-      secs = ctime_secs kind length a.mode h.generation h.size a.owner a.group h.directory h.place a.mtime a.ctime rest room.ctime.0 i;
-      nanos = ctime_nanos kind length a.mode h.generation h.size a.owner a.group h.directory h.place a.mtime a.ctime rest room.ctime.1 i;
+      secs = ctime_secs kind many a.mode h.generation h.size a.owner a.group h.directory h.place a.mtime a.ctime rest room.ctime.0 i;
+      nanos = ctime_nanos kind many a.mode h.generation h.size a.owner a.group h.directory h.place a.mtime a.ctime rest room.ctime.1 i;
     };
+    verifier = verifier_read (front_of kind many h) h.blocks h.index a.verifier name long room.count few room.verifier i;
   };
-  directory = directory_read kind length a.mode h.generation h.size a.owner a.group h.directory h.place a.mtime a.ctime rest room.directory i;
-  place = place_read kind length a.mode h.generation h.size a.owner a.group h.directory h.place a.mtime a.ctime rest room.place i;
-  size = size_read kind length a.mode h.generation h.size a.owner a.group h.directory h.place a.mtime a.ctime rest room.size i;
-  blocks = blocks_read (front_of kind length h) h.blocks name (length-front kind length a.mode h.generation h.size a.owner a.group h.directory h.place a.mtime a.ctime) room.count room.blocks i;
+  directory = directory_read kind many a.mode h.generation h.size a.owner a.group h.directory h.place a.mtime a.ctime rest room.directory i;
+  place = place_read kind many a.mode h.generation h.size a.owner a.group h.directory h.place a.mtime a.ctime rest room.place i;
+  size = size_read kind many a.mode h.generation h.size a.owner a.group h.directory h.place a.mtime a.ctime rest room.size i;
+  blocks = blocks_read (front_of kind many h) h.blocks h.index a.verifier name long room.count room.blocks i;
+  index = index_read (front_of kind many h) h.blocks h.index a.verifier name long room.count room.index i;
 }
   where
     a : Attributes
     a = h.attributes
 
     rest : List ℕ
-    rest = rest_bytes h.blocks name
+    rest = rest_bytes h.blocks h.index h.attributes.verifier name
+
+    long : length (front_of kind many h) ≡ 48
+    long = length-front kind many a.mode h.generation h.size a.owner a.group h.directory h.place a.mtime a.ctime
 
 -- what the kind says of the rest
 abbrev inode_by : ℕ → List ℕ → Inode
@@ -183,26 +262,26 @@ unfolding inode_from
 by_kind k v is = ap (λ n. inode_by n v) is
 
 -- what is written is read
-pub inode_read : (x : Inode) (name : List ℕ) → InodeHasRoom x → inode_from (inode_bytes x name) ≡ x
-inode_read (Free g) name fits =
-    by_kind 0 (inode_bytes (Free g) name) (kind_read 0 0 0 g 0 0 0 0 0 no_time no_time (rest_bytes no_blocks []))
-    ∙ ap Free (generation_read 0 0 0 g 0 0 0 0 0 no_time no_time (rest_bytes no_blocks []) fits)
-inode_read (Used h) name room = by h.kind refl
+pub inode_read : (x : Inode) (name : List ℕ) → InodeHasRoom x → length name ≤ 255 → inode_from (inode_bytes x name) ≡ x
+inode_read (Free g) name fits few =
+    by_kind 0 (inode_bytes (Free g) name) (kind_read 0 0 0 g 0 0 0 0 0 no_time no_time (rest_bytes no_blocks 0 None []))
+    ∙ ap Free (generation_read 0 0 0 g 0 0 0 0 0 no_time no_time (rest_bytes no_blocks 0 None []) fits)
+inode_read (Used h) name room few = by h.kind refl
   where
     byte : (k : ℕ) → kind_byte h.kind ≡ k → get_or (inode_bytes (Used h) name) 0 0 ≡ k
-    byte k is = kind_read (kind_byte h.kind) (length name) h.attributes.mode h.generation h.size h.attributes.owner h.attributes.group h.directory h.place h.attributes.mtime h.attributes.ctime (rest_bytes h.blocks name) ∙ is
+    byte k is = kind_read (kind_byte h.kind) (length name) h.attributes.mode h.generation h.size h.attributes.owner h.attributes.group h.directory h.place h.attributes.mtime h.attributes.ctime (rest_bytes h.blocks h.index h.attributes.verifier name) ∙ is
 
     by : (k : Kind) → h.kind ≡ k → inode_from (inode_bytes (Used h) name) ≡ Used h
     by Directory is =
         by_kind 1 (inode_bytes (Used h) name) (byte 1 (ap kind_byte is))
-        ∙ ap (λ k. Used (head_from k (inode_bytes (Used h) name))) (sym is) ∙ ap Used (head_read h (kind_byte h.kind) (length name) name room)
+        ∙ ap (λ k. Used (head_from k (inode_bytes (Used h) name))) (sym is) ∙ ap Used (head_read h (kind_byte h.kind) (length name) name room few)
     by File is =
         by_kind 2 (inode_bytes (Used h) name) (byte 2 (ap kind_byte is))
-        ∙ ap (λ k. Used (head_from k (inode_bytes (Used h) name))) (sym is) ∙ ap Used (head_read h (kind_byte h.kind) (length name) name room)
+        ∙ ap (λ k. Used (head_from k (inode_bytes (Used h) name))) (sym is) ∙ ap Used (head_read h (kind_byte h.kind) (length name) name room few)
     by Link is =
         by_kind 3 (inode_bytes (Used h) name) (byte 3 (ap kind_byte is))
-        ∙ ap (λ k. Used (head_from k (inode_bytes (Used h) name))) (sym is) ∙ ap Used (head_read h (kind_byte h.kind) (length name) name room)
+        ∙ ap (λ k. Used (head_from k (inode_bytes (Used h) name))) (sym is) ∙ ap Used (head_read h (kind_byte h.kind) (length name) name room few)
 
 -- what is read of the bytes that were written of an inode is that inode
-pub read-written : (v : List ℕ) (read x : Inode) (name : List ℕ) → read ≡ inode_from v → InodeHasRoom x → v ≡ inode_bytes x name → read ≡ x
-read-written v read x name is room at = is ∙ ap inode_from at ∙ inode_read x name room
+pub read-written : (v : List ℕ) (read x : Inode) (name : List ℕ) → read ≡ inode_from v → InodeHasRoom x → length name ≤ 255 → v ≡ inode_bytes x name → read ≡ x
+read-written v read x name is room few at = is ∙ ap inode_from at ∙ inode_read x name room few

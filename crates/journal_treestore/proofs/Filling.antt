@@ -7,10 +7,11 @@ use Rattle.journal_tree.specs.Trees.{Body, Tree, with_slot, with_node}
 use Rattle.journal_tree.specs.Trees.Body.{link}
 use Rattle.journal_treestore.specs.declared.owner.Owner.{Owner}
 use Rattle.journal_treestore.specs.Entries.{no_entry}
-use Rattle.journal_treestore.specs.Views.{Held, Seen, View, zero_block, bytes_in, bytes_of, body_of, slot_of, tree_of, entry_by, entry_of, entry_at, home_in, homes}
+use Rattle.journal_treestore.specs.Views.{Held, Seen, View, block_at, zero_block, bytes_in, bytes_of, body_of, slot_of, tree_of, entry_by, entry_of, entry_at, home_in, homes}
 use Rattle.journal_treestore.specs.Views.Seen.{used}
 use Rattle.journal_treestore.specs.Sound.{IsHung, IsSoundInode, IsSoundView}
 use Rattle.journal_treestore.specs.Steps.{Filling, IsFilling, filled_held, text_block, filled_view, filled_node, FillingShows}
+use Rattle.journal_treestore.proofs.Indexing.{at-direct, first-after, plain-sound}
 use Rattle.journal_treestore.proofs.Changing.{AreInodes, tree-inode, homes-inode, entries-inode, inodes-inode}
 use Rattle.journal_treestore.proofs.Planting.{with_home-again}
 use Rattle.journal_treestore.proofs.Spare.{spare_view, spare-block-here, spare-owner-here, inodes-spare, tree-spare, all-entries-spare}
@@ -40,17 +41,20 @@ module _ (V : View) (f : Filling) (sound : IsSoundView V) (filling : IsFilling V
   other-block : (j : ℕ) → j ≢ 0 → k.blocks j ≡ 0
   other-block j other =
       ap (λ t. cond t f.b (f.h.blocks j)) (ne_eqb j 0 other)
-      ∙ old.after j (let s = filling.sized in let few = filling.few in omega (arith, s, few, other))
+      ∙ first-after V f.n f.h old j (let s = filling.sized in let few = filling.few in omega (arith, s, few, other))
+
+  none : f.h.index ≡ 0
+  none = old.plain (λ e. absurd (cc (sym filling.kind ∙ e)))
 
   -- its inode is sound
   new : IsSoundInode U f.n k
-  new = record {
-    owned = λ j some. owned j some (cases_eq j 0);
-    there = λ j some. there j some (cases_eq j 0);
-    after = λ j far. other-block j (λ e. absurd (let s = filling.sized in let long = filling.long in omega (arith, far, e, s, long)));
-    sized = λ j some. sized j some (cases_eq j 0);
-    whole = λ e. absurd (cc (sym filling.kind ∙ e));
-  }
+  new =
+      plain-sound U f.n k none (λ j past. other-block j (λ e. absurd (omega (arith, e, past))))
+      (λ j some. owned j some (cases_eq j 0))
+      (λ j some. there j some (cases_eq j 0))
+      (λ j far. other-block j (λ e. absurd (let s = filling.sized in let long = filling.long in omega (arith, far, e, s, long))))
+      (λ j some. sized j some (cases_eq j 0))
+      (λ e. absurd (cc (sym filling.kind ∙ e)))
     where
       owned : (j : ℕ) → k.blocks j ≢ 0 → (j ≡ 0) ⊎ (j ≡ 0 → ⊥) → U.owner (k.blocks j) ≡ record { number = f.n; place = j }
       owned j some (inl is) = ap U.owner (first-block j is) ∙ spare-owner-here V sound f.b filling.some filling.unowned (text_block f.text) owner ∙ ap (λ j. record { number = f.n; place = j }) (sym is)
@@ -69,8 +73,9 @@ module _ (V : View) (f : Filling) (sound : IsSoundView V) (filling : IsFilling V
   body =
       ap (λ kind. body_of U kind k) filling.kind
       ∙ ap link (
-      ap (λ n. take n (bytes_of U k.blocks ((n + 4095) / 4096))) filling.sized
-      ∙ ap (λ n. take (length f.text) (bytes_of U k.blocks n)) one
+      ap (λ n. take n (bytes_of U (block_at U k) ((n + 4095) / 4096))) filling.sized
+      ∙ ap (λ n. take (length f.text) (bytes_of U (block_at U k) n)) one
+      ∙ ap (λ b. take (length f.text) (bytes_in U b)) (at-direct U k 0 (omega arith) ∙ first-block 0 refl)
       ∙ ap (take (length f.text)) held
       ∙ take_at f.text (replicate (4096 - length f.text) 0) (length f.text) refl)
     where

@@ -7,14 +7,15 @@ use Rattle.journal_tree.specs.Trees.Body.{directory}
 use Rattle.journal_tree.specs.Changes.{grown_body}
 use Rattle.journal_treestore.specs.declared.owner.Owner.{Owner}
 use Rattle.journal_treestore.specs.Entries.{no_entry, entry_from}
-use Rattle.journal_treestore.specs.Views.{Held, Seen, View, with_owner, with_block, zero_block, node_of, body_of, slot_of, tree_of, entry_in, entry_by, entry_of, entry_at, home_in, homes}
+use Rattle.journal_treestore.specs.Views.{Held, Seen, View, block_at, with_owner, with_block, zero_block, node_of, body_of, slot_of, tree_of, entry_in, entry_by, entry_of, entry_at, home_in, homes}
 use Rattle.journal_treestore.specs.Views.Seen.{used}
 use Rattle.journal_treestore.specs.Sound.{IsHung, IsSoundInode, IsSoundView}
 use Rattle.journal_treestore.specs.Steps.{Growth, IsGrowth, grown_held, grown_view, widened, widen, GrowingShows}
 use Rattle.journal_treestore.proofs.Recording.{zero-entries, zero-long}
+use Rattle.journal_treestore.proofs.Indexing.{first-after, first-owned, first-there, first-sized, plain-sound}
 use Rattle.journal_treestore.proofs.Changing.{tree-inode, homes-inode, AreInodes, inode-same, inode-other}
 use Rattle.journal_treestore.proofs.Planting.{with_home-again}
-use Rattle.journal_treestore.proofs.Spare.{nobody_has, spare-block, spare-block-here, spare-owner, spare-owner-here, inodes-spare, tree-spare, entry-spare, entries-spare}
+use Rattle.journal_treestore.proofs.Spare.{nobody_has_first, spare-block, spare-block-here, spare-owner, spare-owner-here, inodes-spare, tree-spare, entry-spare, entries-spare}
 
 module _ (V : View) (sound : IsSoundView V) (g : Growth) (growth : IsGrowth V g) where
   abbrev V1 : View
@@ -24,7 +25,7 @@ module _ (V : View) (sound : IsSoundView V) (g : Growth) (growth : IsGrowth V g)
   old = sound.inodes g.d g.h growth.is
 
   apart : (n : ℕ) (h : Held) (j : ℕ) → V.inode n ≡ used h → h.blocks j ≢ g.b
-  apart n h j is = nobody_has V g.b sound growth.some growth.unowned n h j is
+  apart n h j is = nobody_has_first V g.b sound growth.some growth.unowned n h j is
 
   abbrev owner : Owner
   owner = record { number = g.d; place = g.j }
@@ -52,14 +53,17 @@ module _ (V : View) (sound : IsSoundView V) (g : Growth) (growth : IsGrowth V g)
   others = inodes-spare V sound g.b growth.some growth.unowned (zero_block) owner
 
   grown : IsSoundInode V1 g.d (grown_held g)
-  grown = record {
-    owned = λ l some. owned l some (cases_eq l g.j);
-    there = λ l some. there l some (cases_eq l g.j);
-    after = λ l far. blocks-other l (not_j l far) ∙ old.after l (shorter l far);
-    sized = λ l some. sized l some (cases_eq l g.j);
-    whole = λ _. (g.j + 1, refl);
-  }
+  grown =
+      plain-sound V1 g.d (grown_held g) (old.plain (λ e. absurd (cc (sym growth.kind ∙ e)))) (λ l past. blocks-other l (not_past l past) ∙ old.first l past)
+      (λ l some. owned l some (cases_eq l g.j))
+      (λ l some. there l some (cases_eq l g.j))
+      (λ l far. blocks-other l (not_j l far) ∙ first-after V g.d g.h old l (shorter l far))
+      (λ l some. sized l some (cases_eq l g.j))
+      (λ _. (g.j + 1, refl))
     where
+      not_past : (l : ℕ) → 48 ≤ l → l ≢ g.j
+      not_past l past e = absurd (let f = growth.few in omega (arith, past, e, f))
+
       not_j : (l : ℕ) → 4096 * (g.j + 1) ≤ 4096 * l → l ≢ g.j
       not_j l far e = absurd (omega (arith, far, e))
 
@@ -71,21 +75,22 @@ module _ (V : View) (sound : IsSoundView V) (g : Growth) (growth : IsGrowth V g)
 
       owned : (l : ℕ) → (grown_held g).blocks l ≢ 0 → (l ≡ g.j) ⊎ (l ≡ g.j → ⊥) → V1.owner ((grown_held g).blocks l) ≡ record { number = g.d; place = l }
       owned l some (inl same) = ap V1.owner (ap (grown_held g).blocks same ∙ blocks-here) ∙ owner-here ∙ ap (λ j. record { number = g.d; place = j }) (sym same)
-      owned l some (inr other) = ap V1.owner (blocks-other l other) ∙ owner-other (g.h.blocks l) (apart g.d g.h l growth.is) ∙ old.owned l (was l some other)
+      owned l some (inr other) = ap V1.owner (blocks-other l other) ∙ owner-other (g.h.blocks l) (apart g.d g.h l growth.is) ∙ first-owned V g.d g.h old l (was l some other)
 
       there : (l : ℕ) → (grown_held g).blocks l ≢ 0 → (l ≡ g.j) ⊎ (l ≡ g.j → ⊥) → (V.first_data ≤ (grown_held g).blocks l) × ((grown_held g).blocks l < V.first_data + V.data_blocks)
       there l some (inl same) = subst (λ b. (V.first_data ≤ b) × (b < V.first_data + V.data_blocks)) (sym (ap (grown_held g).blocks same ∙ blocks-here)) (growth.from, growth.to)
-      there l some (inr other) = subst (λ b. (V.first_data ≤ b) × (b < V.first_data + V.data_blocks)) (sym (blocks-other l other)) (old.there l (was l some other))
+      there l some (inr other) = subst (λ b. (V.first_data ≤ b) × (b < V.first_data + V.data_blocks)) (sym (blocks-other l other)) (first-there V g.d g.h old l (was l some other))
 
       sized : (l : ℕ) → (grown_held g).blocks l ≢ 0 → (l ≡ g.j) ⊎ (l ≡ g.j → ⊥) → length (V1.block ((grown_held g).blocks l)) ≡ 4096
       sized l some (inl same) = ap (λ b. length (V1.block b)) (ap (grown_held g).blocks same ∙ blocks-here) ∙ ap length block-here ∙ zero-long
-      sized l some (inr other) = ap (λ b. length (V1.block b)) (blocks-other l other) ∙ ap length (block-other (g.h.blocks l) (apart g.d g.h l growth.is)) ∙ old.sized l (was l some other)
+      sized l some (inr other) = ap (λ b. length (V1.block b)) (blocks-other l other) ∙ ap length (block-other (g.h.blocks l) (apart g.d g.h l growth.is)) ∙ first-sized V g.d g.h old l (was l some other)
 
   pub inodes-grown : AreInodes (grown_view V g)
+  unfolding block_at
   inodes-grown n h is = by (cases_eq n g.d)
     where
       carry : IsSoundInode V1 n h → IsSoundInode (grown_view V g) n h
-      carry s = record { owned = s.owned; there = s.there; after = s.after; sized = s.sized; whole = s.whole }
+      carry s = record { owned = s.owned; there = s.there; after = s.after; sized = s.sized; whole = s.whole; plain = s.plain; first = s.first }
 
       by : (n ≡ g.d) ⊎ (n ≡ g.d → ⊥) → IsSoundInode (grown_view V g) n h
       by (inl same) =
@@ -128,7 +133,7 @@ module _ (V : View) (sound : IsSoundView V) (g : Growth) (growth : IsGrowth V g)
           ∙ ap (λ t. cond t no_entry (entry_from (V1.block g.b) (p % 512))) (ne_eqb g.b 0 growth.some)
           ∙ ap (λ w. entry_from w (p % 512)) block-here
           ∙ zero-entries (p % 512) (omega arith)
-          ∙ sym (ap (λ b. entry_in V b (p % 512)) (old.after (p / 512) (let e = growth.next in omega (arith, e, same))))
+          ∙ sym (ap (λ b. entry_in V b (p % 512)) (first-after V g.d g.h old (p / 512) (let e = growth.next in omega (arith, e, same))))
       new_block p (inr other) = ap (λ b. entry_in V1 b (p % 512)) (blocks-other (p / 512) other) ∙ entry-spare V sound g.b growth.some growth.unowned (zero_block) owner g.d p g.h growth.is
 
       each : (a p : ℕ) → (a ≡ g.d) ⊎ (a ≡ g.d → ⊥) → entry_at (grown_view V g) a p ≡ entry_at V a p

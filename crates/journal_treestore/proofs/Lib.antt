@@ -6,6 +6,8 @@ pub mod Describing
 pub mod Recording
 pub mod Placing
 pub mod Viewing
+pub mod Numbering
+pub mod Indexing
 pub mod Looking
 pub mod Hanging
 pub mod Changing

@@ -10,8 +10,9 @@ use Rattle.journal_treestore.specs.Sound.{entry_for, IsSoundView}
 use Rattle.journal_treestore.specs.Steps.{with_moment, Seat, IsSeat, Growth, IsGrowth, grown_held, grown_view}
 use Rattle.journal_treestore.specs.Moves.{with_put, dropped_view, IsPlaced, rehomed, goal_home, moved_view}
 use Rattle.journal_treestore.proofs.Recording.{with-twice}
-use Rattle.journal_treestore.proofs.Changing.{one_owner}
-use Rattle.journal_treestore.proofs.Spare.{nobody_has}
+use Rattle.journal_treestore.proofs.Indexing.{first-sized}
+use Rattle.journal_treestore.proofs.Changing.{one_first}
+use Rattle.journal_treestore.proofs.Spare.{nobody_has_first}
 use Rattle.journal_treestore.proofs.Following.{goal_of, further_goal}
 
 -- ── a block over which an entry is put twice ──
@@ -54,11 +55,11 @@ onto-view V r s name now sound seat placed two = λ z. record {
   data_blocks = V.data_blocks;
   inode = (moved_view (dropped_view V r) s (goal_of r) name now).inode;
   owner = V.owner;
-  block = λ i. put-twice V (s.h.blocks s.j) s.q (r.h.blocks r.j) r.q no_entry no_entry (entry_for s.n (goal_home (goal_of r) name)) apart ((sound.inodes r.d r.h seat.is).sized r.j seat.there) seat.low i z;
+  block = λ i. put-twice V (s.h.blocks s.j) s.q (r.h.blocks r.j) r.q no_entry no_entry (entry_for s.n (goal_home (goal_of r) name)) apart (first-sized V r.d r.h (sound.inodes r.d r.h seat.is) r.j seat.there) seat.low i z;
 }
   where
     apart : s.h.blocks s.j ≢ r.h.blocks r.j
-    apart same = two (one_owner V s.d r.d s.h r.h s.j r.j (sound.inodes s.d s.h placed.is) (sound.inodes r.d r.h seat.is) placed.there same).0
+    apart same = two (one_first V s.d r.d s.h r.h s.j r.j (sound.inodes s.d s.h placed.is) (sound.inodes r.d r.h seat.is) placed.there same).0
 
 -- a node goes to a block that its directory gets
 module _ (V : View) (g : Growth) (s : Seat) (q : ℕ) (name : List ℕ) (now : Time) (sound : IsSoundView V) (growth : IsGrowth V g) (placed : IsPlaced V s) where
@@ -72,7 +73,7 @@ module _ (V : View) (g : Growth) (s : Seat) (q : ℕ) (name : List ℕ) (now : T
   grown = with_put (grown_view V g) (s.h.blocks s.j) s.q no_entry
 
   apart : s.h.blocks s.j ≢ g.b
-  apart = nobody_has V g.b sound growth.some growth.unowned s.d s.h s.j placed.is
+  apart = nobody_has_first V g.b sound growth.some growth.unowned s.d s.h s.j placed.is
 
   here : (grown_held g).blocks g.j ≡ g.b
   here = ap (λ t. cond t g.b (g.h.blocks g.j)) (eq-eqb g.j g.j refl)

@@ -22,6 +22,7 @@ use Rattle.journal_treestore.specs.Moves.{with_put, IsPlaced, rehomed, Goal, goa
 use Rattle.journal_treestore.proofs.Recording.{length-with, tag-low}
 use Rattle.journal_treestore.proofs.Hanging.{with_home, with_place, home-same, entry-other, hang, cut}
 use Rattle.journal_treestore.proofs.Viewing.{inode-node, zero_free, no_node_at}
+use Rattle.journal_treestore.proofs.Indexing.{first-after, first-sized}
 use Rattle.journal_treestore.proofs.Changing.{tree-inode, homes-inode, entries-inode, AreInodes, inodes-inode, inodes-block, tree-block, entries-block, inode-other}
 use Rattle.journal_treestore.proofs.Planting.{entry_by-moment, with_home-again}
 use Rattle.journal_treestore.proofs.Placed.{in_d, at_place, no_root, not_d, small}
@@ -38,7 +39,7 @@ module _ (V : View) (sound : IsSoundView V) (t : Goal) (goal : IsGoal V t) where
       s = sound.inodes t.e t.h goal.is
 
       by : (4096 * t.j < t.h.size) ⊎ (t.h.size ≤ 4096 * t.j) → goal_place t < t.h.size / 8
-      by (inr behind) = absurd (goal.there (s.after t.j behind))
+      by (inr behind) = absurd (goal.there (first-after V t.e t.h s t.j behind))
       by (inl low) = let w = s.whole goal.kind in let e = w.1 in let q = goal.low in omega (arith, e, q, low)
 
   -- and may be taken
@@ -100,12 +101,12 @@ module _ (V : View) (sound : IsSoundView V) (s : Seat) (placed : IsPlaced V s) (
   inodes0 : AreInodes V0
   inodes0 =
       inodes-block V s.d s.h s.j sound.inodes placed.is placed.there (with_entry (V.block (s.h.blocks s.j)) s.q no_entry)
-      (length-with (V.block (s.h.blocks s.j)) s.q no_entry ((sound.inodes s.d s.h placed.is).sized s.j placed.there) placed.low)
+      (length-with (V.block (s.h.blocks s.j)) s.q no_entry (first-sized V s.d s.h (sound.inodes s.d s.h placed.is) s.j placed.there) placed.low)
 
   inodes1 : AreInodes V1
   inodes1 =
       inodes-block V0 t.e t.h t.j inodes0 goal.is goal.there (with_entry (V0.block (t.h.blocks t.j)) t.q entry)
-      (length-with (V0.block (t.h.blocks t.j)) t.q entry ((inodes0 t.e t.h goal.is).sized t.j goal.there) goal.low)
+      (length-with (V0.block (t.h.blocks t.j)) t.q entry (first-sized V0 t.e t.h (inodes0 t.e t.h goal.is) t.j goal.there) goal.low)
 
   tree1 : tree_of V1 ≡ tree_of V
   tree1 =

@@ -15,13 +15,14 @@ use Rattle.journal_tree.specs.Fit.{IsFitBody}
 use Rattle.journal_tree.specs.Op.{IsRoom}
 use Rattle.journal_tree.specs.Changes.{with_times, grown_body, opened, touch_place, planted}
 use Rattle.journal_treestore.specs.Entries.{with_entry}
-use Rattle.journal_treestore.specs.Views.{Held, Seen, View, zero_block, bytes_of, with_inode, with_block, node_of, body_of, slot_of, tree_of, entry_of, entry_by, entry_at, home_in, homes}
+use Rattle.journal_treestore.specs.Views.{Held, Seen, View, block_at, zero_block, bytes_in, bytes_of, with_inode, with_block, node_of, body_of, slot_of, tree_of, entry_of, entry_by, entry_at, home_in, homes}
 use Rattle.journal_treestore.specs.Views.Seen.{free, used}
 use Rattle.journal_treestore.specs.Sound.{entry_for, IsHung, IsSoundInode, IsSoundView}
 use Rattle.journal_treestore.specs.Steps.{Spot, place_of, home_of, IsSpot, with_moment, new_held, new_body, new_node, planted_view, PlantingShows}
 use Rattle.journal_treestore.proofs.Recording.{length-with, tag-low, zero_block-is}
 use Rattle.journal_treestore.proofs.Hanging.{with_home, with_place, hang}
 use Rattle.journal_treestore.proofs.Viewing.{inode-node, zero_free, no_node_at}
+use Rattle.journal_treestore.proofs.Indexing.{no-index, first-after, first-sized, plain-sound, bytes_of-frame}
 use Rattle.journal_treestore.proofs.Changing.{tree-inode, homes-inode, entries-inode, AreInodes, inodes-inode, inodes-block, tree-block, entries-block, inode-other}
 
 -- the directory's entries are those of before
@@ -64,7 +65,7 @@ module _ (V : View) (sound : IsSoundView V) (s : Spot) (spot : IsSpot V s) where
   inside = by (cases_lt (4096 * s.j) s.h.size)
     where
       by : (4096 * s.j < s.h.size) ⊎ (s.h.size ≤ 4096 * s.j) → place_of s < s.h.size / 8
-      by (inr behind) = absurd (spot.there (head.after s.j behind))
+      by (inr behind) = absurd (spot.there (first-after V s.d s.h head s.j behind))
       by (inl low) = let w = head.whole spot.kind in let e = w.1 in let q = spot.low in omega (arith, e, q, low)
 
   not_d : s.n ≢ s.d
@@ -101,22 +102,23 @@ module _ (V : View) (sound : IsSoundView V) (s : Spot) (spot : IsSpot V s) where
     small = let o = spot.on_disk in let few = sound.few_numbers in omega (arith, o, few)
 
     heads1 : AreInodes V1
-    heads1 = inodes-block V s.d s.h s.j sound.inodes spot.is spot.there (with_entry (V.block (s.h.blocks s.j)) s.q (entry_for s.n (home_of s name))) (length-with (V.block (s.h.blocks s.j)) s.q (entry_for s.n (home_of s name)) (head.sized s.j spot.there) spot.low)
+    heads1 = inodes-block V s.d s.h s.j sound.inodes spot.is spot.there (with_entry (V.block (s.h.blocks s.j)) s.q (entry_for s.n (home_of s name))) (length-with (V.block (s.h.blocks s.j)) s.q (entry_for s.n (home_of s name)) (first-sized V s.d s.h head s.j spot.there) spot.low)
 
     heads2 : AreInodes V2
+    unfolding block_at
     heads2 = inodes-inode V1 s.d (used (with_moment s.h now)) heads1 (λ g is. by g (cc))
       where
         old : IsSoundInode V1 s.d s.h
         old = heads1 s.d s.h spot.is
 
         by : (g : Held) → with_moment s.h now ≡ g → IsSoundInode V1 s.d g
-        by g is = subst (IsSoundInode V1 s.d) is (record { owned = old.owned; there = old.there; after = old.after; sized = old.sized; whole = old.whole })
+        by g is = subst (IsSoundInode V1 s.d) is (record { owned = old.owned; there = old.there; after = old.after; sized = old.sized; whole = old.whole; plain = old.plain; first = old.first })
 
     pub inodes-planted : AreInodes (planted_view V s name a kind size now)
     inodes-planted = inodes-inode V2 s.n (used (new_held s name a kind size)) heads2 (λ g is. by g (cc))
       where
         by : (g : Held) → new_held s name a kind size ≡ g → IsSoundInode V2 s.n g
-        by g is = subst (IsSoundInode V2 s.n) is (record { owned = λ j some. absurd (some refl); there = λ j some. absurd (some refl); after = λ j far. refl; sized = λ j some. absurd (some refl); whole = λ is. (0, plain is) })
+        by g is = subst (IsSoundInode V2 s.n) is (plain-sound V2 s.n (new_held s name a kind size) refl (λ _ _. refl) (λ j some. absurd (some refl)) (λ j some. absurd (some refl)) (λ _ _. refl) (λ j some. absurd (some refl)) (λ is. (0, plain is)))
 
     -- the tree has the node
     pub tree-planted : tree_of (planted_view V s name a kind size now) ≡ planted (touch_place (tree_of V) s.d (place_of s) now) s.n (new_node s name a kind size)
@@ -141,10 +143,13 @@ module _ (V : View) (sound : IsSoundView V) (s : Spot) (spot : IsSpot V s) where
             ∙ ap (λ x. with_slot (tree_of V) s.d (record { generation = s.h.generation; node = Some x })) (sym node)
             ∙ ap (λ (y : Seen). with_slot (tree_of V) s.d (record { generation = (slot_of V y).generation; node = option_map (opened (place_of s) now) (slot_of V y).node })) (sym spot.is)
 
+        holes : take size (bytes_of V2 (block_at V2 (new_held s name a kind size)) ((size + 4095) / 4096)) ≡ take size (bytes_of V2 (λ j. 0) ((size + 4095) / 4096))
+        holes = ap (take size) (bytes_of-frame V2 V2 (block_at V2 (new_held s name a kind size)) (λ j. 0) (λ j. ap (bytes_in V2) (no-index V2 (new_held s name a kind size) refl (λ _ _. refl) j)) ((size + 4095) / 4096))
+
         same_body : (k : Kind) → kind ≡ k → body_of V2 k (new_held s name a kind size) ≡ new_body k size
         same_body Directory is = ap (λ n. directory (n / 8)) (plain is)
-        same_body File is = ap file (content-holes V2 size)
-        same_body Link is = ap link (content-holes V2 size)
+        same_body File is = ap file (holes ∙ content-holes V2 size)
+        same_body Link is = ap link (holes ∙ content-holes V2 size)
 
         generation : ((touch_place (tree_of V) s.d (place_of s) now).at s.n).generation ≡ s.generation
         generation =

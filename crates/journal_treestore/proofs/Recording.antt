@@ -80,11 +80,11 @@ module _ (bytes piece : List ℕ) (at : ℕ) (fits : at + length piece ≤ lengt
   put_mid-with_piece n size =
       rw (size, drop-drop (length piece) at bytes) (sym (append_assoc (take at bytes) piece (drop (at + length piece) bytes)))
 
-  before-with_piece : (j k : ℕ) → k ≤ at → slice_range (with_piece bytes at piece) j k ≡ slice_range bytes j k
+  pub before-with_piece : (j k : ℕ) → k ≤ at → slice_range (with_piece bytes at piece) j k ≡ slice_range bytes j k
   before-with_piece j k ends =
       rw (← put_mid-with_piece (length piece) refl, between_is (put_mid at (length piece) bytes piece) j k, between_is bytes j k) (ap (drop j) (take-put_mid_below at (length piece) bytes piece k ends (omega arith)))
 
-  after-with_piece : (j k : ℕ) → at + length piece ≤ j → slice_range (with_piece bytes at piece) j k ≡ slice_range bytes j k
+  pub after-with_piece : (j k : ℕ) → at + length piece ≤ j → slice_range (with_piece bytes at piece) j k ≡ slice_range bytes j k
   after-with_piece j k starts =
       rw (← put_mid-with_piece (length piece) refl) (ap (take (k - j)) (drop-put_mid at (length piece) bytes piece j starts (omega arith) refl))
 
@@ -135,7 +135,7 @@ pub zero-long : length zero_block ≡ 4096
 unfolding zero_block
 zero-long = length-replicate {A = ℕ} 4096 0
 
-zeros_at : (n at : ℕ) → at + 4 ≤ n → word_at (replicate n 0) at ≡ 0
+pub zeros_at : (n at : ℕ) → at + 4 ≤ n → word_at (replicate n 0) at ≡ 0
 unfolding word_at
 zeros_at n at room = ap (from_le_bytes w32) (ap (take (at + 4 - at)) (drop-replicate at n 0) ∙ ap (λ k. take k (replicate (n - at) 0)) (let e : at + 4 - at ≡ 4 = omega arith in e) ∙ take-replicate 4 (n - at) 0 (omega (arith, room)))
 

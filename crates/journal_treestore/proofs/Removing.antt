@@ -8,13 +8,14 @@ use Rattle.journal_tree.specs.Times.{time_of_names}
 use Rattle.journal_tree.specs.Trees.{Body, Tree, with_slot, with_node}
 use Rattle.journal_tree.specs.Changes.{with_times, touched, touch}
 use Rattle.journal_treestore.specs.Entries.{with_entry, no_entry}
-use Rattle.journal_treestore.specs.Views.{Held, Seen, View, with_inode, with_block, body_of, slot_of, tree_of, entry_of, entry_at, home_in, homes}
+use Rattle.journal_treestore.specs.Views.{Held, Seen, View, block_at, with_inode, with_block, body_of, slot_of, tree_of, entry_of, entry_at, home_in, homes}
 use Rattle.journal_treestore.specs.Views.Seen.{free, used}
 use Rattle.journal_treestore.specs.Sound.{IsHung, IsSoundInode, IsSoundView}
 use Rattle.journal_treestore.specs.Steps.{with_moment, Seat, seat_place, IsSeat, cut_view, CuttingShows}
 use Rattle.journal_treestore.specs.Moves.{IsPlaced}
 use Rattle.journal_treestore.proofs.Recording.{length-with}
 use Rattle.journal_treestore.proofs.Hanging.{with_home, with_place, entry-other, cut}
+use Rattle.journal_treestore.proofs.Indexing.{first-sized}
 use Rattle.journal_treestore.proofs.Changing.{tree-inode, homes-inode, entries-inode, AreInodes, inodes-inode, inodes-block, tree-block, entries-block, inode-other}
 use Rattle.journal_treestore.proofs.Planting.{entry_by-moment, with_home-again}
 use Rattle.journal_treestore.proofs.Placed.{seat-placed, in_d, at_place, no_root, not_d}
@@ -40,16 +41,17 @@ module _ (V : View) (sound : IsSoundView V) (s : Seat) (seat : IsSeat V s) where
     apart = not_d V sound s placed
 
     heads1 : AreInodes V1
-    heads1 = inodes-block V s.d s.h s.j sound.inodes seat.is seat.there (with_entry (V.block (s.h.blocks s.j)) s.q no_entry) (length-with (V.block (s.h.blocks s.j)) s.q no_entry (head.sized s.j seat.there) seat.low)
+    heads1 = inodes-block V s.d s.h s.j sound.inodes seat.is seat.there (with_entry (V.block (s.h.blocks s.j)) s.q no_entry) (length-with (V.block (s.h.blocks s.j)) s.q no_entry (first-sized V s.d s.h head s.j seat.there) seat.low)
 
     pub inodes-cut : AreInodes (cut_view V s now)
+    unfolding block_at
     inodes-cut = inodes-inode V2 s.n (free s.g.generation) (inodes-inode V1 s.d (used (with_moment s.h now)) heads1 (λ g is. by g (cc))) (λ g is. absurd (cc (is)))
       where
         old : IsSoundInode V1 s.d s.h
         old = heads1 s.d s.h seat.is
 
         by : (g : Held) → with_moment s.h now ≡ g → IsSoundInode V1 s.d g
-        by g is = subst (IsSoundInode V1 s.d) is (record { owned = old.owned; there = old.there; after = old.after; sized = old.sized; whole = old.whole })
+        by g is = subst (IsSoundInode V1 s.d) is (record { owned = old.owned; there = old.there; after = old.after; sized = old.sized; whole = old.whole; plain = old.plain; first = old.first })
 
     -- writing both inodes in the other order is the same tree
     pub tree-cut : tree_of (cut_view V s now) ≡ touch (with_node (tree_of V) s.n None) s.d now

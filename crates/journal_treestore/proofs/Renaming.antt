@@ -13,7 +13,7 @@ use Rattle.journal_tree.specs.Renames.{with_ctime, rehung, moved}
 use Rattle.journal_tree.proofs.Changing.{same_generation}
 use Rattle.journal_treestore.specs.declared.entry.Entry.{Entry}
 use Rattle.journal_treestore.specs.Entries.{with_entry, no_entry}
-use Rattle.journal_treestore.specs.Views.{Held, Seen, View, with_inode, bytes_in, bytes_of, node_of, body_of, slot_of, tree_of, entry_of, entry_by, entry_at, home_in, homes}
+use Rattle.journal_treestore.specs.Views.{Held, Seen, View, block_at, with_inode, bytes_in, bytes_of, node_of, body_of, slot_of, tree_of, entry_of, entry_by, entry_at, home_in, homes}
 use Rattle.journal_treestore.specs.Views.Seen.{used}
 use Rattle.journal_treestore.specs.Sound.{entry_for, IsHung, IsSoundInode, IsSoundView}
 use Rattle.journal_treestore.specs.Steps.{with_moment, Seat, seat_place}
@@ -21,6 +21,7 @@ use Rattle.journal_treestore.specs.Moves.{with_put, IsPlaced, rehomed, renamed_h
 use Rattle.journal_treestore.proofs.Recording.{length-with, tag-low}
 use Rattle.journal_treestore.proofs.Hanging.{with_home, with_place, home-same, entry-same, hang, cut}
 use Rattle.journal_treestore.proofs.Viewing.{inode-node, zero_free}
+use Rattle.journal_treestore.proofs.Indexing.{first-sized}
 use Rattle.journal_treestore.proofs.Changing.{tree-inode, homes-inode, entries-inode, AreInodes, inodes-inode, inodes-block, tree-block, entries-block, inode-other}
 use Rattle.journal_treestore.proofs.Planting.{entry_by-moment, with_home-again}
 use Rattle.journal_treestore.proofs.Placed.{in_d, at_place, no_root, not_d, small}
@@ -58,16 +59,18 @@ entry_by-rehomed V g home now Link place = refl
 
 -- it is as sound as before
 pub inode-moment : (V : View) (d : ℕ) (h : Held) (now : Time) → IsSoundInode V d h → (g : Held) → used (with_moment h now) ≡ used g → IsSoundInode V d g
+unfolding block_at
 inode-moment V d h now old g is = by (cc)
   where
     by : with_moment h now ≡ g → IsSoundInode V d g
-    by same = subst (IsSoundInode V d) same (record { owned = old.owned; there = old.there; after = old.after; sized = old.sized; whole = old.whole })
+    by same = subst (IsSoundInode V d) same (record { owned = old.owned; there = old.there; after = old.after; sized = old.sized; whole = old.whole; plain = old.plain; first = old.first })
 
 pub inode-rehomed : (V : View) (n : ℕ) (h : Held) (home : Home) (now : Time) → IsSoundInode V n h → (g : Held) → used (rehomed h home now) ≡ used g → IsSoundInode V n g
+unfolding block_at
 inode-rehomed V n h home now old g is = by (cc)
   where
     by : rehomed h home now ≡ g → IsSoundInode V n g
-    by same = subst (IsSoundInode V n) same (record { owned = old.owned; there = old.there; after = old.after; sized = old.sized; whole = old.whole })
+    by same = subst (IsSoundInode V n) same (record { owned = old.owned; there = old.there; after = old.after; sized = old.sized; whole = old.whole; plain = old.plain; first = old.first })
 
 -- what is held does not hang on inodes
 bytes_of-inode : (V : View) (n : ℕ) (x : Seen) (blocks : ℕ → ℕ) (l : ℕ) → bytes_of (with_inode V n x) blocks l ≡ bytes_of V blocks l
@@ -75,11 +78,13 @@ bytes_of-inode V n x blocks zero = refl
 bytes_of-inode V n x blocks (suc l) = ap (λ w. w ++ bytes_in V (blocks l)) (bytes_of-inode V n x blocks l)
 
 pub body-inode : (V : View) (n : ℕ) (x : Seen) (g : Held) (kind : Kind) → body_of (with_inode V n x) kind g ≡ body_of V kind g
+unfolding block_at
 body-inode V n x g Directory = refl
-body-inode V n x g File = ap (λ w. file (take g.size w)) (bytes_of-inode V n x g.blocks ((g.size + 4095) / 4096))
-body-inode V n x g Link = ap (λ w. link (take g.size w)) (bytes_of-inode V n x g.blocks ((g.size + 4095) / 4096))
+body-inode V n x g File = ap (λ w. file (take g.size w)) (bytes_of-inode V n x (block_at V g) ((g.size + 4095) / 4096))
+body-inode V n x g Link = ap (λ w. link (take g.size w)) (bytes_of-inode V n x (block_at V g) ((g.size + 4095) / 4096))
 
 body-rehomed : (V : View) (g : Held) (home : Home) (now : Time) (kind : Kind) → body_of V kind (rehomed g home now) ≡ body_of V kind g
+unfolding block_at
 body-rehomed V g home now Directory = refl
 body-rehomed V g home now File = refl
 body-rehomed V g home now Link = refl
@@ -144,7 +149,7 @@ module _ (V : View) (sound : IsSoundView V) (s : Seat) (placed : IsPlaced V s) (
   inodes1 : AreInodes V1
   inodes1 =
       inodes-block V s.d s.h s.j sound.inodes placed.is placed.there (with_entry (V.block (s.h.blocks s.j)) s.q entry)
-      (length-with (V.block (s.h.blocks s.j)) s.q entry ((sound.inodes s.d s.h placed.is).sized s.j placed.there) placed.low)
+      (length-with (V.block (s.h.blocks s.j)) s.q entry (first-sized V s.d s.h (sound.inodes s.d s.h placed.is) s.j placed.there) placed.low)
 
   inodes2 : AreInodes V2
   inodes2 = inodes-inode V1 s.d (used (with_moment s.h now)) inodes1 (inode-moment V1 s.d s.h now (inodes1 s.d s.h placed.is))

@@ -1,25 +1,31 @@
 -- A block that nobody has is overwritten, and its record: the disk stays sound and shows the same
 -- tree.
-use Rattle.std.proofs.Common.{◌≡◌, ◌≢◌, ℕ, zero, suc, ◌+◌, ◌/◌, ◌%◌, cond, eqb, List, ◌++◌, length, take, Some, refl, sym, ap, ◌∙◌}
+use Rattle.std.proofs.Common.{◌≡◌, ◌≢◌, ℕ, ◌+◌, ◌/◌, ◌%◌, cond, eqb, List, length, take, Some, refl, sym, ap, ◌∙◌}
 use Rattle.std.proofs.lemmas.Bool.{eq-eqb, ne_eqb}
 use Rattle.journal_tree.specs.declared.reply.Kind.{Kind}
 use Rattle.journal_tree.specs.declared.reply.Kind.TheVariants.{Directory, File, Link}
 use Rattle.journal_tree.specs.Trees.Body.{file, link}
 use Rattle.journal_treestore.specs.declared.owner.Owner.{Owner}
 use Rattle.journal_treestore.specs.Entries.{no_entry, entry_from}
-use Rattle.journal_treestore.specs.Views.{Held, Seen, View, with_owner, with_block, zero_block, bytes_in, bytes_of, body_of, slot_of, tree_of, entry_in, entry_by, entry_of, entry_at}
+use Rattle.journal_treestore.specs.Views.{Held, Seen, View, block_at, with_owner, with_block, bytes_of, body_of, slot_of, tree_of, entry_in, entry_by, entry_of, entry_at}
 use Rattle.journal_treestore.specs.Views.Seen.{free, used}
 use Rattle.journal_treestore.specs.Sound.{IsSoundView}
 use Rattle.journal_treestore.specs.Steps.{IsUnowned}
+use Rattle.journal_treestore.proofs.Indexing.{first-at, block_at-frame, bytes_of-frame, bytes_in-frame, sound-frame}
 use Rattle.journal_treestore.proofs.Changing.{AreInodes}
 
 -- a block of which the named owner says that it has it not is nobody's
-pub nobody_has : (V : View) (b : ℕ) → IsSoundView V → b ≢ 0 → IsUnowned V b → (n : ℕ) (h : Held) (j : ℕ) → V.inode n ≡ used h → h.blocks j ≢ b
+pub nobody_has : (V : View) (b : ℕ) → IsSoundView V → b ≢ 0 → IsUnowned V b → (n : ℕ) (h : Held) (j : ℕ) → V.inode n ≡ used h → block_at V h j ≢ b
 nobody_has V b sound some unowned n h j is has =
-    unowned.not_at h (ap V.inode (ap (λ (o : Owner). o.number) owner) ∙ is) (ap h.blocks (ap (λ (o : Owner). o.place) owner) ∙ has)
+    unowned.not_at h (ap V.inode (ap (λ (o : Owner). o.number) owner) ∙ is) (ap (block_at V h) (ap (λ (o : Owner). o.place) owner) ∙ has)
   where
     owner : V.owner b ≡ record { number = n; place = j }
     owner = ap V.owner (sym has) ∙ (sound.inodes n h is).owned j (λ z. some (sym has ∙ z))
+
+-- nor is it a first block
+pub nobody_has_first : (V : View) (b : ℕ) → IsSoundView V → b ≢ 0 → IsUnowned V b → (n : ℕ) (h : Held) (j : ℕ) → V.inode n ≡ used h → h.blocks j ≢ b
+nobody_has_first V b sound some unowned n h j is has =
+    nobody_has V b sound some unowned n h j is (first-at V n h (sound.inodes n h is) j (λ z. some (sym has ∙ z)) ∙ has)
 
 -- the block and its record are written
 abbrev pub spare_view : View → ℕ → List ℕ → Owner → View
@@ -29,7 +35,7 @@ module _ (V : View) (sound : IsSoundView V) (b : ℕ) (some : b ≢ 0) (unowned 
   abbrev V1 : View
   V1 = spare_view V b v o
 
-  pub apart : (n : ℕ) (h : Held) (j : ℕ) → V.inode n ≡ used h → h.blocks j ≢ b
+  pub apart : (n : ℕ) (h : Held) (j : ℕ) → V.inode n ≡ used h → block_at V h j ≢ b
   apart n h j is = nobody_has V b sound some unowned n h j is
 
   pub spare-block : (c : ℕ) → c ≢ b → (spare_view V b v o).block c ≡ V.block c
@@ -44,27 +50,22 @@ module _ (V : View) (sound : IsSoundView V) (b : ℕ) (some : b ≢ 0) (unowned 
   pub spare-owner-here : (spare_view V b v o).owner b ≡ o
   spare-owner-here = ap (λ t. cond t o (V.owner b)) (eq-eqb b b refl)
 
+  -- each inode has the blocks that it had
+  pub blocks-spare : (n : ℕ) (h : Held) → V.inode n ≡ used h → (p : ℕ) → block_at (spare_view V b v o) h p ≡ block_at V h p
+  blocks-spare n h is = block_at-frame V (spare_view V b v o) h (λ p _ _. spare-block (block_at V h p) (apart n h p is))
+
   -- the inodes are sound
   pub inodes-spare : AreInodes (spare_view V b v o)
   inodes-spare n h is =
       let s = sound.inodes n h is in
-      record {
-        owned = λ j there. spare-owner (h.blocks j) (apart n h j is) ∙ s.owned j there;
-        there = s.there;
-        after = s.after;
-        sized = λ j there. ap length (spare-block (h.blocks j) (apart n h j is)) ∙ s.sized j there;
-        whole = s.whole;
-      }
+      sound-frame V (spare_view V b v o) n h refl refl (blocks-spare n h is) (λ p _. spare-owner (block_at V h p) (apart n h p is))
+      (λ p there. ap length (spare-block (block_at V h p) (apart n h p is)) ∙ s.sized p there) s
 
   -- what nodes hold stays
-  bytes-kept : (n : ℕ) (h : Held) → V.inode n ≡ used h → (l : ℕ) → bytes_in V1 (h.blocks l) ≡ bytes_in V (h.blocks l)
-  bytes-kept n h is l = ap (λ w. cond (eqb (h.blocks l) 0) (zero_block) w) (spare-block (h.blocks l) (apart n h l is))
-
-  bytes_of-kept : (n : ℕ) (h : Held) → V.inode n ≡ used h → (l : ℕ) → bytes_of V1 h.blocks l ≡ bytes_of V h.blocks l
-  bytes_of-kept n h is zero = refl
-  bytes_of-kept n h is (suc l) =
-      ap (λ w. w ++ bytes_in V1 (h.blocks l)) (bytes_of-kept n h is l)
-      ∙ ap (λ w. bytes_of V h.blocks l ++ w) (bytes-kept n h is l)
+  bytes_of-kept : (n : ℕ) (h : Held) → V.inode n ≡ used h → (l : ℕ) → bytes_of (spare_view V b v o) (block_at (spare_view V b v o) h) l ≡ bytes_of V (block_at V h) l
+  bytes_of-kept n h is l =
+      bytes_of-frame V (spare_view V b v o) (block_at (spare_view V b v o) h) (block_at V h)
+      (λ j. bytes_in-frame V (spare_view V b v o) (block_at V h j) (block_at (spare_view V b v o) h j) (blocks-spare n h is j) (λ _. spare-block (block_at V h j) (apart n h j is))) l
 
   pub tree-spare : tree_of (spare_view V b v o) ≡ tree_of V
   tree-spare = λ z. record { numbers = V.numbers; blocks = V.data_blocks; at = λ i. by i (V.inode i) refl z }
@@ -80,7 +81,7 @@ module _ (V : View) (sound : IsSoundView V) (b : ℕ) (some : b ≢ 0) (unowned 
 
   -- so do the entries
   pub entry-spare : (a p : ℕ) (h : Held) → V.inode a ≡ used h → entry_in (spare_view V b v o) (h.blocks (p / 512)) (p % 512) ≡ entry_in V (h.blocks (p / 512)) (p % 512)
-  entry-spare a p h at = ap (λ w. cond (eqb (h.blocks (p / 512)) 0) no_entry (entry_from w (p % 512))) (spare-block (h.blocks (p / 512)) (apart a h (p / 512) at))
+  entry-spare a p h at = ap (λ w. cond (eqb (h.blocks (p / 512)) 0) no_entry (entry_from w (p % 512))) (spare-block (h.blocks (p / 512)) (nobody_has_first V b sound some unowned a h (p / 512) at))
 
   pub entries-spare : (a p : ℕ) (x : Seen) → V.inode a ≡ x → entry_of (spare_view V b v o) x p ≡ entry_of V x p
   entries-spare a p (free f) at = refl

@@ -15,6 +15,7 @@ use Rattle.journal_treestore.specs.Views.{Held, Seen, View, node_of, slot_of, tr
 use Rattle.journal_treestore.specs.Views.Seen.{free, used}
 use Rattle.journal_treestore.specs.Sound.{entry_for, IsEntryOf, IsSoundInode, IsSoundView}
 use Rattle.journal_treestore.specs.Lookups.{IsMiss, BlocksAreHadOnce}
+use Rattle.journal_treestore.proofs.Indexing.{first-after}
 
 -- the inode of a node
 pub node-inode : (V : View) (i : ℕ) (x : Node) → ((tree_of V).at i).node ≡ Some x → (h : Held) × (V.inode i ≡ used h) × (node_of V h ≡ x)
@@ -87,7 +88,7 @@ module _ (V : View) (sound : IsSoundView V) where
   none_after d place h is kind after =
       ap (λ y. entry_of V y place) is
       ∙ ap (λ kind. entry_by V kind h place) kind
-      ∙ ap (λ b. entry_in V b (place % 512)) (s.after (place / 512) far)
+      ∙ ap (λ b. entry_in V b (place % 512)) (first-after V d h s (place / 512) far)
     where
       s : IsSoundInode V d h
       s = sound.inodes d h is

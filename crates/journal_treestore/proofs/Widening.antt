@@ -31,7 +31,7 @@ widened-tree : (T : Tree) (d : ℕ) (x : Node) (place : ℕ) → HasTree T → (
 widened-tree T d x place tree is kind = subst (IsTree T.numbers) (sym (same_stems T d place x.attributes.mtime)) (HasTree-place T d x place x.attributes.mtime tree is kind).0
 
 widened-node : (place : ℕ) (x : Node) → place < MOST_PLACES → IsFit x → IsFit (widened place x)
-widened-node place x low f = record { home = f.home; place = f.place; body = grown-body-fits place x.body low f.body; mode = f.mode; owner = f.owner; group = f.group; mtime = f.mtime; ctime = f.ctime }
+widened-node place x low f = record { home = f.home; place = f.place; body = grown-body-fits place x.body low f.body; mode = f.mode; owner = f.owner; group = f.group; mtime = f.mtime; ctime = f.ctime; verifier = f.verifier }
 
 widened-fit : (T : Tree) (d : ℕ) (x : Node) (place : ℕ) → (T.at d).node ≡ Some x → place < MOST_PLACES → HasFit T → HasFit (widen T d place)
 widened-fit T d x place is low fit = record {

@@ -12,14 +12,14 @@ use Rattle.journal_tree.specs.Op.{Op}
 use Rattle.journal_tree.specs.Op.Call.{lookup}
 use Rattle.journal_tree.specs.Op.Reply.{found}
 use Rattle.journal_treestore.specs.Entries.{tag_of}
-use Rattle.journal_treestore.specs.Views.{Held, View, node_of, tree_of, entry_at}
+use Rattle.journal_treestore.specs.Views.{Held, View, block_at, node_of, tree_of, entry_at}
 use Rattle.journal_treestore.specs.Views.Seen.{used}
 use Rattle.journal_treestore.specs.Sound.{IsSoundInode, IsSoundView}
 
 -- No block is had twice: owners' records alone say so
 abbrev pub BlocksAreHadOnce : Type 0
 BlocksAreHadOnce = (V : View) (n m : ℕ) (g h : Held) (i j : ℕ) → IsSoundInode V n g → IsSoundInode V m h
-    → g.blocks i ≢ 0 → g.blocks i ≡ h.blocks j → (n ≡ m) × (i ≡ j)
+    → block_at V g i ≢ 0 → block_at V g i ≡ block_at V h j → (n ≡ m) × (i ≡ j)
 
 -- An entry was read, and the inode that it names, which has the name
 pub record IsHit (V : View) (d : ℕ) (name : List ℕ) (place : ℕ) (g : Held) : Type 0 where

@@ -45,6 +45,7 @@ rehomed g home now = record {
   kind = g.kind;
   size = g.size;
   blocks = g.blocks;
+  index = g.index;
 }
 
 -- the same directory and place, another name

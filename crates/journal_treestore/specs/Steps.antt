@@ -14,13 +14,13 @@ use Rattle.journal_tree.specs.Changes.{with_times, grown_body, touch_place, plan
 use Rattle.journal_tree.specs.Fit.{IsCallable, IsCaller}
 use Rattle.journal_tree.specs.Op.{Call, Reply, IsRoom, Op}
 use Rattle.journal_treestore.specs.Entries.{with_entry, no_entry}
-use Rattle.journal_treestore.specs.Views.{Held, View, with_inode, with_owner, with_block, entry_of, entry_at, zero_block, tree_of, homes}
+use Rattle.journal_treestore.specs.Views.{Held, View, block_at, with_inode, with_owner, with_block, entry_of, entry_at, zero_block, tree_of, homes}
 use Rattle.journal_treestore.specs.Views.Seen.{free, used}
 use Rattle.journal_treestore.specs.Sound.{entry_for, IsHung, IsSoundInode, IsSoundView}
 
 -- an inode with other attributes
 abbrev pub with_attributes : Held → Attributes → Held
-with_attributes h a = record { generation = h.generation; attributes = a; home = h.home; kind = h.kind; size = h.size; blocks = h.blocks }
+with_attributes h a = record { generation = h.generation; attributes = a; home = h.home; kind = h.kind; size = h.size; blocks = h.blocks; index = h.index }
 
 -- a directory whose names change at this moment
 abbrev pub with_moment : Held → Time → Held
@@ -58,7 +58,7 @@ pub record IsSpot (V : View) (s : Spot) : Type 0 where
 
 -- a node of this size that has no blocks yet: its bytes are zeros
 abbrev pub new_held : Spot → List ℕ → Attributes → Kind → ℕ → Held
-new_held s name a kind size = record { generation = s.generation + 1; attributes = a; home = home_of s name; kind = kind; size = size; blocks = λ j. 0 }
+new_held s name a kind size = record { generation = s.generation + 1; attributes = a; home = home_of s name; kind = kind; size = size; blocks = λ j. 0; index = 0 }
 
 abbrev pub new_body : Kind → ℕ → Body
 new_body Directory size = directory 0
@@ -78,7 +78,7 @@ planted_view V s name a kind size now =
 
 -- The inode that the record of a block names has it not
 pub record IsUnowned (V : View) (b : ℕ) : Type 0 where
-  pub not_at : (h : Held) → V.inode (V.owner b).number ≡ used h → h.blocks (V.owner b).place ≢ b
+  pub not_at : (h : Held) → V.inode (V.owner b).number ≡ used h → block_at V h (V.owner b).place ≢ b
 
 -- Block b becomes that of link n, with this text
 pub record Filling : Type 0 where
@@ -108,6 +108,7 @@ filled_held f = record {
   kind = f.h.kind;
   size = f.h.size;
   blocks = λ j. if j == 0 then f.b else f.h.blocks j;
+  index = f.h.index;
 }
 
 -- the block of a text, with zeros after it
@@ -179,6 +180,7 @@ grown_held g = record {
   kind = g.h.kind;
   size = 4096 * (g.j + 1);
   blocks = λ i. if i == g.j then g.b else g.h.blocks i;
+  index = g.h.index;
 }
 
 -- the block without entries, its record, and the directory's inode are written

@@ -1,6 +1,7 @@
 -- The objects of a disk: inodes, owners of blocks, blocks. And the tree that
 -- they make.
-use Rattle.std.specs.Prelude.{ℕ, zero, suc, ◌+◌, ◌/◌, ◌%◌, ◌==◌, if◌then◌else◌, List, [], ◌++◌, take, replicate, get_or, Option, Some, None}
+use Rattle.std.specs.Prelude.{ℕ, zero, suc, ◌+◌, ◌-◌, ◌*◌, ◌/◌, ◌%◌, ◌==◌, ◌&&◌, nat_le, nat_lt, if◌then◌else◌, List, [], ◌++◌, take, replicate, get_or, Option, Some, None}
+use Rattle.journal_tree.specs.declared.limits.TheConstants.{MOST_FILE_BLOCKS}
 use Rattle.journal_tree.specs.declared.reply.Attributes.{Attributes}
 use Rattle.journal_tree.specs.declared.reply.Kind.{Kind}
 use Rattle.journal_tree.specs.declared.reply.Kind.TheVariants.{Directory, File, Link}
@@ -10,11 +11,14 @@ use Rattle.journal_treestore.specs.declared.owner.Owner.{Owner}
 use Rattle.journal_treestore.specs.declared.entry.TheConstants.{PLACES}
 use Rattle.journal_treestore.specs.declared.entry.Entry.{Entry}
 use Rattle.journal_treestore.specs.declared.inode.Head.{Head}
+use Rattle.journal_treestore.specs.declared.inode.TheConstants.{DIRECT_BLOCKS, INDEX_NUMBERS, INDEX_PLACE, FIRST_INDEX_PLACE}
 use Rattle.journal_treestore.specs.declared.inode.Inode.{Inode}
 use Rattle.journal_treestore.specs.declared.inode.Inode.TheVariants.{Free, Used}
+use Rattle.journal_treestore.specs.Bytes.{word_at}
 use Rattle.journal_treestore.specs.Entries.{entry_from, no_entry}
 
--- An inode in use with its name, and its blocks by their place, 0 where there is none
+-- An inode in use with its name, its first blocks by their place, and the block with the numbers of
+-- its index blocks. It is 0 where there is none
 pub record Held : Type 0 where
   pub generation : ℕ
   pub attributes : Attributes
@@ -22,6 +26,7 @@ pub record Held : Type 0 where
   pub kind : Kind
   pub size : ℕ
   pub blocks : ℕ → ℕ
+  pub index : ℕ
 
 -- An inode with its name: free, with the generation of its last node, or in use
 pub data Seen : Type 0 where
@@ -36,6 +41,7 @@ held_of h name = record {
   kind = h.kind;
   size = h.size;
   blocks = λ j. get_or h.blocks j 0;
+  index = h.index;
 }
 
 abbrev pub seen : Inode → List ℕ → Seen
@@ -62,6 +68,33 @@ with_owner V b o = record { numbers = V.numbers; first_data = V.first_data; data
 abbrev pub with_block : View → ℕ → List ℕ → View
 with_block V b v = record { numbers = V.numbers; first_data = V.first_data; data_blocks = V.data_blocks; inode = V.inode; owner = V.owner; block = λ i. if i == b then v else V.block i }
 
+-- ── the blocks of an inode ──
+
+-- number k of a block of numbers, 0 where there is no such block
+abbrev pub number_in : View → ℕ → ℕ → ℕ
+number_in V b k = if b == 0 then 0 else word_at (V.block b) (4 * k)
+
+-- index block i of an inode
+abbrev pub index_block : View → Held → ℕ → ℕ
+index_block V h i = number_in V h.index i
+
+-- The block that an inode has at a place: one of its first blocks, one whose number lies in an
+-- index block, the block with the numbers of the index blocks, or one of these
+unfoldable pub block_at : View → Held → ℕ → ℕ
+block_at V h p =
+    if nat_lt p DIRECT_BLOCKS then h.blocks p
+    else if nat_lt p MOST_FILE_BLOCKS then number_in V (index_block V h ((p - DIRECT_BLOCKS) / INDEX_NUMBERS)) ((p - DIRECT_BLOCKS) % INDEX_NUMBERS)
+    else if p == INDEX_PLACE then h.index
+    else if nat_le FIRST_INDEX_PLACE p && nat_lt p (FIRST_INDEX_PLACE + INDEX_NUMBERS) then index_block V h (p - FIRST_INDEX_PLACE)
+    else 0
+
+-- the first byte of an inode that needs the block at a place
+unfoldable pub begin_at : ℕ → ℕ
+begin_at p =
+    if nat_lt p INDEX_PLACE then 4096 * p
+    else if p == INDEX_PLACE then 4096 * DIRECT_BLOCKS
+    else 4096 * (DIRECT_BLOCKS + INDEX_NUMBERS * (p - FIRST_INDEX_PLACE))
+
 -- ── the tree ──
 
 unfoldable pub zero_block : List ℕ
@@ -77,7 +110,7 @@ bytes_of V blocks zero = []
 bytes_of V blocks (suc n) = bytes_of V blocks n ++ bytes_in V (blocks n)
 
 abbrev pub content : View → Held → List ℕ
-content V h = take h.size (bytes_of V h.blocks ((h.size + 4095) / 4096))
+content V h = take h.size (bytes_of V (block_at V h) ((h.size + 4095) / 4096))
 
 abbrev pub body_of : View → Kind → Held → Body
 body_of V Directory h = directory (h.size / 8)

@@ -2,10 +2,11 @@
 ghost use Rattle.std.specs.Prelude.{ℕ, ◌≡◌, ◌≤◌, ◌+◌, ◌++◌, take, drop, List, flat_map, length};
 ghost use Rattle.std.specs.Int.{w32, to_le_bytes};
 ghost use Rattle.journal_tree.specs.declared.limits.TheConstants.{MOST_NAME};
+ghost use Rattle.journal_tree.specs.Fit.{IsOptionalLong};
 ghost use Rattle.journal_treestore.specs.declared.inode.Inode.TheVariants.{Used};
 ghost use Rattle.journal_treestore.specs.Bytes.{with_piece};
 ghost use Rattle.journal_treestore.specs.Views.{seen};
-ghost use Rattle.journal_treestore.specs.Inodes.{kind_byte, no_head, front_of, rest_bytes, inode_bytes, time_at, blocks_at, attributes_at, head_from, inode_from, name_from, InodeHasRoom};
+ghost use Rattle.journal_treestore.specs.Inodes.{kind_byte, no_head, front_of, verifier_bytes, verifier_flag, rest_bytes, inode_bytes, time_at, blocks_at, verifier_at, attributes_at, head_from, inode_from, name_from, InodeHasRoom};
 
 use crate::bytes::{half, long, put, word};
 use journal_tree::{Attributes, Kind, Time};
@@ -15,6 +16,16 @@ pub const INODE_BYTES: usize = 512;
 
 /// How many numbers of blocks an inode has.
 pub const DIRECT_BLOCKS: usize = 48;
+
+/// How many numbers of blocks lie in a block of numbers.
+pub const INDEX_NUMBERS: usize = 1024;
+
+/// The place of the block that has the numbers of an inode's index blocks. The record of who has it
+/// says so.
+pub const INDEX_PLACE: u32 = 1 << 31;
+
+/// The place of the first index block. Those of the others follow.
+pub const FIRST_INDEX_PLACE: u32 = (1 << 31) + 1;
 
 // The bytes before the blocks' numbers.
 const FRONT_BYTES: usize = 48;
@@ -40,7 +51,13 @@ const CTIME_AT: usize = 40;
 
 const BLOCKS_AT: usize = 48;
 
+const INDEX_AT: usize = 240;
+
+const VERIFIER_AT: usize = 248;
+
 const NAME_AT: usize = 256;
+
+const FLAG_AT: usize = 511;
 
 /// An inode in use, without its name.
 #[derive(Clone, Copy, Debug, PartialEq, Eq)]
@@ -55,8 +72,11 @@ pub struct Head {
     pub place: u32,
     /// Its size in bytes: of a directory, that of its blocks.
     pub size: u64,
-    /// The numbers of its blocks, in the order of its bytes. Where there is none, it is 0.
+    /// The numbers of its first blocks, in the order of its bytes. Where there is none, it is 0.
     pub blocks: [u32; DIRECT_BLOCKS],
+    /// The block with the numbers of its index blocks, each of which has the numbers of 1024
+    /// further blocks. Where there is none, it is 0.
+    pub index: u32,
 }
 
 /// An inode.
@@ -76,6 +96,9 @@ const DIRECTORY: u8 = 1;
 const FILE: u8 = 2;
 
 const LINK: u8 = 3;
+
+// The byte that says that there is a verifier.
+const VERIFIER: u8 = 1;
 
 impl Inode {
     /// The inode that these bytes are, if they are one's, and else one of other bytes.
@@ -109,11 +132,19 @@ impl Inode {
             Inode::Free(generation) => whole(
                 &front(FREE, 0, &no_node(generation)),
                 &NO_BLOCKS,
+                0,
+                None,
                 &[],
             ),
             Inode::Used(head) => {
                 let front = front(kind_byte(head.kind), name.len() as u8, &head);
-                whole(&front, &head.blocks, name)
+                whole(
+                    &front,
+                    &head.blocks,
+                    head.index,
+                    head.attributes.verifier,
+                    name,
+                )
             }
         }
     }
@@ -160,11 +191,13 @@ fn no_node(generation: u32) -> Head
             group: 0,
             mtime: time,
             ctime: time,
+            verifier: None,
         },
         directory: 0,
         place: 0,
         size: 0,
         blocks: NO_BLOCKS,
+        index: 0,
     }
 }
 
@@ -181,6 +214,7 @@ fn head_in(kind: Kind, bytes: &[u8]) -> Head
         place: word(bytes, PLACE_AT),
         size: long(bytes, SIZE_AT),
         blocks: blocks(bytes),
+        index: word(bytes, INDEX_AT),
     }
 }
 
@@ -195,6 +229,19 @@ fn attributes(bytes: &[u8]) -> Attributes
         group: word(bytes, GROUP_AT),
         mtime: time(bytes, MTIME_AT),
         ctime: time(bytes, CTIME_AT),
+        verifier: verifier(bytes),
+    }
+}
+
+// The verifier in the bytes of an inode, if there is one.
+fn verifier(bytes: &[u8]) -> Option<u64>
+    requires { length bytes.now ≡ INODE_BYTES }
+    ensures { result ≡ verifier_at bytes.now }
+{
+    if bytes[FLAG_AT] == VERIFIER {
+        Some(long(bytes, VERIFIER_AT))
+    } else {
+        None
     }
 }
 
@@ -249,15 +296,46 @@ fn put_time(bytes: &mut [u8], at: usize, time: Time)
 }
 
 // All bytes of an inode.
-fn whole(front: &[u8; FRONT_BYTES], blocks: &[u32; DIRECT_BLOCKS], name: &[u8]) -> [u8; INODE_BYTES]
+fn whole(
+    front: &[u8; FRONT_BYTES],
+    blocks: &[u32; DIRECT_BLOCKS],
+    index: u32,
+    verifier: Option<u64>,
+    name: &[u8],
+) -> [u8; INODE_BYTES]
     requires { length name.now ≤ MOST_NAME }
-    ensures { result ≡ front.now ++ rest_bytes blocks.now name.now }
+    ensures is { result ≡ front.now ++ rest_bytes blocks.now index verifier name.now }
+    ensures fits { IsOptionalLong verifier }
 {
     let mut bytes = [0; INODE_BYTES];
     put(&mut bytes, 0, front);
     put_blocks(&mut bytes, blocks);
+    put(&mut bytes, INDEX_AT, &index.to_le_bytes());
+    put(&mut bytes, VERIFIER_AT, &verifier_bytes(verifier));
     put(&mut bytes, NAME_AT, name);
+    put(&mut bytes, FLAG_AT, &[verifier_flag(verifier)]);
     bytes
+}
+
+// The bytes of a verifier.
+fn verifier_bytes(verifier: Option<u64>) -> [u8; 8]
+    ensures is { result ≡ verifier_bytes verifier }
+    ensures fits { IsOptionalLong verifier }
+{
+    match verifier {
+        None => [0; 8],
+        Some(verifier) => verifier.to_le_bytes(),
+    }
+}
+
+// The byte that says whether there is one.
+fn verifier_flag(verifier: Option<u64>) -> u8
+    ensures { result ≡ verifier_flag verifier }
+{
+    match verifier {
+        None => 0,
+        Some(_verifier) => VERIFIER,
+    }
 }
 
 // Writes the blocks' numbers into the bytes of an inode.

@@ -10,8 +10,8 @@ pub fn places_never_overlap()
     ensures apart { PlacesAreApart }
 {}
 
-/// No two inodes of a sound disk have one block, and none has a block twice: each block's record
-/// says who has it.
+/// No two inodes of a sound disk have one block, and none has a block twice, index blocks among
+/// them: each block's record says who has it, and where.
 pub fn blocks_are_had_once()
     ensures { BlocksAreHadOnce }
 {}

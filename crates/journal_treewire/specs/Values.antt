@@ -1,4 +1,6 @@
 -- The values of the wire in a tree.
+use Rattle.std.specs.Prelude.{ℕ, List, [], ◌∷◌, get_or}
+use Rattle.std.specs.Int.{w64, from_le_bytes}
 use Rattle.journal_inode.specs.declared.node.Time.{Time as WireTime}
 use Rattle.journal_file_types.specs.declared.settings.NewTime.{NewTime as WireNewTime}
 use Rattle.journal_file_types.specs.declared.settings.NewTime.TheVariants as wire
@@ -34,11 +36,16 @@ new_time_in (wire.Client t) = Client (time_in t)
 abbrev pub settings_in : NewAttributes → Settings
 settings_in a = record { mode = a.mode; owner = a.uid; group = a.gid; size = a.size; mtime = new_time_in a.mtime }
 
+-- createverf3: the number that its 8 bytes are, the lowest first
+unfoldable pub verifier_in : List ℕ → ℕ
+verifier_in v = from_le_bytes w64 (
+    get_or v 0 0 ∷ get_or v 1 0 ∷ get_or v 2 0 ∷ get_or v 3 0 ∷ get_or v 4 0 ∷ get_or v 5 0 ∷ get_or v 6 0 ∷ get_or v 7 0 ∷ [])
+
 -- createhow3
 abbrev pub create_mode_in : How → CreateMode
 create_mode_in (Unchecked a) = modes.Unchecked (settings_in a)
 create_mode_in (Guarded a) = modes.Guarded (settings_in a)
-create_mode_in (Exclusive v) = modes.Exclusive
+create_mode_in (Exclusive v) = modes.Exclusive (verifier_in v)
 
 -- ---- statuses (RFC 1813, section 2.6)
 

@@ -1,7 +1,7 @@
 // The values of the wire in a tree.
-ghost use Rattle.std.specs.Prelude.{◌≡◌, option_map};
+ghost use Rattle.std.specs.Prelude.{◌≡◌, option_map, get_or};
 ghost use Rattle.journal_nfs3_wire.specs.Arguments.{how_of};
-ghost use Rattle.journal_treewire.specs.Values.{time_in, time_out, new_time_in, settings_in, create_mode_in, error_of};
+ghost use Rattle.journal_treewire.specs.Values.{time_in, time_out, new_time_in, settings_in, verifier_in, create_mode_in, error_of};
 
 use journal_nfs3_wire::{CreateHow, NewAttributes, NfsError};
 use journal_tree::{CreateMode, NewTime, Settings, Status, Time};
@@ -66,8 +66,31 @@ pub(crate) fn create_mode_in(how: &CreateHow<'_>) -> CreateMode
     match *how {
         CreateHow::Unchecked(attributes) => CreateMode::Unchecked(settings_in(attributes)),
         CreateHow::Guarded(attributes) => CreateMode::Guarded(settings_in(attributes)),
-        CreateHow::Exclusive(_) => CreateMode::Exclusive,
+        CreateHow::Exclusive(verifier) => CreateMode::Exclusive(verifier_in(verifier)),
     }
+}
+
+// The number that 8 bytes are, the lowest first.
+fn verifier_in(verifier: &[u8]) -> u64
+    ensures { result ≡ verifier_in verifier.now }
+{
+    u64::from_le_bytes([
+        byte_in(verifier, 0),
+        byte_in(verifier, 1),
+        byte_in(verifier, 2),
+        byte_in(verifier, 3),
+        byte_in(verifier, 4),
+        byte_in(verifier, 5),
+        byte_in(verifier, 6),
+        byte_in(verifier, 7),
+    ])
+}
+
+// The byte at a place, if there is one, and else 0.
+fn byte_in(bytes: &[u8], at: usize) -> u8
+    ensures { result ≡ get_or bytes.now at 0 }
+{
+    if at < bytes.len() { bytes[at] } else { 0 }
 }
 
 /// The number of a refusal on the wire.

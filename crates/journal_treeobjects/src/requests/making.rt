@@ -72,27 +72,37 @@ impl<'n> TreeOperation for CreateUnchecked<'n> {
     }
 }
 
-/// CREATE of a name, in the mode EXCLUSIVE: the reason why it is refused.
+/// CREATE of a name, in the mode EXCLUSIVE.
 #[derive(Clone, Copy)]
 pub struct CreateExclusive<'n> {
     pub directory: Handle,
     pub name: &'n [u8],
+    /// By which the same call finds the file again.
+    pub verifier: u64,
+    /// Numbers and blocks that may be free.
+    pub spare: Spare<'n>,
 }
 
 impl<'n> TreeOperation for CreateExclusive<'n> {
-    ghost use Rattle.std.specs.Prelude.{Err};
     ghost use Rattle.journal_tree.specs.Op.Call.{create};
     ghost use Rattle.journal_tree.specs.Op.Reply.{made};
     ghost use Rattle.journal_tree.specs.declared.settings.CreateMode.TheVariants.{Exclusive};
 
-    type Reply = Status;
+    type Reply = Result<Made, Status>;
 
-    ghost call = { λ o. create o.directory o.name.now Exclusive };
+    ghost call = { λ o. create o.directory o.name.now (Exclusive o.verifier) };
 
-    ghost told = { λ status. made (Err status) };
+    ghost told = { made };
 
-    fn attempt<T: TreeDisk>(&self, asking: Asking, disk: &mut T) -> Result<Status, T::Fault> {
-        create_exclusive(disk, &asking.caller, self.directory, self.name)
+    fn attempt<T: TreeDisk>(
+        &self,
+        asking: Asking,
+        disk: &mut T,
+    ) -> Result<Result<Made, Status>, T::Fault> {
+        let Asking { caller, now } = asking;
+        let (directory, name) = (self.directory, self.name);
+        let verifier = self.verifier;
+        create_exclusive(disk, &caller, directory, name, verifier, &self.spare, now)
     }
 }
 

@@ -33,8 +33,8 @@ impl<'n> NfsOperation for MkDir<'n> {
 }
 
 impl<'n> NfsOperation for CreateExclusive<'n> {
-    fn tell(&self, reply: Status, _how: StableHow, _verifier: Verifier) -> Told {
-        Told::refusal(TreeResults::Made(Err(error_of(reply))))
+    fn tell(&self, reply: Result<Made, Status>, _how: StableHow, _verifier: Verifier) -> Told {
+        told_made(reply)
     }
 }
 

@@ -2,7 +2,7 @@ use Rattle.journal_treecalls.proofs.Writes.{piece-old, piece-new}
 use Rattle.journal_treecalls.proofs.overlay.put_piece.Goals as goal
 
 pub returns-then-blocks-eq0 : goal.returns-then-blocks-eq0
-returns-then-blocks-eq0 g c = piece-new _ _ _ _ _ c.args.number c.args.blocks.0 c.args.blocks.1 c.args.j c.args.piece.now c.value_of-value.result _ c.if-blocks-eq0.true c.in_ok-put_block.ensures.written c.in_ok-put_owner.ensures.written c.value_of-value.ensures.is c.owner_at.ensures (λ V m. c.in_ok-put_block.ensures.same V (c.in_ok-put_owner.ensures.same V m))
+returns-then-blocks-eq0 g c = piece-new _ _ _ _ _ c.args.number c.args.blocks.0 c.args.blocks.1 c.args.place c.args.piece.now c.value_of-value.result _ c.if-blocks-eq0.true c.in_ok-put_block.ensures.written c.in_ok-put_owner.ensures.written c.value_of-value.ensures.is c.owner_at.ensures (λ V m. c.in_ok-put_block.ensures.same V (c.in_ok-put_owner.ensures.same V m))
 
 pub returns : goal.returns
-returns g c = piece-old _ _ _ _ c.args.number c.args.blocks.0 c.args.blocks.1 c.args.j c.args.piece.now c.value_of-value.result c.if-blocks-eq0.false c.in_ok-put_block.ensures.written c.value_of-value.ensures.is c.in_ok-put_block.ensures.same
+returns g c = piece-old _ _ _ _ c.args.number c.args.blocks.0 c.args.blocks.1 c.args.place c.args.piece.now c.value_of-value.result c.if-blocks-eq0.false c.in_ok-put_block.ensures.written c.value_of-value.ensures.is c.in_ok-put_block.ensures.same

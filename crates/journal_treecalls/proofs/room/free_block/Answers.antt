@@ -1,6 +1,6 @@
 use Rattle.std.proofs.Common.{sym, ◌∙◌}
 use Rattle.journal_treecalls.proofs.Learning.{learns-then}
-use Rattle.journal_treecalls.proofs.Made.{block-free, this-block}
+use Rattle.journal_treecalls.proofs.Unowned.{block-free, this-block}
 use Rattle.journal_treecalls.proofs.room.free_block.Goals as goal
 
 pub returns-clause-learns : goal.returns-clause-learns

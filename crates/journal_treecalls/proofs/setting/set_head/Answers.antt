@@ -13,9 +13,11 @@ returns c = record {
     group = c.args.head.now.attributes.group;
     mtime = c.args.head.now.attributes.mtime;
     ctime = c.bounded.ensures.same time i;
+    verifier = c.args.head.now.attributes.verifier;
   }) c.args.now);
   directory = refl;
   place = refl;
   size = c.unwrap_or-size.ensures;
   blocks = c.cut_at.ensures;
+  index = c.cut_one.ensures;
 }

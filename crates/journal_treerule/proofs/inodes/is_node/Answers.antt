@@ -13,5 +13,5 @@ returns-then-not-is_within_bounds-clause-right g c = λ trusted. refuses c.is_wi
 pub returns-clause-right : goal.returns-clause-right
 returns-clause-right g c = λ trusted.
     IfOk-weaker c.are_blocks_sound.result _ _
-    (λ b sound. node-parts (view_of c.args.cut (g.O.ObjectReader.map c.args.reader.now)) c.args.number (held_of c.args.head.now c.args.name.now) b (c.is_in_place.ensures.0 c.if-not-is_in_place.false) (c.is_within_bounds.ensures.0 c.if-not-is_within_bounds.false) sound)
+    (λ b sound. node-parts (view_of c.args.cut (g.O.ObjectReader.map c.args.reader.now)) c.args.number c.args.head.now c.args.name.now b (c.is_in_place.ensures.0 c.if-not-is_in_place.false) (c.is_within_bounds.ensures.0 c.if-not-is_within_bounds.false) c.are_blocks_sound.ensures.whole sound)
     (c.are_blocks_sound.ensures.sound trusted)
