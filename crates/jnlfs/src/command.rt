@@ -1,15 +1,17 @@
 // The command line.
 
+use crate::allowing::allowed_addresses;
 use crate::making::{NewDisk, NewFiles};
+use crate::migrating::Migration;
 use crate::serving::Service;
-use clap::{Arg, ArgMatches, Command, value_parser};
-use journal_clients::{Endpoint, Reads};
+use clap::{Arg, ArgAction, ArgMatches, Command, value_parser};
+use journal_clients::{AllowedAddresses, Reads};
 use journal_commands::{
     FILE, Fault, JNLFS_VERSIONS, file_arg, flag_arg, option_arg, program_command, subcommand, word,
 };
 use journal_program::Room;
 use std::alloc::{AllocError, Global};
-use std::net::Ipv4Addr;
+use std::net::IpAddr;
 
 /// The name of the program.
 pub const PROGRAM: &str = "jnlfs";
@@ -17,20 +19,22 @@ pub const PROGRAM: &str = "jnlfs";
 const ABOUT: &str = "Files on a disk of a transactional block journal";
 
 const SERVE_NOTES: &str =
-    "A client mounts /files, or /, by version 3 of NFS and of MOUNT, which are both on this port:\n  mount -t nfs -o vers=3,nolock,proto=tcp,port=P,mountproto=tcp,mountport=P HOST:/files DIRECTORY\n\nOf a disk of version 3 a call has the rights of the user and the groups that it names, as the modes of files and directories say. Nothing proves who calls: a program may name any user, also root, which has no more rights than nobody with --squash. Of a disk of version 1 or 2 the service looks at no user. So whoever reaches the address reads and writes all files: each program on this machine, and with another address than 127.0.0.1 each machine of the network too.\n\nThe first line of the output says at which port it listens. jnlfs stop ends it once all is stable, where --control names a socket. Only the owner of that socket can open it. A socket whose program is gone is replaced, and anything else at PATH is refused. A signal ends the service as a crash does: all that was answered as stable stands, and a client sends its other writes again once the disk is served anew. Where the device fails, standard error has the reason, and the status is 1.\n\nWith --read-only nothing is written to FILE, which need not be writable then, and others may read it too. A client mounts it with the option ro.\n\njnlfs make makes a disk of files. Any other is refused.";
+    "A client mounts /files, or /, by version 3 of NFS and of MOUNT, which are both on this port:\n  mount -t nfs -o vers=3,nolock,proto=tcp,port=P,mountproto=tcp,mountport=P HOST:/files DIRECTORY\n\nOf a disk of version 3 a call has the rights of the user and the groups that it names, as the modes of files and directories say. Nothing proves who calls: a program may name any user, also root, which has no more rights than nobody with --squash. Of a disk of version 1 or 2 the service looks at no user. So whoever reaches the address reads and writes all files: each program on this machine, and with another address than 127.0.0.1 each machine of the network too.\n\nWith --allow only clients are served whose addresses are in a range. The connection of any other client is closed at once: nothing of it is read, and nothing is sent to it. Each word is a range: 10.0.0.0/8 has the addresses that begin with 10, 10.0.0.5/32 that one alone, and fd00::/8 those of version 6 of IP that begin with fd. One with bits set after the first BITS, as 10.0.0.5/8, is refused, because it may be meant as either. A client of version 4 that comes to an address of version 6, as to ::, has its address of version 4. A line on standard error says at the start whose connections are taken. Before the line stopped the output has the line refused N, where N other connections came. An address proves little: a machine of the same network can take another one's, and all users of a machine have its address.\n\nThe first line of the output says at which port it listens. jnlfs stop ends it once all is stable, where --control names a socket. Only the owner of that socket can open it. A socket whose program is gone is replaced, and anything else at PATH is refused. A signal ends the service as a crash does: all that was answered as stable stands, and a client sends its other writes again once the disk is served anew. Where the device fails, standard error has the reason, and the status is 1.\n\nWith --read-only nothing is written to FILE, which need not be writable then, and others may read it too. A client mounts it with the option ro.\n\njnlfs make makes a disk of files. Any other is refused.";
 
 const MAKE_NOTES: &str =
     "Refused where FILE is there. Where it is refused later, as for want of room, no FILE is left. When it is done, FILE's name and the room of the log are stable, and its owner alone may use it. The other blocks take room once they are written, where there may be none, or at once with --allocate. The disk cannot grow later.\n\nA disk of version 3 has a tree of directories, files and symbolic links. Each of these takes an inode, a name has at most 255 bytes, a file at most 196608, and the text of a link 4095. The root directory belongs to root, and is there at once. Nothing has two names.\n\nA disk of version 2 has files of the names f002 to f511 in one directory, of at most 49152 bytes each, and N - 531 blocks for them.";
 
-const FIXED_INODES: &str = "a disk of version 2 has 512 inodes, and --inodes is of version 3 alone";
+const MIGRATE_NOTES: &str =
+    "Without NEW: to a disk of version 2 nothing is done, and one of version 3 is refused. All files stay, also where the program is killed or the power fails: the disk is then of either version.\n\nWith NEW: nothing is written to FILE, and until it ends no program can write it. The files of FILE come into the root directory of a tree, under their names, with their bytes and their times; they belong to root and have the mode 644. NEW is made as jnlfs make makes it, at NEW.part. Once all is stable and reads as it was written, it gets its name, and the number of files is printed. So a NEW that was made is whole. Where it is refused, as where NEW is there, no NEW is made. Where the program is killed, NEW.part may be left: remove it, and call it again.";
 
-// How many connections are open beside a visitor.
-const MOST_CONNECTIONS: u64 = 1024;
+const FIXED_INODES: &str = "a disk of version 2 has 512 inodes, and --inodes is of version 3 alone";
 
 // The names of the arguments.
 const BLOCKS: &str = "blocks";
 
 const INODES: &str = "inodes";
+
+const NEW: &str = "NEW";
 
 const FORMAT: &str = "format";
 
@@ -39,6 +43,8 @@ const ALLOCATE: &str = "allocate";
 const PORT: &str = "port";
 
 const ADDRESS: &str = "address";
+
+const ALLOW: &str = "allow";
 
 const CONTROL: &str = "control";
 
@@ -62,13 +68,24 @@ pub enum Subcommand<'w> {
     /// Make a disk without files in a new file.
     Make(NewDisk<'w>),
     /// Print whether the files of the disk in a file are sound.
-    Check { path: &'w str },
+    Check {
+        path: &'w str,
+    },
     /// Make the disk in a file one of version 2.
-    Migrate { path: &'w str },
+    Migrate {
+        path: &'w str,
+    },
+    /// Write the flat files of a disk to a new one with a tree.
+    MigrateToTree(Migration<'w>),
     /// Serve the files of the disk in a file so that clients mount them.
-    Serve(Service<'w>),
+    Serve {
+        service: Service<'w>,
+        allowed: AllowedAddresses,
+    },
     /// End the service at a socket.
-    Stop { socket: &'w str },
+    Stop {
+        socket: &'w str,
+    },
 }
 
 impl<'w> Subcommand<'w> {
@@ -76,7 +93,8 @@ impl<'w> Subcommand<'w> {
     ///
     /// # Errors
     /// - `Words`: they ask for help or the version, or are no command.
-    /// - `NoAddress`: the address is none of version 4 of IP.
+    /// - `NoAddress`: the address is none of IP.
+    /// - Those of `allowed_addresses`.
     /// - `NoCommand`: no subcommand can be made of them.
     /// - `NoMemory`: memory is refused.
     pub fn parse(alloc: Global, words: &'w [String]) -> Result<Subcommand<'w>, Fault<'w>> {
@@ -89,10 +107,11 @@ impl<'w> Subcommand<'w> {
             "check" => Ok(Subcommand::Check {
                 path: word(given, FILE)?,
             }),
-            "migrate" => Ok(Subcommand::Migrate {
-                path: word(given, FILE)?,
+            "migrate" => parse_migrate(given),
+            "serve" => Ok(Subcommand::Serve {
+                service: parse_service(given)?,
+                allowed: allowed_addresses(alloc, given.get_strs(ALLOW))?,
             }),
-            "serve" => parse_serve(given),
             "stop" => Ok(Subcommand::Stop {
                 socket: word(given, CONTROL)?,
             }),
@@ -129,21 +148,31 @@ fn parse_files<'w>(given: &ArgMatches<'w>) -> Result<NewFiles, Fault<'w>> {
     }
 }
 
-fn parse_serve<'w>(given: &ArgMatches<'w>) -> Result<Subcommand<'w>, Fault<'w>> {
+fn parse_migrate<'w>(given: &ArgMatches<'w>) -> Result<Subcommand<'w>, Fault<'w>> {
+    let old = word(given, FILE)?;
+    match given.get_str(NEW) {
+        Some(new) => Ok(Subcommand::MigrateToTree(Migration {
+            old,
+            new,
+            blocks: given.get_one::<u64>(BLOCKS),
+            inodes: given.get_one::<u64>(INODES),
+        })),
+        None => Ok(Subcommand::Migrate { path: old }),
+    }
+}
+
+fn parse_service<'w>(given: &ArgMatches<'w>) -> Result<Service<'w>, Fault<'w>> {
     let text = word(given, ADDRESS)?;
-    let Ok(address) = text.parse::<Ipv4Addr>() else {
+    let Ok(address) = text.parse::<IpAddr>() else {
         return Err(Fault::NoAddress { text });
     };
     let Some(port) = given.get_one::<u16>(PORT) else {
         return Err(Fault::NoCommand);
     };
-    Ok(Subcommand::Serve(Service {
+    Ok(Service {
         path: word(given, FILE)?,
-        endpoint: Endpoint {
-            address,
-            port,
-            connections: MOST_CONNECTIONS,
-        },
+        address,
+        port,
         control: given.get_str(CONTROL),
         is_read_only: given.get_flag(READ_ONLY),
         squash: given.get_flag(SQUASH),
@@ -152,7 +181,7 @@ fn parse_serve<'w>(given: &ArgMatches<'w>) -> Result<Subcommand<'w>, Fault<'w>> 
         } else {
             Reads::FromFile
         },
-    }))
+    })
 }
 
 // The grammar of the command line, from which its help is printed.
@@ -195,13 +224,19 @@ fn check_command<'w>(alloc: Global) -> Result<Command<'w>, AllocError> {
 }
 
 fn migrate_command<'w>(alloc: Global) -> Result<Command<'w>, AllocError> {
+    let new = Arg::new(alloc, NEW).help(
+        "The file to make, for a disk of version 3 with the files of FILE",
+    );
     subcommand(
         alloc,
         "migrate",
-        "Makes a disk of version 1 one of version 2, with the same files",
-        "To a disk of version 2 nothing is done, and one of version 3 is refused. All files stay, also where the program is killed or the power fails: the disk is then of either version.",
+        "Makes a disk of version 1 one of version 2, with the same files, or with NEW writes the files of either to a new disk of version 3",
+        MIGRATE_NOTES,
     )
-    .arg(file_arg(alloc, "The file of the disk"))
+    .arg(file_arg(alloc, "The file of the disk"))?
+    .arg(new)?
+    .arg(new_blocks_arg(alloc)?)?
+    .arg(inodes_arg(alloc).requires_arg(NEW)?)
 }
 
 fn serve_command<'w>(alloc: Global) -> Result<Command<'w>, AllocError> {
@@ -229,6 +264,7 @@ fn serve_command<'w>(alloc: Global) -> Result<Command<'w>, AllocError> {
     .arg(file_arg(alloc, "The file of the disk"))?
     .arg(port_arg(alloc))?
     .arg(address_arg(alloc))?
+    .arg(allow_arg(alloc))?
     .arg(control_arg(alloc, "The socket to make, by which the service is ended"))?
     .arg(read_only)?
     .arg(mirror)?
@@ -260,6 +296,18 @@ fn blocks_arg<'w>(alloc: Global) -> Arg<'w> {
     )
     .required(true)
     .value_parser(value_parser!(u64).range(532..=4294967296))
+}
+
+// The number of blocks of a disk to which files are written.
+fn new_blocks_arg<'w>(alloc: Global) -> Result<Arg<'w>, AllocError> {
+    option_arg(
+        alloc,
+        BLOCKS,
+        "N",
+        "How many blocks of 4096 bytes NEW has, 645 to 4294967296: by default a fiftieth more than FILE and 130",
+    )
+    .value_parser(value_parser!(u64).range(645..=4294967296))
+    .requires_arg(NEW)
 }
 
 // The number of inodes of a disk with a tree.
@@ -306,4 +354,15 @@ fn address_arg<'w>(alloc: Global) -> Arg<'w> {
         "The address of this machine to listen on; whoever reaches it reads and writes all files",
     )
     .default_value("127.0.0.1")
+}
+
+// The clients that are served.
+fn allow_arg<'w>(alloc: Global) -> Arg<'w> {
+    option_arg(
+        alloc,
+        ALLOW,
+        "ADDRESS/BITS",
+        "Serves only clients whose address begins with the first BITS bits of this one, as in 10.0.0.0/8; may be given several times",
+    )
+    .action(ArgAction::Append)
 }

@@ -1,16 +1,19 @@
 //! The files of a disk at the command line. `jnlfs make` makes a disk without files, with a tree or
 //! with flat files. `jnlfs check` prints whether the files of a disk are sound, and `jnlfs migrate`
-//! makes a disk of version 1 one of version 2. `jnlfs serve` serves the files so that a Linux
-//! machine mounts them, and `jnlfs stop` ends such a service. The version of a disk says which
-//! protocol it is served by: 1 and 2 have flat files, and 3 a tree. `jnlfs --help` is the manual.
-//! The program `jnl` looks at such a disk too, and seals its log.
+//! makes a disk of version 1 one of version 2, or writes flat files to a new disk with a tree.
+//! `jnlfs serve` serves the files so that a Linux machine mounts them, and `jnlfs stop` ends such a
+//! service. The version of a disk says which protocol it is served by: 1 and 2 have flat files, and
+//! 3 a tree. `jnlfs --help` is the manual. The program `jnl` looks at such a disk too, and seals
+//! its log.
 #![tactic(auto)]
 
 ghost use Rattle.std.specs.Prelude.{◌≤◌};
 
+mod allowing;
 mod command;
 mod disks;
 mod making;
+mod migrating;
 mod serving;
 mod stopping;
 mod unserved;
@@ -73,7 +76,12 @@ fn obey<
         Subcommand::Make(disk) => making::make(rt, alloc, disk),
         Subcommand::Check { path } => disks::check(rt, alloc, path, output, faults),
         Subcommand::Migrate { path } => disks::migrate(rt, alloc, path, output),
-        Subcommand::Serve(service) => serving::serve(rt, alloc, service, output, faults),
+        Subcommand::MigrateToTree(migration) => {
+            migrating::migrate_to_tree(rt, alloc, migration, output)
+        }
+        Subcommand::Serve { service, allowed } => {
+            serving::serve(rt, alloc, service, &allowed, output, faults)
+        }
         Subcommand::Stop { socket } => stopping::stop(rt, socket),
     }
 }

@@ -1,12 +1,14 @@
 // Disks of files are made.
+ghost use Rattle.std.specs.Prelude.{IfOk};
+ghost use Rattle.journal_treeform.specs.NewCuts.{IsNewCut};
 
 use crate::unserved::unserved;
 use journal_commands::{Fault, label_of, regions_of_files};
 use journal_program::Room;
 use journal_treeform::{NoCut, default_inodes, new_cut};
+use journal_treestore::Cut;
 use std::alloc::Global;
 use std::fs::{File, Files};
-use std::io;
 use std::random::RandomSource;
 use std::time::Clock;
 
@@ -106,21 +108,27 @@ fn make_tree<'w, R: Files<File = File> + Clock + RandomSource>(
         room,
         ..
     } = disk;
-    if blocks < FEWEST_TREE_BLOCKS {
-        return Err(Fault::NoSuchDisk { why: TREE_BLOCKS });
-    }
-    let cut = match new_cut(blocks, inodes.unwrap_or(default_inodes(blocks))) {
-        Ok(cut) => cut,
-        Err(why) => {
-            return Err(Fault::NoSuchDisk { why: words_of(why) });
-        }
-    };
-    let Ok(number) = disk_number(rt) else {
-        return Err(Fault::NoRandom);
-    };
+    let cut = tree_cut(blocks, inodes)?;
+    let number = disk_number(rt)?;
     match journal_treeservice::make(rt, alloc, path, cut, number, room) {
         Ok(()) => Ok(()),
         Err(why) => Err(unserved(path, why)),
+    }
+}
+
+/// How a disk with a tree is cut of this number of blocks, and of inodes where that is named.
+///
+/// # Errors
+/// - `NoSuchDisk`: no disk has these.
+pub fn tree_cut<'w>(blocks: u64, inodes: Option<u64>) -> Result<Cut, Fault<'w>>
+    ensures { IfOk result IsNewCut }
+{
+    if blocks < FEWEST_TREE_BLOCKS {
+        return Err(Fault::NoSuchDisk { why: TREE_BLOCKS });
+    }
+    match new_cut(blocks, inodes.unwrap_or(default_inodes(blocks))) {
+        Ok(cut) => Ok(cut),
+        Err(why) => Err(Fault::NoSuchDisk { why: words_of(why) }),
     }
 }
 
@@ -133,9 +141,14 @@ fn words_of(why: NoCut) -> &'static str {
     }
 }
 
-// 64 random bits of the system. Refused for its reason, where it gives none.
-fn disk_number<R: RandomSource>(rt: &R) -> io::Result<u64> {
+/// 64 random bits of the system, the number of a new disk with a tree.
+///
+/// # Errors
+/// - `NoRandom`: it gives none.
+pub fn disk_number<'w, R: RandomSource>(rt: &R) -> Result<u64, Fault<'w>> {
     let mut bytes = [0u8; 8];
-    rt.fill_bytes(&mut bytes)?;
-    Ok(u64::from_le_bytes(bytes))
+    match rt.fill_bytes(&mut bytes) {
+        Ok(()) => Ok(u64::from_le_bytes(bytes)),
+        Err(_) => Err(Fault::NoRandom),
+    }
 }

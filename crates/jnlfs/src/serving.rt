@@ -3,7 +3,7 @@
 use crate::command::PROGRAM;
 use crate::disks::{HeldFiles, OpenedDisk, OpenedToRead, open, share};
 use crate::unserved::unserved;
-use journal_clients::{Control, Endpoint, Reads, ServiceFault};
+use journal_clients::{AllowedAddresses, Control, Endpoint, Reads, ServiceFault};
 use journal_commands::{Fault, make_socket, print_line, remove_socket};
 use journal_connections::file_numbers;
 use journal_mount3::{Exported, ExportedToRead};
@@ -12,7 +12,7 @@ use journal_treeservice::{Asked, TreeCut};
 use std::alloc::Global;
 use std::fs::{File, Files};
 use std::io::Write;
-use std::net::{Net, TcpListener, TcpStream};
+use std::net::{IpAddr, Net, TcpListener, TcpStream};
 use std::sync::Wait;
 use std::thread::Threads;
 use std::time::Clock;
@@ -21,13 +21,18 @@ use std::time::Clock;
 // and what a further connection takes for a moment.
 const OWN_FILES: u64 = 24;
 
+// How many connections are open beside a visitor.
+const MOST_CONNECTIONS: u64 = 1024;
+
 /// A service that is asked for.
 #[derive(Clone, Copy)]
 pub struct Service<'w> {
     /// The path of the file that has the disk.
     pub path: &'w str,
-    /// Where clients reach it.
-    pub endpoint: Endpoint,
+    /// The address of this machine at which clients reach it.
+    pub address: IpAddr,
+    /// The port there, or 0 for one that is free.
+    pub port: u16,
     /// The path of the socket by which it is ended, where there is to be one.
     pub control: Option<&'w str>,
     /// True if the disk is only read.
@@ -57,9 +62,13 @@ enum ServedDisk {
 /// Serves the files of the disk in a file, of each version, so that clients mount them: NFS and
 /// MOUNT in their versions 3 (RFC 1813). Prints the port before the first connection is accepted,
 /// and that it has stopped once a client has ended it by its socket. All is stable then, the disk
-/// is closed and unlocked, and the socket is gone. Where the address is not one that this machine
-/// alone reaches, a line of `faults` says what that means, and another where the system lets the
-/// program have fewer files open than are needed for all connections.
+/// is closed and unlocked, and the socket is gone. A line of `faults` says whose connections are
+/// taken, where not all are. Where the address is not one that this machine alone reaches, another
+/// says what that means, and so does one where the system lets the program have fewer files open
+/// than are needed for all connections.
+///
+/// The connection of a client whose address is not allowed is closed at once. How many these were
+/// is printed at the end.
 ///
 /// Where the disk is only read, no byte of it is written, other services that only read it may have
 /// it too, and each call that asks to change a file is answered by NFS3ERR_ROFS.
@@ -86,15 +95,18 @@ pub fn serve<
     rt: &R,
     alloc: Global,
     service: Service<'w>,
+    allowed: &AllowedAddresses,
     output: &mut O,
     faults: &mut E,
 ) -> Result<(), Fault<'w>> {
     let served = open_served(rt, alloc, service)?;
     let Some(socket) = service.control else {
-        return export(rt, alloc, served, service, None, output, faults);
+        let asked = ask_for(service, allowed, None, faults);
+        return export(rt, alloc, served, service, asked, output, faults);
     };
     let control = open_control(rt, alloc, socket)?;
-    let ended = export(rt, alloc, served, service, Some(&control), output, faults);
+    let asked = ask_for(service, allowed, Some(&control), faults);
+    let ended = export(rt, alloc, served, service, asked, output, faults);
     remove_socket(rt, socket);
     control.answer(rt, ended.is_ok());
     ended?;
@@ -127,6 +139,28 @@ fn open_served<'w, R: Files<File = File>>(
     }
 }
 
+// The service that is asked for, of a disk. It is said who may use the files.
+fn ask_for<'c, E: Write>(
+    service: Service<'_>,
+    allowed: &'c AllowedAddresses,
+    control: Option<&'c Control>,
+    faults: &mut E,
+) -> Asked<'c> {
+    let connections = most_connections(faults);
+    tell_users(service, allowed, faults);
+    Asked {
+        reads: service.reads,
+        endpoint: Endpoint {
+            address: service.address,
+            port: service.port,
+            connections,
+            allowed,
+        },
+        control,
+        squash: service.squash,
+    }
+}
+
 // Serves the files of the disk until the service is ended by the control.
 fn export<
     'w,
@@ -143,22 +177,10 @@ fn export<
     alloc: Global,
     served: Served,
     service: Service<'w>,
-    control: Option<&Control>,
+    asked: Asked<'_>,
     output: &mut O,
     faults: &mut E,
 ) -> Result<(), Fault<'w>> {
-    let path = service.path;
-    let endpoint = Endpoint {
-        connections: allowed(service.endpoint.connections, faults),
-        ..service.endpoint
-    };
-    warn_of_address(service, faults);
-    let asked = Asked {
-        reads: service.reads,
-        endpoint,
-        control,
-        squash: service.squash,
-    };
     let Served { disk, files } = served;
     let ended = match files {
         HeldFiles::Flat => export_flat(rt, alloc, disk, asked, output, faults),
@@ -166,7 +188,7 @@ fn export<
     };
     match ended {
         Ok(()) => Ok(()),
-        Err(why) => Err(unserved(path, why)),
+        Err(why) => Err(unserved(service.path, why)),
     }
 }
 
@@ -228,15 +250,15 @@ fn export_tree<
     }
 }
 
-// How many connections are open beside a visitor: fewer than asked for where the system lets the
-// program have fewer files open, and then it is said.
-fn allowed<E: Write>(connections: u64, faults: &mut E) -> u64 {
+// How many connections are open beside a visitor: fewer where the system lets the program have
+// fewer files open, and then it is said.
+fn most_connections<E: Write>(faults: &mut E) -> u64 {
     let Some(files) = file_numbers() else {
-        return connections;
+        return MOST_CONNECTIONS;
     };
     let most = files.saturating_sub(OWN_FILES).max(1);
-    if most >= connections {
-        return connections;
+    if most >= MOST_CONNECTIONS {
+        return MOST_CONNECTIONS;
     }
     // The service does not depend on whether this can be printed.
     let _ = writeln!(
@@ -246,10 +268,20 @@ fn allowed<E: Write>(connections: u64, faults: &mut E) -> u64 {
     most
 }
 
-// Says who may use the files, where more than this machine reaches the address. The service does
-// not depend on whether that can be printed.
-fn warn_of_address<E: Write>(service: Service<'_>, faults: &mut E) {
-    let address = service.endpoint.address;
+// Says who may use the files, where not all clients may, or where more than this machine reaches
+// the address. The service does not depend on whether that can be printed.
+fn tell_users<E: Write>(service: Service<'_>, allowed: &AllowedAddresses, faults: &mut E) {
+    let from = match allowed {
+        AllowedAddresses::All => "",
+        AllowedAddresses::Of(_) => {
+            let _ = writeln!(
+                faults,
+                "{PROGRAM}: only connections from {allowed} are taken"
+            );
+            " from there"
+        }
+    };
+    let address = service.address;
     if address.is_loopback() {
         return;
     }
@@ -260,7 +292,7 @@ fn warn_of_address<E: Write>(service: Service<'_>, faults: &mut E) {
     };
     let _ = writeln!(
         faults,
-        "{PROGRAM}: whoever reaches {address} {uses} all files of {}",
+        "{PROGRAM}: whoever reaches {address}{from} {uses} all files of {}",
         service.path
     );
 }

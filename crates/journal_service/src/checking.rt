@@ -16,8 +16,8 @@ use std::io::Write;
 use std::marker::Brand;
 use std::sync::Wait;
 
-// The root directory's number and generation.
-const ROOT: u32 = 1;
+/// The root directory's number and generation.
+pub(crate) const ROOT: u32 = 1;
 
 /// Mounts the disk in the file, and prints that it is sound, its version and how many files it has.
 /// The files are not changed, and nothing is written to the disk.
@@ -126,8 +126,8 @@ fn is_file<'b, J: Naming, V: Version, W: Wait>(
     }
 }
 
-// The name of the file of a number: f and three decimal digits.
-fn name_of(number: u32) -> [u8; 4] {
+/// The name of the file of a number: f and three decimal digits.
+pub(crate) fn name_of(number: u32) -> [u8; 4] {
     [b'f', digit(number / 100), digit(number / 10), digit(number)]
 }
 

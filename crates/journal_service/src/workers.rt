@@ -12,7 +12,7 @@ use journal_server::{Listening, WaitingConnections, run_workers};
 use journal_world::Refusal;
 use std::alloc::Global;
 use std::io::Write;
-use std::net::{Ipv4Addr, Net, TcpListener, TcpStream};
+use std::net::{IpAddr, Ipv4Addr, Net, TcpListener, TcpStream};
 use std::sync::Wait;
 use std::thread;
 use std::thread::Threads;
@@ -84,7 +84,7 @@ fn serve_connections<
     verifier: Verifier,
     output: &mut O,
 ) -> Result<(), ServiceFault> {
-    let listener = listen_at(rt, Ipv4Addr::LOCALHOST, workers.port)?;
+    let listener = listen_at(rt, IpAddr::V4(Ipv4Addr::LOCALHOST), workers.port)?;
     tell_port(port_of(&listener)?, output)?;
     let waiting = WaitingConnections::new();
     let source = Listening::new(rt, listener, workers.connections, &waiting);

@@ -60,8 +60,11 @@ fn nodes_of<J: Naming, W: Wait>(
     counted
 }
 
-// How many nodes the tree has.
-fn count_nodes<'b, J: Naming, W: Wait>(
+/// How many nodes the tree has, with the root.
+///
+/// # Errors
+/// - `Refused`: a session or a read was refused.
+pub(crate) fn count_nodes<'b, J: Naming, W: Wait>(
     rt: &W,
     alloc: Global,
     store: &TreeStore<'b, SizedDisk, SoundTree, J>,

@@ -1,18 +1,18 @@
 // Objects of a disk are looked at outside of any call.
 ghost use Rattle.std.specs.Prelude.{◌≡◌, ◌<◌, OnOk};
 ghost use Rattle.journal_treestore.specs.Places.{IsCut};
-ghost use Rattle.journal_treecalls.specs.Rooms.{has_at};
 
 use journal_clients::{ServiceFault, begin_session};
 use journal_disk::BlockDisk;
 use journal_history::{Naming, Session};
-use journal_tree::LAST_GENERATION;
+use journal_tree::{LAST_GENERATION, MOST_FILE_BLOCKS};
 use journal_treefs::TreeRule;
 use journal_treestore::{
-    Cut, DESCRIPTION_BYTES, DIRECT_BLOCKS, Description, INODE_BYTES, Inode, OWNER_BYTES, Owner,
+    Cut, DESCRIPTION_BYTES, DIRECT_BLOCKS, Description, FIRST_INDEX_PLACE, Head, INDEX_NUMBERS,
+    INDEX_PLACE, INODE_BYTES, Inode, OWNER_BYTES, Owner, number_at,
 };
 use journal_twophase::Journal;
-use journal_world::{Addr, Refusal, SUPERBLOCK, Value};
+use journal_world::{Addr, BLOCK_BYTES, Refusal, SUPERBLOCK, Value};
 use std::alloc::Global;
 use std::sync::Wait;
 
@@ -130,8 +130,53 @@ impl<'s, 'b, D: BlockDisk, R: TreeRule, J: Naming> Looker<'s, 'b, D, R, J> {
         }
         match self.inode(rt, owner.number)? {
             Inode::Free(_) => Ok(true),
-            Inode::Used(head) => Ok(!has_at(&head.blocks, owner.place, block)),
+            Inode::Used(head) => Ok(self.block_at(rt, &head, owner.place)? != block),
         }
+    }
+
+    // The block that an inode has at a place, as records name it, 0 where it has none.
+    fn block_at<W: Wait>(&mut self, rt: &W, head: &Head, place: u32) -> Result<u32, Refusal<()>> {
+        let at = place as usize;
+        if at < DIRECT_BLOCKS {
+            return Ok(head.blocks[at]);
+        }
+        if u64::from(place) < MOST_FILE_BLOCKS {
+            let after = at - DIRECT_BLOCKS;
+            let numbers = self.number_in(rt, head.index, after / INDEX_NUMBERS)?;
+            return self.number_in(rt, numbers, after % INDEX_NUMBERS);
+        }
+        if place < FIRST_INDEX_PLACE {
+            return Ok(if place == INDEX_PLACE { head.index } else { 0 });
+        }
+        let index = (place - FIRST_INDEX_PLACE) as usize;
+        if index < INDEX_NUMBERS {
+            self.number_in(rt, head.index, index)
+        } else {
+            Ok(0)
+        }
+    }
+
+    // The number at a place of a block of numbers. Where there is no such block, it is 0.
+    fn number_in<W: Wait>(&mut self, rt: &W, block: u32, place: usize) -> Result<u32, Refusal<()>> {
+        match self.numbers(rt, block)? {
+            Some(numbers) => Ok(number_of(numbers.bytes(), place)),
+            None => Ok(0),
+        }
+    }
+
+    /// The bytes of a block of numbers, if the disk has such a block of data. A file may have
+    /// changed since its inode was looked at, so that its number may be any.
+    ///
+    /// # Errors
+    /// - Those of a read.
+    pub fn numbers<W: Wait>(&mut self, rt: &W, block: u32) -> Result<Option<Value>, Refusal<()>> {
+        let index = u64::from(block);
+        if index < self.cut.first_data() || self.cut.blocks <= index {
+            return Ok(None);
+        }
+        let place = self.cut.block_addr(index);
+        let value = self.read(rt, place)?;
+        Ok(Some(value))
     }
 
     // The record of a block.
@@ -164,10 +209,10 @@ impl<'s, 'b, D: BlockDisk, R: TreeRule, J: Naming> Looker<'s, 'b, D, R, J> {
     }
 }
 
-// True if these blocks have a block at a place.
-fn has_at(blocks: &[u32; DIRECT_BLOCKS], place: u32, block: u32) -> bool
-    ensures { result ≡ has_at blocks.now place block }
-{
-    let at = place as usize;
-    at < DIRECT_BLOCKS && blocks[at] == block
+/// The number at a place of a block of numbers. Where its bytes end before that, it is 0.
+pub(crate) fn number_of(bytes: &[u8], place: usize) -> u32 {
+    if bytes.len() < BLOCK_BYTES || INDEX_NUMBERS <= place {
+        return 0;
+    }
+    number_at(bytes, place)
 }

@@ -19,8 +19,8 @@ use std::time::Clock;
 // The rights of the root directory: its owner may all, and others may look.
 const ROOT_MODE: u16 = 0o755;
 
-// The user and the group of the root directory.
-const SUPERUSER: u32 = 0;
+/// The user and the group of the root directory, and of files that are written to it.
+pub(crate) const SUPERUSER: u32 = 0;
 
 /// Makes a disk that is cut so in a new file at the path, with a sealed log, a label, and this room
 /// in its file system. Its tree has the root directory alone, which belongs to root and has the
@@ -86,8 +86,8 @@ fn format_sealed(alloc: Global, disk: SizedDisk, tree: NewTree) -> Result<(), Se
     }
 }
 
-// The moment, as a time of the tree.
-fn time_at(moment: Moment) -> Time
+/// The moment, as a time of the tree.
+pub(crate) fn time_at(moment: Moment) -> Time
     ensures same { (result.secs ≡ moment.secs) × (result.nanos ≡ moment.nanos) }
     ensures time { IsTime result }
 {

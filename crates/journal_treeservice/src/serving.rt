@@ -37,7 +37,7 @@ pub struct Asked<'c> {
     /// Where reads of the disk come from.
     pub reads: Reads,
     /// Where clients reach it.
-    pub endpoint: Endpoint,
+    pub endpoint: Endpoint<'c>,
     /// The control by which it is ended, if there is one.
     pub control: Option<&'c Control>,
     /// True if root has the rights of nobody.
