@@ -1,7 +1,8 @@
 """A tree of files that `jnlfs serve` serves, as it is asked by bytes that are made by hand, and how
 its answers are compared with those that are written down.
 
-A module: `tree_vectors.py`, `tree_renames.py` and `tree_links.py` use it, which have what is asked.
+A module: `tree_vectors.py`, `tree_renames.py`, `tree_links.py`, `tree_exclusive.py` and
+`tree_large.py` use it, which have what is asked.
 """
 
 import os
@@ -11,7 +12,9 @@ import subprocess
 from tree_calls import *
 
 BLOCK = 4096
-LARGEST_FILE = 196608
+LARGEST_FILE = 4295163904
+# Up to here a file has no index blocks, and up to there it has one.
+DIRECT_BYTES, INDEXED_BYTES = 196608, 4390912
 TRANSFER = 65536
 LONGEST_NAME = 255
 LONGEST_TEXT = 4095

@@ -84,16 +84,16 @@ def basic_attributes():
 
 
 def basic_bytes():
-    path, data = A / "bigfile", bytes_of(MOST_BYTES)
+    path, data = A / "bigfile", bytes_of(REACH)
     for number in range(5):
         with open(path, "wb", buffering=0) as file:
-            for start in range(0, MOST_BYTES, 8192):
+            for start in range(0, REACH, 8192):
                 equal("bytes written", file.write(data[start : start + 8192]), 8192)
             os.fsync(file.fileno())
-        equal("its size", path.stat().st_size, MOST_BYTES)
+        equal("its size", path.stat().st_size, REACH)
         forget()
         with open(path, "rb", buffering=0) as file:
-            for start in range(0, MOST_BYTES, 8192):
+            for start in range(0, REACH, 8192):
                 equal("bytes read", file.read(8192) == data[start : start + 8192], True)
             equal("at the end", file.read(8192), b"")
     path.unlink()

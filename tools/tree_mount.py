@@ -14,7 +14,9 @@ import subprocess
 import types
 from pathlib import Path
 
-MOST_BYTES = 196608
+MOST_BYTES = 4295163904
+# Up to here a file has no index blocks. What is tried at random reaches as far as two of them do.
+DIRECT_BYTES, REACH = 196608, 4415488
 LONGEST_NAME, LONGEST_TEXT = 255, 4095
 BLOCK = 4096
 NOBODY, USER, GROUP = 65534, 1000, 77
@@ -24,6 +26,11 @@ OPTIONS = "vers=3,addr={host},port={port},mountport={mount_port},mountvers=3,nol
 PIECES = random.Random(7)
 # What the machine was started with, as `begin` reads it.
 GIVEN = types.SimpleNamespace()
+
+
+def any_place(choice):
+    """A place in a file, every second time where it has no index blocks."""
+    return choice.randrange(choice.choice((DIRECT_BYTES, REACH)))
 
 
 class Wrong(Exception):
@@ -105,6 +112,20 @@ def forget():
     """The kernel forgets what it has read."""
     os.sync()
     Path("/proc/sys/vm/drop_caches").write_text("3")
+
+
+def look_up(path):
+    """Looks a name up, so that an open of it, which comes next, asks the server for the file as it is
+    then.
+
+    By NFS version 3 a file that is opened is as it was when another client closed it, so Linux asks
+    for its attributes at each open. Linux 6.1 leaves that out once, after a LOOKUP of a new name whose
+    reply told that the folder had changed as well: then `nfs_set_verifier` in its fs/nfs/dir.c writes
+    no verifier of the name, the word for it has what was in that memory before, and where that is odd
+    `nfs_verifier_is_delegated` takes the name for one with a delegation, of which version 3 has none.
+    A server could only avoid it by leaving the folder's attributes out, which version 3 allows. A
+    look-up takes the place of the open that does not ask."""
+    os.stat(path)
 
 
 def calls(folder):

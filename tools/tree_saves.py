@@ -2,7 +2,7 @@
 files that a Linux kernel mounts, by one mount and by two, also over kills of the service.
 
 A module: `tree_uses.py` takes its checks. How much is done comes with GIVEN: `replaces`, `files`,
-`minutes` and `kills`.
+`minutes`, `seed` and `kills`. Its `watched_port` is one where each reply is judged on its way.
 """
 
 import errno
@@ -291,16 +291,24 @@ def two_mounts_that_rename():
     run("rm", "-r", *(A / name for name in names_in(A)))
 
 
+def difference(got, wanted):
+    """How bytes that were read are not those that are wanted."""
+    places = [place for place, pair in enumerate(zip(got, wanted)) if pair[0] != pair[1]]
+    told = f"{len(got)} bytes of {len(wanted)}"
+    return f"{told}, {len(places)} of them wrong, from {places[0]} to {places[-1]}" if places else told
+
+
 class Exercised:
     """A file, and the bytes that it must have. Two mounts take turns; each opens it, does some
     things, and closes it. A new name is one that no mount has looked for."""
 
-    def __init__(self, choice):
+    def __init__(self, top, choice):
         self.choice, self.wanted, self.names = choice, bytearray(), 0
         self.name, self.done = "exercised", 0
-        write(A / self.name, b"")
+        write(top / self.name, b"")
 
     def turn(self, top):
+        look_up(top / self.name)
         with open(top / self.name, "r+b", buffering=0) as file:
             for _ in range(self.choice.randint(1, 8)):
                 self.choice.choice((self.read, self.read, self.write, self.write, self.cut, self.append))(file.fileno())
@@ -311,13 +319,17 @@ class Exercised:
             self.save_beside(top)
 
     def span(self):
-        start = self.choice.randrange(MOST_BYTES)
-        return start, min(self.choice.choice((1, 10, 700, 4096, 5000, 70000)), MOST_BYTES - start)
+        return any_place(self.choice), self.choice.choice((1, 10, 700, 4096, 5000, 70000))
 
     def read(self, file):
+        """What is wrong is read again once the kernel has forgotten it, so that one sees who erred."""
         start, size = self.span()
-        got = os.pread(file, size, start)
-        equal(f"read {self.done}: {size} bytes at {start}", got == bytes(self.wanted[start : start + size]), True)
+        got, wanted = os.pread(file, size, start), bytes(self.wanted[start : start + size])
+        if got != wanted:
+            forget()
+            again = os.pread(file, size, start)
+            then = "right" if again == wanted else difference(again, wanted)
+            raise Wrong(f"read {self.done} at {start}: {difference(got, wanted)}; once the kernel forgot it: {then}")
 
     def write(self, file):
         start, size = self.span()
@@ -327,13 +339,13 @@ class Exercised:
         self.wanted[start : start + size] = data
 
     def append(self, file):
-        size = min(self.choice.randrange(3000), MOST_BYTES - len(self.wanted))
+        size = self.choice.randrange(3000)
         data = self.choice.randbytes(size)
         os.pwrite(file, data, len(self.wanted))
         self.wanted += data
 
     def cut(self, file):
-        size = self.choice.choice((0, self.choice.randrange(MOST_BYTES), self.choice.randrange(MOST_BYTES)))
+        size = self.choice.choice((0, any_place(self.choice), any_place(self.choice)))
         os.ftruncate(file, size)
         self.wanted = self.wanted[:size].ljust(size, b"\0")
         equal("the size", os.fstat(file).st_size, size)
@@ -351,16 +363,27 @@ class Exercised:
 
 
 def two_mounts_exercise_a_file():
-    """Random reads, writes, sizes, renames and saves, by two mounts in turn, beside a model."""
-    choice, end = random.Random(17), time.monotonic() + 60 * GIVEN.minutes
-    file = Exercised(choice)
+    """Random reads, writes, sizes, renames and saves, by two mounts in turn, beside a model. Their
+    replies are judged on their way."""
+    tops = Path("/mnt/first"), Path("/mnt/second")
+    for top, more in zip(tops, ("", ",nosharecache,actimeo=1")):
+        mount(GIVEN.path, top, GIVEN.watched_port, more)
+    try:
+        exercise(tops, random.Random(GIVEN.seed), time.monotonic() + 60 * GIVEN.minutes)
+    finally:
+        for top in tops:
+            unmount(top)
+
+
+def exercise(tops, choice, end):
+    file = Exercised(tops[0], choice)
     while time.monotonic() < end:
-        file.turn(choice.choice((A, B)))
+        file.turn(choice.choice(tops))
     forget()
-    equal("all bytes", (A / file.name).read_bytes() == bytes(file.wanted), True)
-    equal("the names", names_in(A), [file.name])
+    equal("all bytes", (tops[0] / file.name).read_bytes() == bytes(file.wanted), True)
+    equal("the names", names_in(tops[0]), [file.name])
     say(f"{file.done} reads, writes and sizes, {file.names} renames, in {GIVEN.minutes} minutes")
-    os.remove(A / file.name)
+    os.remove(tops[0] / file.name)
 
 
 # ---- git and sqlite

@@ -34,7 +34,7 @@ from tree_mount import *
 def make_tree(top):
     """A tree of folders and files of every size, with rights and times of their own. It is not on
     the mount."""
-    sizes = [0, 1, 511, 4095, 4096, 4097, 8192, 49152, 65535, 65536, 65537, 131072, MOST_BYTES - 1, MOST_BYTES]
+    sizes = [0, 1, 511, 4095, 4096, 4097, 8192, 49152, 65535, 65536, 65537, 131072, DIRECT_BYTES - 1, DIRECT_BYTES, DIRECT_BYTES + 1]
     for number in range(12):
         folder = top / f"folder{number}" / "inner" / "deep"
         folder.mkdir(parents=True)
@@ -284,14 +284,23 @@ def depth():
 
 
 def greatest_size():
-    write(A / "greatest", bytes_of(MOST_BYTES))
-    equal("its size", (A / "greatest").stat().st_size, MOST_BYTES)
-    refused("one byte more", errno.EFBIG, lambda: write(A / "more", bytes(MOST_BYTES + 1)))
-    refused("a size of one more", (errno.EFBIG, errno.EINVAL), lambda: os.truncate(A / "greatest", MOST_BYTES + 1))
-    equal("its size stays", (A / "greatest").stat().st_size, MOST_BYTES)
-    line = ["dd", "if=/dev/zero", f"of={A / 'dd'}", "bs=4096", "count=49", "conv=fsync"]
+    """A file of the greatest size, of which the last bytes alone were written."""
+    path = A / "greatest"
+    write(path, b"")
+    os.truncate(path, MOST_BYTES)
+    with open(path, "r+b", buffering=0) as file:
+        equal("bytes written", os.pwrite(file.fileno(), b"end", MOST_BYTES - 3), 3)
+        refused("one byte more", errno.EFBIG, lambda: os.pwrite(file.fileno(), b"x", MOST_BYTES))
+    refused("a size of one more", (errno.EFBIG, errno.EINVAL), lambda: os.truncate(path, MOST_BYTES + 1))
+    forget()
+    equal("its size stays", path.stat().st_size, MOST_BYTES)
+    with open(path, "rb", buffering=0) as file:
+        equal("its last bytes", os.pread(file.fileno(), 100, MOST_BYTES - 5), b"\0\0end")
+        equal("what was never written", os.pread(file.fileno(), BLOCK, MOST_BYTES // 2), bytes(BLOCK))
+    last = MOST_BYTES // BLOCK - 1
+    line = ["dd", "if=/dev/zero", f"of={A / 'dd'}", "bs=4096", f"seek={last}", "count=2", "conv=fsync"]
     ran = subprocess.run(line, capture_output=True, text=True)
-    equal("dd of 49 blocks", ("File too large" in ran.stderr, ran.returncode), (True, 1))
+    equal("dd of one block too many", ("File too large" in ran.stderr, ran.returncode), (True, 1))
     for name in names_in(A):
         os.remove(A / name)
 
@@ -345,11 +354,11 @@ def room():
     equal("the longest name", told.f_namemax, LONGEST_NAME)
     if not 0 < told.f_bavail <= told.f_blocks or not 0 < told.f_favail <= told.f_files:
         raise Wrong(f"free: {told.f_bavail} of {told.f_blocks} blocks, {told.f_favail} of {told.f_files} files")
-    write(A / "takes", bytes_of(MOST_BYTES))
+    write(A / "takes", bytes_of(REACH))
     os.sync()
     taken = told.f_bavail - os.statvfs(A).f_bavail
-    if not taken * told.f_frsize >= MOST_BYTES:
-        raise Wrong(f"a file of {MOST_BYTES} bytes takes {taken} units of {told.f_frsize}")
+    if not taken * told.f_frsize >= REACH:
+        raise Wrong(f"a file of {REACH} bytes takes {taken} units of {told.f_frsize}")
     os.remove(A / "takes")
     for words in (("df", A), ("df", "-i", A)):
         say(" ".join(run(*words).splitlines()[-1].split()))
@@ -472,8 +481,7 @@ def random_bytes():
     for number in range(600):
         top = choice.choice((A, B))
         with open(top / "random", "r+b", buffering=0) as file:
-            start = choice.randrange(MOST_BYTES)
-            size = min(choice.choice((1, 100, 5000, 70000)), MOST_BYTES - start)
+            start, size = any_place(choice), choice.choice((1, 100, 5000, 70000))
             what = choice.randrange(4)
             if what == 0:
                 data = choice.randbytes(size)
@@ -502,9 +510,11 @@ def two_clients():
     for number in range(5):
         write(A / "shared", b"old%d5" % number)
         os.utime(A / "shared", (10**9, 10**9))
+        look_up(B / "shared")
         equal("the old bytes", (B / "shared").read_bytes(), b"old%d5" % number)
         write(A / "shared", b"NEW%d5" % number)
         os.utime(A / "shared", (10**9, 10**9))
+        look_up(B / "shared")
         equal("the new bytes under the old mtime", (B / "shared").read_bytes(), b"NEW%d5" % number)
     with open(B / "shared", "rb") as held:
         os.remove(A / "shared")

@@ -12,6 +12,8 @@ import subprocess
 import time
 from pathlib import Path
 
+import tree_exclusive
+import tree_large
 import tree_links
 import tree_renames
 from tree_asking import *
@@ -220,13 +222,11 @@ def no_folder(v, file, new):
 
 
 def what_the_tree_lacks(v):
-    """MKNOD, LINK and CREATE EXCLUSIVE are NOTSUPP, after what is wrong otherwise."""
+    """MKNOD and LINK are NOTSUPP, after what is wrong otherwise."""
     folder = v.folder(v.root, b"lacks", mode=0o755)
     file = v.make(folder, b"file")
     asked = settings()
-    exclusive = words(EXCLUSIVE) + b"verifier"
     for procedure, before, more in (
-        (CREATE, b"", exclusive),
         (MKNOD, b"", words(3) + asked + words(1, 2)),
         (MKNOD, b"", words(4) + asked + words(1, 2)),
         (MKNOD, b"", words(6) + asked),
@@ -305,6 +305,87 @@ def files_that_are_there(v):
     v.refuses("CREATE EXCLUSIVE", EXIST, CREATE, entry(folder, b"file") + words(EXCLUSIVE) + bytes(8))
     v.folder(folder, b"folder")
     v.refuses("CREATE UNCHECKED of a folder", EXIST, CREATE, entry(folder, b"folder") + words(UNCHECKED) + settings())
+
+
+def exclusively(directory, name, verifier):
+    """The arguments of a CREATE EXCLUSIVE."""
+    return entry(directory, name) + words(EXCLUSIVE) + verifier
+
+
+def exclusive_creation(v):
+    """CREATE EXCLUSIVE: the call that comes again is told the same file, as long as it is as it was
+    made, and any other is refused."""
+    folder = v.folder(v.root, b"exclusive", mode=0o755)
+    v.set(folder, user=1000, group=100)
+    arguments = exclusively(folder, b"file", b"verifier")
+    before = v.attributes(folder)
+    made = v.does("CREATE EXCLUSIVE", CREATE, arguments, OWNER)
+    v.looks("CREATE EXCLUSIVE", made.attributes, kind=FILE, mode=0, size=0, user=1000, group=100)
+    v.changes("CREATE EXCLUSIVE: its directory", made.directory, before, folder)
+    v.shows("CREATE EXCLUSIVE", made.attributes, made.handle)
+    directory = v.attributes(folder)
+    again = v.does("CREATE EXCLUSIVE again", CREATE, arguments, OWNER)
+    v.equal("CREATE EXCLUSIVE again", (again.handle, again.attributes), (made.handle, made.attributes))
+    v.changes("CREATE EXCLUSIVE again: its directory", again.directory, directory, folder)
+    v.equal("its directory stays", v.attributes(folder), directory)
+    v.refuses("CREATE EXCLUSIVE by a stranger", ACCES, CREATE, exclusively(folder, b"new", bytes(8)), STRANGER)
+    refusals_of_exclusive_creation(v, folder)
+    changes_of_exclusive_files(v, folder)
+
+
+def refusals_of_exclusive_creation(v, folder):
+    """The file of another verifier, and what no exclusive CREATE has made."""
+    for verifier in (b"verifieR", b"Verifier", bytes(8), b"\xff" * 8):
+        v.refuses(f"CREATE EXCLUSIVE of {verifier}", EXIST, CREATE, exclusively(folder, b"file", verifier))
+    v.make(folder, b"guarded")
+    v.folder(folder, b"folder")
+    v.link(folder, b"link", b"text")
+    for name in (b"guarded", b"folder", b"link", b".", b".."):
+        v.refuses(f"CREATE EXCLUSIVE of {name}", EXIST, CREATE, exclusively(folder, name, bytes(8)))
+    v.refuses("CREATE EXCLUSIVE in a file", NOTDIR, CREATE, exclusively(v.make(folder, b"plain"), b"x", bytes(8)))
+    v.refuses("CREATE EXCLUSIVE of no name", INVAL, CREATE, exclusively(folder, b"", bytes(8)))
+    v.refuses("CREATE GUARDED of its name", EXIST, CREATE, entry(folder, b"file") + words(GUARDED) + settings())
+
+
+def rename_and_back(v, folder, name):
+    for one, other in ((name, b"other"), (b"other", name)):
+        v.does("RENAME", RENAME, entry(folder, one) + entry(folder, other))
+
+
+def changes_of_exclusive_files(v, folder):
+    """After any change it is no longer the file that the call made. The verifier may be zeros."""
+    sets = lambda file, name: v.set(file, mode=0o644)
+    writes = lambda file, name: v.write(file, b"x")
+    cuts = lambda file, name: v.does("CREATE", CREATE, entry(folder, name) + words(UNCHECKED) + settings(size=0))
+    renames = lambda file, name: rename_and_back(v, folder, name)
+    for number, change in enumerate((sets, writes, cuts, renames)):
+        arguments = exclusively(folder, b"changed%d" % number, bytes(8))
+        made = v.does("CREATE EXCLUSIVE", CREATE, arguments)
+        v.equal("CREATE EXCLUSIVE again", v.does("CREATE", CREATE, arguments).handle, made.handle)
+        v.does("READ", READ, at_place(made.handle, 0, 1))
+        v.does("CREATE EXCLUSIVE after a READ", CREATE, arguments)
+        change(made.handle, b"changed%d" % number)
+        v.refuses(f"CREATE EXCLUSIVE after change {number}", EXIST, CREATE, arguments)
+    arguments = exclusively(folder, b"removed", b"12345678")
+    made = v.does("CREATE EXCLUSIVE", CREATE, arguments)
+    v.does("REMOVE", REMOVE, entry(folder, b"removed"))
+    v.holds("a removed file is made anew", v.does("CREATE EXCLUSIVE", CREATE, arguments).handle != made.handle)
+
+
+def exclusive_creation_in_another_run(jnlfs, folder):
+    """The call comes again after a service was killed that had answered it."""
+    disk = Disk(jnlfs, folder, "exclusive.disk", 2000)
+    arguments = lambda v, verifier: exclusively(v.root, b"file", verifier)
+    with disk.serve() as service:
+        v = disk.vectors(service)
+        made = v.does("CREATE EXCLUSIVE", CREATE, arguments(v, b"verifier"))
+        compared = v.compared
+    with disk.serve() as service:
+        v = disk.vectors(service)
+        again = v.does("CREATE EXCLUSIVE again", CREATE, arguments(v, b"verifier"))
+        v.equal("CREATE EXCLUSIVE again", (again.handle, again.attributes), (made.handle, made.attributes))
+        v.refuses("CREATE EXCLUSIVE of another verifier", EXIST, CREATE, arguments(v, bytes(8)))
+        return compared + v.compared
 
 
 def removals(v):
@@ -387,7 +468,8 @@ def sizes(v):
     file = v.make(v.root, b"sizes")
     data = bytes(range(1, 251)) * 40
     v.write(file, data)
-    for size in (9000, 4096, 4095, 10, 5000, 0, 1, LARGEST_FILE, 196607, 40960):
+    direct, indexed = DIRECT_BYTES, INDEXED_BYTES
+    for size in (9000, 4096, 4095, 10, 5000, 0, 1, direct, direct - 1, direct + 1, indexed + 5000, indexed, 40960):
         before = v.attributes(file)
         change = v.set(file, size=size)
         v.changes(f"SETATTR of size {size}", change, before, file)
@@ -399,6 +481,19 @@ def sizes(v):
     v.set(file, size=20001)
     v.set(file, size=30000)
     v.equal("what was cut off is zeros", v.content(file), bytes(20000) + b"y" + bytes(9999))
+    cut_in_index(v, file)
+
+
+def cut_in_index(v, file):
+    """What was cut off of a file with index blocks is zeros, wherever its end was."""
+    for end in (DIRECT_BYTES + 10, INDEXED_BYTES - BLOCK, INDEXED_BYTES + 10, DIRECT_BYTES, 100):
+        for start in (0, DIRECT_BYTES - 10, INDEXED_BYTES - 10, INDEXED_BYTES + 2 * BLOCK):
+            v.write(file, b"w" * 20, start)
+        held = v.content(file)[:end]
+        v.set(file, size=end)
+        v.set(file, size=LARGEST_FILE)
+        v.set(file, size=INDEXED_BYTES + 4 * BLOCK)
+        v.equal(f"what was cut off at {end} is zeros", v.content(file), held.ljust(INDEXED_BYTES + 4 * BLOCK, b"\0"))
 
 
 def times(v):
@@ -459,8 +554,10 @@ def writing(v):
         (4095, 2, UNSTABLE),
         (12288, 65536, FILE_SYNC),
         (5, 8192, UNSTABLE),
-        (LARGEST_FILE - 65536, 65536, FILE_SYNC),
-        (LARGEST_FILE - 1, 1, FILE_SYNC),
+        (DIRECT_BYTES - 32768, 65536, FILE_SYNC),
+        (DIRECT_BYTES - 1, 1, FILE_SYNC),
+        (INDEXED_BYTES - 32768, 65536, FILE_SYNC),
+        (INDEXED_BYTES + 8 * BLOCK - 1, 1, UNSTABLE),
         (100, 0, FILE_SYNC),
     ):
         before, data = v.attributes(file), bytes([offset % 251 + 1]) * size
@@ -490,6 +587,28 @@ def writing(v):
     v.does("WRITE of nothing at a great offset", WRITE, written(file, 2**64 - 1, b""))
     v.refuses("COMMIT of a folder", INVAL, COMMIT, at_place(folder, 0, 0))
     v.equal("no refusal wrote", v.content(file), expected)
+    largest(v)
+
+
+def largest(v):
+    """The last bytes of a file of the greatest size, and the holes before them."""
+    file = v.make(v.root, b"largest")
+    start, end = LARGEST_FILE - 100, b"e" * 100
+    wrote = v.write(file, end, start)
+    v.looks("WRITE of the last bytes", wrote.change.after, size=LARGEST_FILE)
+    for offset, wanted in (
+        (0, bytes(100)),
+        (DIRECT_BYTES, bytes(100)),
+        (LARGEST_FILE // 2, bytes(TRANSFER)),
+        (start - 50, bytes(50) + end),
+        (start + 50, end[50:]),
+        (LARGEST_FILE, b""),
+    ):
+        portion = v.does(f"READ at {offset}", READ, at_place(file, offset, max(len(wanted), 1)))
+        v.equal(f"READ at {offset}", portion.data, wanted)
+        v.equal(f"READ at {offset}: the end", portion.is_end, offset + len(wanted) >= LARGEST_FILE)
+    v.does("REMOVE of the largest file", REMOVE, entry(v.root, b"largest"))
+    v.refuses("READ of it", STALE, READ, at_place(file, 0, 1))
 
 
 def reading(v):
@@ -752,6 +871,7 @@ GROUPS = (
     what_the_tree_lacks,
     new_nodes,
     files_that_are_there,
+    exclusive_creation,
     removals,
     new_attributes,
     sizes,
@@ -765,6 +885,8 @@ GROUPS = (
     facts,
     *tree_renames.GROUPS,
     *tree_links.GROUPS,
+    *tree_exclusive.GROUPS,
+    *tree_large.GROUPS,
 )
 
 
@@ -921,7 +1043,19 @@ def standing_clock(jnlfs, folder):
         return v.compared
 
 
-DISKS = (new_root, full_disk, squashed_root, read_only, another_run, standing_clock, *tree_renames.DISKS, *tree_links.DISKS)
+DISKS = (
+    new_root,
+    full_disk,
+    squashed_root,
+    read_only,
+    another_run,
+    standing_clock,
+    exclusive_creation_in_another_run,
+    *tree_renames.DISKS,
+    *tree_links.DISKS,
+    *tree_exclusive.DISKS,
+    *tree_large.DISKS,
+)
 
 
 def shared_disk(jnlfs, folder, group):

@@ -53,6 +53,15 @@ def a_file_that_is_there_gets_a_size_alone(room):
     ask(room, "files_that_are_there")
 
 
+# Of `journal_treecalls::create_exclusive`.
+def an_exclusive_file_is_made_once(room):
+    ask(room, "exclusive_creation")
+
+
+def an_exclusive_call_comes_again_in_another_run(room):
+    ask(room, "exclusive_creation_in_another_run")
+
+
 def removed_nodes_are_gone(room):
     ask(room, "removals")
 
@@ -225,3 +234,57 @@ def a_link_takes_one_block_and_one_inode(room):
 
 def a_link_is_there_in_another_run(room):
     ask(room, "links_of_another_run")
+
+
+# Of `journal_treecalls::create_exclusive`, `journal_treewire::read_request`.
+def each_bit_of_a_verifier_counts(room):
+    ask(room, "exclusive_verifiers")
+
+
+def what_changes_nothing_leaves_the_verifier(room):
+    ask(room, "exclusive_files_stay")
+
+
+def each_change_of_a_file_takes_its_verifier_away(room):
+    ask(room, "exclusive_files_that_change")
+
+
+def whoever_searches_a_folder_is_told_an_exclusive_file(room):
+    ask(room, "exclusive_by_others")
+
+
+def an_exclusive_file_is_set_and_written_by_its_owner(room):
+    ask(room, "exclusive_as_a_kernel_asks")
+
+
+def exclusive_calls_that_are_none_are_refused(room):
+    ask(room, "exclusive_that_are_none")
+
+
+def exclusive_calls_at_once_make_one_file(room):
+    ask(room, "exclusive_at_once")
+
+
+def an_exclusive_file_is_told_again_without_room(room):
+    ask(room, "exclusive_without_room")
+
+
+def exclusive_calls_of_nobody_and_of_a_tree_to_read(room):
+    ask(room, "exclusive_to_read")
+
+
+# Of `journal_treecalls::write`, `journal_treecalls::setattr`, `journal_treecalls::read`.
+def bytes_around_each_index_block(room):
+    ask(room, "large_files_beside_a_model")
+
+
+def a_shorter_file_gives_its_index_blocks_back(room):
+    ask(room, "blocks_of_large_files")
+
+
+def a_large_write_has_all_its_blocks_or_none(room):
+    ask(room, "large_files_without_room")
+
+
+def a_large_file_is_there_in_another_run(room):
+    ask(room, "large_files_in_another_run")
