@@ -52,7 +52,7 @@ def mv_of_files_and_folders():
         forget()
         equal(f"what is in {goal}", told_below(goal), told)
         equal("what is in the other", names_in(A / "other"), [goal.name] if goal.parent != A else [])
-    run("diff", "-r", A / "tree", HERE / "tree")
+    run("diff", "-r", "--no-dereference", A / "tree", HERE / "tree")
     before = (A / "tree" / "folder1").stat()
     run("mv", A / "tree" / "folder1", A / "other")
     after = (A / "other" / "folder1").stat()
