@@ -61,7 +61,7 @@ impl<'s, 'b, D: BlockDisk, M: MapRule, J: Naming, P> Visits<'s, 'b, D, M, J, P> 
     }
 }
 
-/// The same where each client has a protocol of its own.
+/// The same where each client has a protocol of its own, by its address. No program uses it yet.
 pub struct VisitsByClient<'s, 'b, D: BlockDisk, M: MapRule, J: Naming, C> {
     alloc: Global,
     journal: &'s Journal<'b, D, M, J>,

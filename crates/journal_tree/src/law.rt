@@ -72,13 +72,13 @@ pub fn refusals_change_nothing()
     ensures { RefusalsChangeNothing }
 {}
 
-/// What the replies of SETATTR, WRITE, LOOKUP, CREATE, MKDIR, SYMLINK, REMOVE, RMDIR and RENAME
-/// tell of a node before and after the call is so in the tree before and after it.
+/// A node before and after a call, in the replies of SETATTR, WRITE, LOOKUP, CREATE, MKDIR, SYMLINK,
+/// REMOVE, RMDIR and RENAME, is the one of the tree before and after it.
 pub fn replies_are_true()
     ensures { RepliesAreTrue }
 {}
 
-/// An exclusive CREATE that is answers with a file of its verifier under its name: one that is
+/// An exclusive CREATE that is answered OK has a file of its verifier under its name: one that is
 /// there already, and nothing changes, or a new one.
 pub fn exclusive_calls_make_one()
     ensures { ExclusiveMakes }

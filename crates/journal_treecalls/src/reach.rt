@@ -32,9 +32,9 @@ pub(crate) struct Reach {
 // Numbers of blocks of a file.
 #[derive(Drop)]
 pub(crate) struct Numbers {
-    // Those of its first blocks.
+    // The numbers of its first blocks.
     pub(crate) direct: [u32; DIRECT_BLOCKS],
-    // That of the block with the numbers of the index blocks.
+    // The number of the block with the numbers of the index blocks.
     pub(crate) index: u32,
     // The bytes of that block, if index blocks are reached.
     pub(crate) root: Vec<u8>,
@@ -194,7 +194,7 @@ fn copy_block<T: TreeDisk>(
 // ── one number ──
 
 impl Numbers {
-    // That of the block at a place.
+    // The number of the block at a place.
     pub(crate) fn number(&self, reach: Reach, place: u64) -> u32
         requires fits { IsReach reach }
         requires sized { AreSized reach self.now }

@@ -1,4 +1,4 @@
--- Numbers of 4 bytes, one behind another, as they lie in a block of numbers.
+-- Numbers of 4 bytes, one after another, as they lie in a block of numbers.
 use Rattle.std.proofs.Common.{ℕ, ◌≡◌, ◌≢◌, ◌<◌, ◌≤◌, ◌+◌, ◌-◌, ◌*◌, ◌^◌, List, ◌++◌, length, take, drop, replicate, refl, sym, ap, ◌∙◌, append_assoc, length-append, arith, ◌⊎◌, inl, inr}
 use Rattle.std.specs.Prelude.{slice_range}
 use Rattle.std.specs.Int.{w32, to_le_bytes, from_le_bytes}
