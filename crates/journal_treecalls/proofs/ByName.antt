@@ -13,7 +13,7 @@ use Rattle.journal_treestore.specs.Sound.{IsSoundView}
 use Rattle.journal_treestore.proofs.Viewing.{inode-node}
 use Rattle.journal_treecalls.specs.declared.search.Hit.{Hit}
 use Rattle.journal_treecalls.specs.declared.named.Named.{Named}
-use Rattle.journal_treecalls.specs.Targets.{held, IsSearched}
+use Rattle.journal_treecalls.specs.Targets.{held}
 use Rattle.journal_treecalls.specs.Names.{name_status, IsNamed, IsUnnamed}
 use Rattle.journal_treecalls.specs.Names.IsUnnamed.{unsearched, no_name}
 use Rattle.journal_treecalls.proofs.Cases.{at-searched, at-unsearched}

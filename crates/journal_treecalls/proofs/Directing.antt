@@ -1,7 +1,7 @@
 -- READDIR and READDIRPLUS.
 use Rattle.std.proofs.Common.{◌≡◌, ◌≢◌, ℕ, zero, suc, ◌-◌, ◌<◌, min, Bool, true, false, not, cond, List, [], ◌∷◌, ◌++◌, length, take, map, Option, Some, None, Ok, Err, refl, sym, ap, subst, ◌∙◌, arith}
 use Rattle.std.specs.Prelude.{Result, ◌==◌, ◌&&◌, nat_le, nat_lt, is_some}
-use Rattle.std.proofs.lemmas.Bool.{cases_eq, cases_lt, eqb-true, eq-eqb, ne_eqb, lt-ltb, ltb-true, le-ltb, leb-false, leb-true, le-leb, and_parts, and_from, false≢true}
+use Rattle.std.proofs.lemmas.Bool.{eqb-true, eq-eqb, ne_eqb, lt-ltb, ltb-true, leb-false, and_parts, and_from}
 use Rattle.std.proofs.lemmas.List.{length-take-le}
 use Rattle.journal_tree.specs.declared.time.Time.{Time}
 use Rattle.journal_tree.specs.declared.reply.Handle.{Handle}
@@ -15,7 +15,7 @@ use Rattle.journal_tree.specs.Trees.{Node, is_directory}
 use Rattle.journal_tree.specs.Rights.{may_read}
 use Rattle.journal_tree.specs.Calls.{Outcome, refused, target, told, in_directory, allowed}
 use Rattle.journal_tree.specs.Calls.Target.{gone}
-use Rattle.journal_tree.specs.Listing.{Item, Page as ListPage, Listed, ListedPlus, line_of, with_page, items_above, entries, dot_item, dot_dot_item, fitting, line_bytes, plus_bytes, readdir_case, readdirplus_case}
+use Rattle.journal_tree.specs.Listing.{Item, Page as ListPage, Listed, ListedPlus, line_of, with_page, items_above, entries, dot_item, dot_dot_item, fitting, line_bytes, plus_bytes}
 use Rattle.journal_tree.specs.Op.{Op}
 use Rattle.journal_tree.specs.Op.Call.{readdir, readdirplus}
 use Rattle.journal_tree.specs.Op.Reply.{listed, listed_plus}

@@ -1,94 +1,43 @@
 -- Which blocks of a file are reached, and their numbers.
-use Rattle.std.proofs.Common.{◌≡◌, ◌≢◌, ℕ, zero, suc, ◌+◌, ◌-◌, ◌*◌, ◌/◌, ◌%◌, ◌<◌, ◌≤◌, ◌&&◌, not, Bool, true, false, cond, eqb, w32, List, [], ◌∷◌, ◌++◌, length, take, drop, get_or, set, replicate, refl, sym, ap, subst, ◌⊎◌, inl, inr, ◌∙◌, arith, get_or-set_same, get_or-set_other}
-use Rattle.std.specs.Prelude.{nat_lt, nat_le, slice_range}
-use Rattle.std.specs.Int.{to_le_bytes, from_le_bytes}
+use Rattle.std.proofs.Common.{◌≡◌, ◌≢◌, ℕ, ◌+◌, ◌-◌, ◌*◌, ◌<◌, ◌≤◌, ◌&&◌, not, Bool, false, cond, eqb, w32, List, length, get_or, set, refl, sym, ap, subst, ◌⊎◌, inl, inr, ◌∙◌, arith, get_or-set_same, get_or-set_other}
+use Rattle.std.specs.Prelude.{nat_lt, nat_le}
+use Rattle.std.specs.Int.{to_le_bytes}
 use Rattle.std.proofs.lemmas.Bool.{cases_eq, cases_lt, eq-eqb, ne_eqb, lt-ltb, le-ltb, le-leb, lt-leb, and_from, and_left, and_right}
-use Rattle.std.proofs.lemmas.List.{length-take-le, length-drop, get_or-replicate, length-replicate}
-use Rattle.std.proofs.lemmas.Nat.{from_le_bytes-to_le_bytes_4}
 use Rattle.journal_treestore.specs.declared.inode.Head.{Head}
 use Rattle.journal_treestore.specs.Bytes.{with_piece, word_at}
-use Rattle.journal_treestore.specs.Views.{Held, View, held_of, zero_block, number_in, index_block, block_at, begin_at, bytes_in}
-use Rattle.journal_treestore.proofs.Pieces.{four_bytes}
-use Rattle.journal_treestore.proofs.Recording.{zero_block-is}
-use Rattle.journal_treestore.proofs.Indexing.{PlaceOf, place_kind, at-direct, at-indexed, at-index, at-leaf, at-none, begin-content, begin-index, begin-leaf}
+use Rattle.journal_treestore.specs.Views.{Held, View, held_of, zero_block, number_in, index_block, block_at, bytes_in}
+use Rattle.journal_treestore.proofs.Numbering.{number-same, number-other, length-number, zero_block-numbers, number-part}
+use Rattle.journal_treestore.proofs.Indexing.{PlaceOf, place_kind, at-direct, at-indexed, at-index, at-leaf}
 use Rattle.journal_treecalls.specs.declared.reach.Reach.{Reach}
 use Rattle.journal_treecalls.specs.declared.reach.Numbers.{Numbers}
-use Rattle.journal_treecalls.specs.Fetches.{is_in, number_at}
-use Rattle.journal_treecalls.specs.Reaches.{reach_for, reach_count, reach_place, IsReach, is_leafed, is_rooted, numbered, IsKnown, reached_number, leaf_bytes, root_bytes, AreSized, PutsNumber, HasNumbers}
+use Rattle.journal_treecalls.specs.Fetches.{number_at}
+use Rattle.journal_treecalls.specs.Reaches.{reach_for, reach_count, reach_place, IsReach, is_leafed, is_rooted, numbered, IsKnown, leaf_bytes, AreSized, PutsNumber, HasNumbers}
 use Rattle.journal_treecalls.specs.Reaches.IsKnown.{direct_known, leafed_known, index_known, rooted_known}
-use Rattle.journal_treecalls.proofs.Fetching.{length-put, put-before, put-inside, put-after, range-long, range-at}
 
 -- ── numbers in bytes ──
-
-word-bytes : (v : List ℕ) (at : ℕ) → at + 4 ≤ length v → word_at v at ≡ from_le_bytes w32 (get_or v at 0 ∷ get_or v (at + 1) 0 ∷ get_or v (at + 2) 0 ∷ get_or v (at + 3) 0 ∷ [])
-unfolding word_at
-word-bytes v at room = ap (from_le_bytes w32) (four_bytes v at room)
-
--- the same bytes at two places give the same number
-word-same : (v w : List ℕ) (a b : ℕ) → a + 4 ≤ length v → b + 4 ≤ length w → ((k : ℕ) → k < 4 → get_or v (a + k) 0 ≡ get_or w (b + k) 0) → word_at v a ≡ word_at w b
-word-same v w a b first second same =
-    word-bytes v a first
-    ∙ (λ z. from_le_bytes w32 (at-0 z ∷ same 1 (omega arith) z ∷ same 2 (omega arith) z ∷ same 3 (omega arith) z ∷ []))
-    ∙ sym (word-bytes w b second)
-  where
-    at-0 : get_or v a 0 ≡ get_or w b 0
-    at-0 = ap (λ k. get_or v k 0) (let e : a ≡ a + 0 = omega arith in e) ∙ same 0 (omega arith) ∙ ap (λ k. get_or w k 0) (let e : b + 0 ≡ b = omega arith in e)
-
-word-alone : (b : ℕ) → word_at (to_le_bytes w32 b) 0 ≡ from_le_bytes w32 (to_le_bytes w32 b)
-unfolding word_at
-word-alone b = refl
-
-word-zeros : word_at (0 ∷ 0 ∷ 0 ∷ 0 ∷ []) 0 ≡ 0
-unfolding word_at
-word-zeros = refl
 
 -- a number that was put
 pub puts-number : (old new : List ℕ) (k b : ℕ) → 4 * k + 4 ≤ length old → b < 4294967296 → new ≡ with_piece old (4 * k) (to_le_bytes w32 b) → PutsNumber old k b new
 puts-number old new k b room fits is = record {
-  long = ap length is ∙ length-put old (4 * k) (to_le_bytes w32 b) room;
-  here = ap (λ v. word_at v (4 * k)) is ∙ here ∙ from_le_bytes-to_le_bytes_4 b fits;
-  others = λ i other inside.
-      ap (λ v. word_at v (4 * i)) is
-      ∙ word-same (with_piece old (4 * k) (to_le_bytes w32 b)) old (4 * i) (4 * i) (let l = length-put old (4 * k) (to_le_bytes w32 b) room in omega (arith, l, inside)) inside (λ l low. apart i l other low (cases_lt (4 * i + l) (4 * k)));
+  long = ap length is ∙ length-number old k b room;
+  here = ap (λ v. word_at v (4 * k)) is ∙ number-same old k b room fits;
+  others = λ i other inside. ap (λ v. word_at v (4 * i)) is ∙ number-other old k b room i other;
 }
-  where
-    here : word_at (with_piece old (4 * k) (to_le_bytes w32 b)) (4 * k) ≡ from_le_bytes w32 (to_le_bytes w32 b)
-    here =
-        word-same (with_piece old (4 * k) (to_le_bytes w32 b)) (to_le_bytes w32 b) (4 * k) 0 (let l = length-put old (4 * k) (to_le_bytes w32 b) room in omega (arith, l, room)) (omega arith)
-        (λ l low. put-inside old (4 * k) (to_le_bytes w32 b) room (4 * k + l) (omega arith) (omega (arith, low)) ∙ ap (λ i. get_or (to_le_bytes w32 b) i 0) (let e : 4 * k + l - 4 * k ≡ 0 + l = omega arith in e))
-        ∙ word-alone b
-
-    apart : (i l : ℕ) → i ≢ k → l < 4 → (4 * i + l < 4 * k) ⊎ (4 * k ≤ 4 * i + l) → get_or (with_piece old (4 * k) (to_le_bytes w32 b)) (4 * i + l) 0 ≡ get_or old (4 * i + l) 0
-    apart i l other low (inl before) = put-before old (4 * k) (to_le_bytes w32 b) room (4 * i + l) before
-    apart i l other low (inr past) = put-after old (4 * k) (to_le_bytes w32 b) room (4 * i + l) (omega (arith, other, low, past))
 
 -- the numbers of one of several blocks
 pub number-inside : (v : List ℕ) (i l : ℕ) → l < 1024 → 4096 * i + 4096 ≤ length v → number_at (leaf_bytes v i) l ≡ number_at v (1024 * i + l)
-number-inside v i l low room = word-same (leaf_bytes v i) v (4 * l) (4 * (1024 * i + l)) (let a = range-long v (4096 * i) (4096 * i + 4096) room in omega (arith, a, low)) (omega (arith, low, room))
-    (λ k few. range-at v (4096 * i) (4096 * i + 4096) (4 * l + k) (omega (arith, low, few)) ∙ ap (λ a. get_or v a 0) (let e : 4096 * i + (4 * l + k) ≡ 4 * (1024 * i + l) + k = omega arith in e))
+number-inside v i l low room =
+    number-part v (4096 * i) (4096 * i + 4096) (4 * l) (omega (arith, low))
+    ∙ ap (word_at v) (let e : 4096 * i + 4 * l ≡ 4 * (1024 * i + l) = omega arith in e)
 
 -- the numbers of a block, and of none
 pub number-of : (V : View) (b l : ℕ) → l < 1024 → number_at (bytes_in V b) l ≡ number_in V b l
 number-of V b l low = by (cases_eq b 0)
   where
-    zeros : (l : ℕ) → l < 1024 → word_at zero_block (4 * l) ≡ 0
-    zeros l low =
-        ap (λ v. word_at v (4 * l)) zero_block-is
-        ∙ word-same (replicate 4096 0) (0 ∷ 0 ∷ 0 ∷ 0 ∷ []) (4 * l) 0 (let a = length-replicate {A = ℕ} 4096 0 in omega (arith, a, low)) (omega arith)
-        (λ k few. get_or-replicate {A = ℕ} 4096 (4 * l + k) 0 0 (omega (arith, low, few)) ∙ sym (each k few))
-        ∙ word-zeros
-      where
-        each : (k : ℕ) → k < 4 → get_or {A = ℕ} (0 ∷ 0 ∷ 0 ∷ 0 ∷ []) (0 + k) 0 ≡ 0
-        each zero few = refl
-        each (suc zero) few = refl
-        each (suc (suc zero)) few = refl
-        each (suc (suc (suc zero))) few = refl
-        each (suc (suc (suc (suc k)))) few = absurd (omega (arith, few))
-
     by : (b ≡ 0) ⊎ (b ≡ 0 → ⊥) → number_at (bytes_in V b) l ≡ number_in V b l
     by (inl none) =
         ap (λ t. word_at (cond t zero_block (V.block b)) (4 * l)) (eq-eqb b 0 none)
-        ∙ zeros l low
+        ∙ zero_block-numbers l low
         ∙ sym (ap (λ t. cond t 0 (word_at (V.block b) (4 * l))) (eq-eqb b 0 none))
     by (inr some) =
         ap (λ t. word_at (cond t zero_block (V.block b)) (4 * l)) (ne_eqb b 0 some)

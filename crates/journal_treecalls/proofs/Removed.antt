@@ -27,7 +27,7 @@ use Rattle.journal_treecalls.specs.declared.search.Hit.{Hit}
 use Rattle.journal_treecalls.specs.declared.named.Named.{Named}
 use Rattle.journal_treecalls.specs.Disks.{Write, inode_seen, written, Learns, Does}
 use Rattle.journal_treecalls.specs.Disks.Write.{inode_write, block_write}
-use Rattle.journal_treecalls.specs.Targets.{held, IsDirectoryFor, IsInside, Hits}
+use Rattle.journal_treecalls.specs.Targets.{held, IsDirectoryFor, Hits}
 use Rattle.journal_treecalls.specs.Names.{name_status, IsNamed, IsNameFor, IsFoundIn, IsUnrefused, HasKind, removal_status, moved, without_hit, TakesOut, RemovesHit, IsRemoval, Removes}
 use Rattle.journal_treecalls.specs.Names.IsUnnamed.{unsearched, no_name}
 use Rattle.journal_treecalls.specs.Names.IsRemoval.{missed, kept, taken}

@@ -1,7 +1,7 @@
 -- The row of blocks that a WRITE puts into a file.
-use Rattle.std.proofs.Common.{◌≡◌, ◌≢◌, ℕ, ◌+◌, ◌-◌, ◌*◌, ◌/◌, ◌%◌, ◌<◌, ◌≤◌, ◌&&◌, Bool, true, false, cond, eqb, List, length, get_or, refl, sym, ap, subst, ◌⊎◌, inl, inr, ◌∙◌, arith}
-use Rattle.std.specs.Prelude.{◌==◌, nat_lt, nat_le, slice_range, bytes_eq}
-use Rattle.std.proofs.lemmas.Bool.{cases_eq, cases_lt, eq-eqb, ne_eqb, eqb-true, lt-ltb, le-ltb, ltb-true, leb-true, le-leb, lt-leb, and_from, and_left, and_right, and_parts, false≢true}
+use Rattle.std.proofs.Common.{◌≡◌, ◌≢◌, ℕ, ◌+◌, ◌-◌, ◌*◌, ◌/◌, ◌<◌, ◌≤◌, ◌&&◌, Bool, true, false, cond, List, length, get_or, sym, ap, ◌⊎◌, inl, inr, ◌∙◌, arith}
+use Rattle.std.specs.Prelude.{◌==◌, nat_le, slice_range, bytes_eq}
+use Rattle.std.proofs.lemmas.Bool.{cases_eq, cases_lt, eq-eqb, ne_eqb, eqb-true, lt-ltb, le-ltb, leb-true, le-leb, lt-leb, and_from, and_left, and_right, and_parts, false≢true}
 use Rattle.std.proofs.lemmas.Slice.Eq.{bytes_eq-Decides}
 use Rattle.journal_tree.specs.declared.time.Time.{Time}
 use Rattle.journal_tree.specs.declared.caller.Caller.{Caller}
@@ -16,8 +16,8 @@ use Rattle.journal_treecalls.specs.declared.reach.Numbers.{Numbers}
 use Rattle.journal_treecalls.specs.declared.reach.Changing.{Changing}
 use Rattle.journal_treecalls.specs.Targets.{held}
 use Rattle.journal_treecalls.specs.Fetches.{is_in, number_at}
-use Rattle.journal_treecalls.specs.Reaches.{reach_for, reach_count, reach_place, IsReach, numbered, reached_number, leaf_bytes, root_bytes, AreSized, HasNumbers, AreTaken, IsChanging}
-use Rattle.journal_treecalls.specs.Overlays.{begin_of, image_bytes, piece_of, IsWrittenHead, Laying, index_bytes, piece_at, is_kept, laying_at}
+use Rattle.journal_treecalls.specs.Reaches.{reach_for, reach_count, reach_place, IsReach, numbered, reached_number, leaf_bytes, AreSized, AreTaken, IsChanging}
+use Rattle.journal_treecalls.specs.Overlays.{begin_of, image_bytes, IsWrittenHead, index_bytes, piece_at, is_kept, laying_at}
 use Rattle.journal_treecalls.proofs.Fetching.{range-long}
 use Rattle.journal_treecalls.proofs.Reaching.{number-inside, PlaceIn, place-in, place-content, place-leaf, place-root, count-blocks, count-leaf, count-root, known-at, place-once, place-high, reach-fits, numbered-direct, numbered-leafed, numbered-others, numbered-index, numbered-rooted, numbered-any, root-number, numbers-had}
 use Rattle.journal_treecalls.proofs.Reaching.PlaceIn.{content_in, leaf_in, root_in}

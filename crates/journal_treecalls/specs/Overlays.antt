@@ -1,5 +1,5 @@
 -- What WRITE writes.
-use Rattle.std.specs.Prelude.{ℕ, zero, suc, ◌≡◌, ◌≢◌, ◌<◌, ◌≤◌, ◌+◌, ◌-◌, ◌*◌, ◌/◌, ◌%◌, ◌⊎◌, max, Bool, true, false, not, ◌==◌, ◌&&◌, nat_le, nat_lt, bytes_eq, if◌then◌else◌, List, length, get_or, slice_range, Option, Some, None, Result, Ok, Err}
+use Rattle.std.specs.Prelude.{ℕ, zero, suc, ◌≡◌, ◌≢◌, ◌<◌, ◌≤◌, ◌+◌, ◌-◌, ◌*◌, ◌/◌, ◌%◌, ◌⊎◌, max, Bool, not, ◌==◌, ◌&&◌, nat_le, nat_lt, bytes_eq, if◌then◌else◌, List, length, get_or, slice_range, Option, Some, None, Result, Ok, Err}
 use Rattle.std.specs.List.{list_any}
 use Rattle.journal_tree.specs.declared.limits.TheConstants.{MOST_BYTES}
 use Rattle.journal_tree.specs.declared.time.Time.{Time}

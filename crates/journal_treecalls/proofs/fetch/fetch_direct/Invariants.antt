@@ -1,4 +1,4 @@
-use Rattle.std.proofs.Common.{◌≡◌, ◌≤◌, ◌-◌, [], length, get_or}
+use Rattle.std.proofs.Common.{◌≡◌, ◌≤◌, [], length, get_or}
 use Rattle.journal_treecalls.specs.Disks.{Learns}
 use Rattle.journal_treecalls.specs.Fetches.{FillsBlocks}
 use Rattle.journal_treecalls.proofs.fetch.fetch_direct.Given as goal

@@ -1,4 +1,4 @@
-use Rattle.std.proofs.Common.{◌≡◌, ◌*◌, subst, refl, ap, ◌∙◌, length, arith}
+use Rattle.std.proofs.Common.{◌*◌, refl, ap, ◌∙◌, length, arith}
 use Rattle.std.proofs.lemmas.List.{length-replicate}
 use Rattle.journal_treecalls.proofs.Taking.{leaves-begin, leaves-more, leaves-all}
 use Rattle.journal_treecalls.proofs.reach.leaves_of.Goals as goal

@@ -1,4 +1,3 @@
-use Rattle.std.proofs.Common.{◌∙◌, ap, length}
 use Rattle.journal_treecalls.proofs.Taking.{root-read, root-long-some}
 use Rattle.journal_treecalls.proofs.reach.root_of.Goals as goal
 
