@@ -48,3 +48,6 @@ none-few ws k is = let e : length ws ≡ 0 = ap length is in omega (arith, e)
 
 pub one-more : (ws before : List Write) (w : Write) (k : ℕ) → ws ≡ w ∷ before → length before ≤ k → length ws ≤ k + 1
 one-more ws before w k is few = let e : length ws ≡ suc (length before) = ap length is in omega (arith, e, few)
+
+pub one-longer : (ws before : List Write) (w : Write) → ws ≡ w ∷ before → length ws ≡ length before + 1
+one-longer ws before w is = let e : length ws ≡ suc (length before) = ap length is in omega (arith, e)

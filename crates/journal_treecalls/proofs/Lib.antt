@@ -33,6 +33,7 @@ pub mod Taking
 pub mod Laying
 pub mod Overlaying
 pub mod Rows
+pub mod Counting
 pub mod Writes
 pub mod Texts
 pub mod Linked

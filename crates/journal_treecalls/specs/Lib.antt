@@ -10,6 +10,7 @@ pub mod Sizes
 pub mod Fetches
 pub mod Portions
 pub mod Reaches
+pub mod Counts
 pub mod Overlays
 pub mod Takings
 pub mod Exclusives

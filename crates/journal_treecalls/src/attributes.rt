@@ -42,7 +42,8 @@ pub struct AccessReply {
 /// - `Stale`: the handle's node was removed.
 pub fn getattr<T: TreeDisk>(disk: &mut T, handle: Handle) -> Result<Result<Told, Status>, T::Fault>
     requires first { T.writes disk.old ≡ [] }
-    ensures { IfOk result (λ reply. (caller : Caller) (now : Time) → Does (T.may_be disk.new) (T.writes disk.new) (getattr_call handle) caller now (got reply)) }
+    ensures does { IfOk result (λ reply. (caller : Caller) (now : Time) → Does (T.may_be disk.new) (T.writes disk.new) (getattr_call handle) caller now (got reply)) }
+    ensures unwritten { T.writes disk.new ≡ [] }
 {
     match node(disk, handle)? {
         None => Ok(Err(Status::Stale)),
@@ -65,7 +66,8 @@ pub fn access<T: TreeDisk>(
     asked: u32,
 ) -> Result<Result<AccessReply, Status>, T::Fault>
     requires first { T.writes disk.old ≡ [] }
-    ensures { IfOk result (λ reply. (now : Time) → Does (T.may_be disk.new) (T.writes disk.new) (access_call handle asked) caller.now now (accessed (access_told reply))) }
+    ensures does { IfOk result (λ reply. (now : Time) → Does (T.may_be disk.new) (T.writes disk.new) (access_call handle asked) caller.now now (accessed (access_told reply))) }
+    ensures unwritten { T.writes disk.new ≡ [] }
 {
     match node(disk, handle)? {
         None => Ok(Err(Status::Stale)),

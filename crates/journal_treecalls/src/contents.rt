@@ -26,7 +26,8 @@ pub fn commit<T: TreeDisk>(
     handle: Handle,
 ) -> Result<Result<Changed, Status>, T::Fault>
     requires first { T.writes disk.old ≡ [] }
-    ensures { IfOk result (λ reply. (caller : Caller) (now : Time) → Does (T.may_be disk.new) (T.writes disk.new) (commit_call handle) caller now (committed reply)) }
+    ensures does { IfOk result (λ reply. (caller : Caller) (now : Time) → Does (T.may_be disk.new) (T.writes disk.new) (commit_call handle) caller now (committed reply)) }
+    ensures unwritten { T.writes disk.new ≡ [] }
 {
     match node(disk, handle)? {
         None => Ok(Err(Status::Stale)),

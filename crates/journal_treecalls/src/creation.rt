@@ -55,7 +55,8 @@ pub(crate) struct Plan {
 }
 
 /// MKDIR (RFC 1813, 3.3.9): an empty directory, under the first of these numbers that is free. If
-/// the directory above has no free place, it gets the first of these blocks that is free.
+/// the directory above has no free place, it gets the first of these blocks that is free. At most
+/// four objects are written: the entry's block, and its record if it is new, and both inodes.
 ///
 /// # Errors
 /// - The call is given up.
@@ -83,7 +84,8 @@ pub fn mkdir<T: TreeDisk>(
 ) -> Result<Result<Made, Status>, T::Fault>
     requires first { T.writes disk.old ≡ [] }
     requires time { IsTime now }
-    ensures { IfOk result (λ reply. Does (T.may_be disk.new) (T.writes disk.new) (mkdir_call directory name.now settings) caller.now now (made reply)) }
+    ensures does { IfOk result (λ reply. Does (T.may_be disk.new) (T.writes disk.new) (mkdir_call directory name.now settings) caller.now now (made reply)) }
+    ensures few { IfOk result (λ _. length (T.writes disk.new) ≤ 4) }
 {
     let by = Making::Mkdir;
     make(
@@ -98,7 +100,8 @@ pub fn mkdir<T: TreeDisk>(
 }
 
 /// CREATE in the mode GUARDED (RFC 1813, 3.3.8): a file of a name that the directory does not have,
-/// under the first of these numbers that is free. The directory gets a block as in `mkdir`.
+/// under the first of these numbers that is free. The directory gets a block as in `mkdir`, and the
+/// same objects are written.
 ///
 /// # Errors
 /// - The call is given up.
@@ -116,7 +119,8 @@ pub fn create_guarded<T: TreeDisk>(
 ) -> Result<Result<Made, Status>, T::Fault>
     requires first { T.writes disk.old ≡ [] }
     requires time { IsTime now }
-    ensures { IfOk result (λ reply. Does (T.may_be disk.new) (T.writes disk.new) (create_call directory name.now (Guarded settings)) caller.now now (made reply)) }
+    ensures does { IfOk result (λ reply. Does (T.may_be disk.new) (T.writes disk.new) (create_call directory name.now (Guarded settings)) caller.now now (made reply)) }
+    ensures few { IfOk result (λ _. length (T.writes disk.new) ≤ 4) }
 {
     let by = Making::Create;
     make(
@@ -142,7 +146,8 @@ fn make<T: TreeDisk>(
 ) -> Result<Result<Made, Status>, T::Fault>
     requires first { T.writes disk.old ≡ [] }
     requires time { IsTime now }
-    ensures { IfOk result (λ reply. Does (T.may_be disk.new) (T.writes disk.new) (making_call wanted.by directory name.now wanted.settings) caller.now now (made reply)) }
+    ensures does { IfOk result (λ reply. Does (T.may_be disk.new) (T.writes disk.new) (making_call wanted.by directory name.now wanted.settings) caller.now now (made reply)) }
+    ensures few { IfOk result (λ _. length (T.writes disk.new) ≤ 4) }
 {
     are_words(*caller);
     are_asked(wanted.settings);
@@ -289,7 +294,8 @@ fn make_found<T: TreeDisk>(
     requires first { T.writes disk.old ≡ [] }
     requires time { IsTime now }
     requires named { length name.now ≤ MOST_NAME }
-    ensures { IfOk result (Makes (T.may_be disk.old) (T.may_be disk.new) (T.writes disk.new) number found.now name.now plan.now now) }
+    ensures makes { IfOk result (Makes (T.may_be disk.old) (T.may_be disk.new) (T.writes disk.new) number found.now name.now plan.now now) }
+    ensures few { IfOk result (λ _. length (T.writes disk.new) ≤ 4) }
 {
     match found.hit {
         None => make_planned(disk, number, &found.directory, name, plan, spare, now),
@@ -310,7 +316,8 @@ pub(crate) fn make_planned<T: TreeDisk>(
     requires first { T.writes disk.old ≡ [] }
     requires time { IsTime now }
     requires named { length name.now ≤ MOST_NAME }
-    ensures { IfOk result (MakesPlanned (T.may_be disk.old) (T.may_be disk.new) (T.writes disk.new) number directory.now name.now plan.now now) }
+    ensures makes { IfOk result (MakesPlanned (T.may_be disk.old) (T.may_be disk.new) (T.writes disk.new) number directory.now name.now plan.now now) }
+    ensures few { IfOk result (λ _. length (T.writes disk.new) ≤ 4) }
 {
     match plan.refusal {
         None => make_node(disk, number, directory, name, &plan.node, spare, now),
@@ -331,7 +338,8 @@ fn make_node<T: TreeDisk>(
     requires first { T.writes disk.old ≡ [] }
     requires time { IsTime now }
     requires named { length name.now ≤ MOST_NAME }
-    ensures { IfOk result (MakesNode (T.may_be disk.old) (T.may_be disk.new) (T.writes disk.new) number directory.now name.now node.now now) }
+    ensures makes { IfOk result (MakesNode (T.may_be disk.old) (T.may_be disk.new) (T.writes disk.new) number directory.now name.now node.now now) }
+    ensures few { IfOk result (λ _. length (T.writes disk.new) ≤ 4) }
 {
     match find_room(disk, &directory.head, spare)? {
         None => Ok(Err(Status::NoSpace)),
@@ -357,7 +365,8 @@ pub(crate) fn put_node<T: TreeDisk>(
     requires named { length name.now ≤ MOST_NAME }
     requires young { room.number.generation < LAST_GENERATION }
     requires inside { IsInsidePlace room.place }
-    ensures { IfOk result (Plants (T.may_be disk.old) (T.may_be disk.new) (T.writes disk.new) number directory.now name.now node.now room.number room.place now) }
+    ensures plants { IfOk result (Plants (T.may_be disk.old) (T.may_be disk.new) (T.writes disk.new) number directory.now name.now node.now room.number room.place now) }
+    ensures few { IfOk result (λ _. length (T.writes disk.new) ≤ 4) }
 {
     let free = room.number;
     match room.place {
@@ -384,7 +393,8 @@ fn plant<T: TreeDisk>(
     requires named { length name.now ≤ MOST_NAME }
     requires young { room.0.generation < LAST_GENERATION }
     requires inside { room.1.at < PLACES }
-    ensures { IfOk result (Plants (T.may_be disk.old) (T.may_be disk.new) (T.writes disk.new) number directory.now name.now node.now room.0 (Here room.1) now) }
+    ensures plants { IfOk result (Plants (T.may_be disk.old) (T.may_be disk.new) (T.writes disk.new) number directory.now name.now node.now room.0 (Here room.1) now) }
+    ensures few { IfOk result (λ _. length (T.writes disk.new) ≤ 4) }
 {
     let free = room.0;
     let place = room.1;
@@ -419,7 +429,8 @@ fn plant_further<T: TreeDisk>(
     requires named { length name.now ≤ MOST_NAME }
     requires young { room.0.generation < LAST_GENERATION }
     requires few { room.1.j < MOST_BLOCKS }
-    ensures { IfOk result (Plants (T.may_be disk.old) (T.may_be disk.new) (T.writes disk.new) number directory.now name.now node.now room.0 (Further room.1) now) }
+    ensures plants { IfOk result (Plants (T.may_be disk.old) (T.may_be disk.new) (T.writes disk.new) number directory.now name.now node.now room.0 (Further room.1) now) }
+    ensures few { IfOk result (λ _. length (T.writes disk.new) ≤ 4) }
 {
     let free = room.0;
     let further = room.1;

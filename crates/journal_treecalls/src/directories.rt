@@ -1,5 +1,5 @@
 // RMDIR.
-ghost use Rattle.std.specs.Prelude.{◌≡◌, ◌<◌, [], IfOk};
+ghost use Rattle.std.specs.Prelude.{◌≡◌, ◌<◌, [], IfOk, ◌≤◌, length};
 ghost use Rattle.journal_tree.specs.Times.{IsTime};
 ghost use Rattle.journal_tree.specs.Op.Call.{rmdir as rmdir_call};
 ghost use Rattle.journal_tree.specs.Op.Reply.{removed};
@@ -43,7 +43,8 @@ pub fn rmdir<T: TreeDisk>(
 ) -> Result<Result<Changed, Status>, T::Fault>
     requires first { T.writes disk.old ≡ [] }
     requires time { IsTime now }
-    ensures { IfOk result (λ reply. Does (T.may_be disk.new) (T.writes disk.new) (rmdir_call directory name.now) caller.now now (removed reply)) }
+    ensures does { IfOk result (λ reply. Does (T.may_be disk.new) (T.writes disk.new) (rmdir_call directory name.now) caller.now now (removed reply)) }
+    ensures few { IfOk result (λ _. length (T.writes disk.new) ≤ 3) }
 {
     are_words(*caller);
     let dot = Status::Invalid;
@@ -65,7 +66,8 @@ fn rmdir_found<T: TreeDisk>(
     requires first { T.writes disk.old ≡ [] }
     requires time { IsTime now }
     requires inside { IsInside found.now.hit }
-    ensures { IfOk result (RemovesDirectory (T.may_be disk.old) (T.may_be disk.new) (T.writes disk.new) caller.now number found.now now) }
+    ensures removes { IfOk result (RemovesDirectory (T.may_be disk.old) (T.may_be disk.new) (T.writes disk.new) caller.now number found.now now) }
+    ensures few { IfOk result (λ _. length (T.writes disk.new) ≤ 3) }
 {
     match found.hit {
         None => Ok(Err(Status::NoEntry)),
@@ -85,7 +87,8 @@ fn rmdir_hit<T: TreeDisk>(
     requires first { T.writes disk.old ≡ [] }
     requires time { IsTime now }
     requires inside { hit.now.at < PLACES }
-    ensures { IfOk result (RemovesDirectoryHit (T.may_be disk.old) (T.may_be disk.new) (T.writes disk.new) caller.now number directory.now hit.now now) }
+    ensures removes { IfOk result (RemovesDirectoryHit (T.may_be disk.old) (T.may_be disk.new) (T.writes disk.new) caller.now number directory.now hit.now now) }
+    ensures few { IfOk result (λ _. length (T.writes disk.new) ≤ 3) }
 {
     match rmdir_status(caller, &directory.head, &hit.head) {
         Some(status) => Ok(Err(status)),
@@ -119,7 +122,8 @@ fn rmdir_bare<T: TreeDisk>(
     requires first { T.writes disk.old ≡ [] }
     requires time { IsTime now }
     requires inside { hit.now.at < PLACES }
-    ensures { IfOk result (RemovesBare (T.may_be disk.old) (T.may_be disk.new) (T.writes disk.new) number directory.now hit.now now) }
+    ensures removes { IfOk result (RemovesBare (T.may_be disk.old) (T.may_be disk.new) (T.writes disk.new) number directory.now hit.now now) }
+    ensures few { IfOk result (λ _. length (T.writes disk.new) ≤ 3) }
 {
     match find_entry(disk, &hit.head.blocks)? {
         None => {

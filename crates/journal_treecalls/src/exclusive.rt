@@ -33,7 +33,7 @@ struct Wanted {
 /// not have, under the first of these numbers that is free. It has the mode 0, and keeps the
 /// verifier of the call until anything of it changes. If the directory has a file of the name with
 /// this verifier, the same call has made it: it is told, and nothing is written. The directory gets
-/// a block as in `mkdir`.
+/// a block as in `mkdir`, and the same objects are written.
 ///
 /// # Errors
 /// - The call is given up.
@@ -54,7 +54,8 @@ pub fn create_exclusive<T: TreeDisk>(
 ) -> Result<Result<Made, Status>, T::Fault>
     requires first { T.writes disk.old ≡ [] }
     requires time { IsTime now }
-    ensures { IfOk result (λ reply. Does (T.may_be disk.new) (T.writes disk.new) (create_call directory name.now (Exclusive verifier)) caller.now now (made reply)) }
+    ensures does { IfOk result (λ reply. Does (T.may_be disk.new) (T.writes disk.new) (create_call directory name.now (Exclusive verifier)) caller.now now (made reply)) }
+    ensures few { IfOk result (λ _. length (T.writes disk.new) ≤ 4) }
 {
     are_words(*caller);
     is_long(verifier);
@@ -116,7 +117,8 @@ fn create_once<T: TreeDisk>(
     requires first { T.writes disk.old ≡ [] }
     requires time { IsTime now }
     requires named { length name.now ≤ MOST_NAME }
-    ensures { IfOk result (CreatesOnce (T.may_be disk.old) (T.may_be disk.new) (T.writes disk.new) wanted.now.directory found.now name.now wanted.now.plan wanted.now.verifier now) }
+    ensures creates { IfOk result (CreatesOnce (T.may_be disk.old) (T.may_be disk.new) (T.writes disk.new) wanted.now.directory found.now name.now wanted.now.plan wanted.now.verifier now) }
+    ensures few { IfOk result (λ _. length (T.writes disk.new) ≤ 4) }
 {
     let number = wanted.directory;
     match found.hit {

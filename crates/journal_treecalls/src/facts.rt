@@ -68,7 +68,8 @@ pub fn fsstat<T: TreeDisk>(
     free: Free,
 ) -> Result<Result<Space, Status>, T::Fault>
     requires first { T.writes disk.old ≡ [] }
-    ensures { IfOk result (λ reply. (caller : Caller) (now : Time) → Does (T.may_be disk.new) (T.writes disk.new) (fsstat_call handle) caller now (space reply)) }
+    ensures does { IfOk result (λ reply. (caller : Caller) (now : Time) → Does (T.may_be disk.new) (T.writes disk.new) (fsstat_call handle) caller now (space reply)) }
+    ensures unwritten { T.writes disk.new ≡ [] }
 {
     let blocks = disk.data_blocks();
     let numbers = disk.numbers();
@@ -120,7 +121,8 @@ pub fn fsinfo<T: TreeDisk>(
     handle: Handle,
 ) -> Result<Result<FactsReply, Status>, T::Fault>
     requires first { T.writes disk.old ≡ [] }
-    ensures { IfOk result (λ reply. (caller : Caller) (now : Time) → Does (T.may_be disk.new) (T.writes disk.new) (fsinfo_call handle) caller now (facts (facts_told reply))) }
+    ensures does { IfOk result (λ reply. (caller : Caller) (now : Time) → Does (T.may_be disk.new) (T.writes disk.new) (fsinfo_call handle) caller now (facts (facts_told reply))) }
+    ensures unwritten { T.writes disk.new ≡ [] }
 {
     match node(disk, handle)? {
         None => Ok(Err(Status::Stale)),
@@ -155,7 +157,8 @@ pub fn pathconf<T: TreeDisk>(
     handle: Handle,
 ) -> Result<Result<NameFactsReply, Status>, T::Fault>
     requires first { T.writes disk.old ≡ [] }
-    ensures { IfOk result (λ reply. (caller : Caller) (now : Time) → Does (T.may_be disk.new) (T.writes disk.new) (pathconf_call handle) caller now (name_facts (name_facts_told reply))) }
+    ensures does { IfOk result (λ reply. (caller : Caller) (now : Time) → Does (T.may_be disk.new) (T.writes disk.new) (pathconf_call handle) caller now (name_facts (name_facts_told reply))) }
+    ensures unwritten { T.writes disk.new ≡ [] }
 {
     match node(disk, handle)? {
         None => Ok(Err(Status::Stale)),

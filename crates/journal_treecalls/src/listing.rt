@@ -46,7 +46,8 @@ pub fn readdir<T: TreeDisk>(
     most: u64,
 ) -> Result<Result<ListReply, Status>, T::Fault>
     requires first { T.writes disk.old ≡ [] }
-    ensures { IfOk result (λ reply. (now : Time) → Does (T.may_be disk.new) (T.writes disk.new) (readdir_call handle cookie most) caller.now now (listed (listed_told reply))) }
+    ensures does { IfOk result (λ reply. (now : Time) → Does (T.may_be disk.new) (T.writes disk.new) (readdir_call handle cookie most) caller.now now (listed (listed_told reply))) }
+    ensures unwritten { T.writes disk.new ≡ [] }
 {
     let room = Room {
         names: less_frame(most),
@@ -72,7 +73,8 @@ pub fn readdirplus<T: TreeDisk>(
     most: u64,
 ) -> Result<Result<ListReply, Status>, T::Fault>
     requires first { T.writes disk.old ≡ [] }
-    ensures { IfOk result (λ reply. (now : Time) → Does (T.may_be disk.new) (T.writes disk.new) (readdirplus_call handle cookie names most) caller.now now (listed_plus (listed_plus_told reply))) }
+    ensures does { IfOk result (λ reply. (now : Time) → Does (T.may_be disk.new) (T.writes disk.new) (readdirplus_call handle cookie names most) caller.now now (listed_plus (listed_plus_told reply))) }
+    ensures unwritten { T.writes disk.new ≡ [] }
 {
     let room = Room {
         names,

@@ -33,7 +33,8 @@ pub fn lookup<T: TreeDisk>(
     name: &[u8],
 ) -> Result<Result<Found, Status>, T::Fault>
     requires first { T.writes disk.old ≡ [] }
-    ensures { IfOk result (λ reply. (now : Time) → Does (T.may_be disk.new) (T.writes disk.new) (lookup_call directory name.now) caller.now now (found_reply reply)) }
+    ensures does { IfOk result (λ reply. (now : Time) → Does (T.may_be disk.new) (T.writes disk.new) (lookup_call directory name.now) caller.now now (found_reply reply)) }
+    ensures unwritten { T.writes disk.new ≡ [] }
 {
     match searched(disk, caller, directory)? {
         Ok(target) => lookup_in(disk, directory.number, &target, name),

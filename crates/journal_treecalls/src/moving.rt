@@ -1,5 +1,5 @@
 // The writes of RENAME.
-ghost use Rattle.std.specs.Prelude.{◌≡◌, ◌<◌, ◌≤◌, ◌*◌, [], length, IfOk};
+ghost use Rattle.std.specs.Prelude.{◌≡◌, ◌<◌, ◌≤◌, ◌*◌, [], length, IfOk, ◌+◌};
 ghost use Rattle.journal_tree.specs.declared.limits.TheConstants.{MOST_NAME, MOST_BLOCKS};
 ghost use Rattle.journal_tree.specs.Times.{IsTime};
 ghost use Rattle.journal_treestore.specs.Entries.{tag_of};
@@ -50,7 +50,8 @@ pub(crate) fn put_move<T: TreeDisk>(
     requires short { length new_name.now ≤ MOST_NAME }
     requires inside { hit.now.at < PLACES }
     requires there { IsInsideDestination to.now }
-    ensures { IfOk result (MovesTo (T.may_be disk.old) (T.may_be disk.new) (T.writes disk.new) way.now hit.now to.now new_name.now now) }
+    ensures moves { IfOk result (MovesTo (T.may_be disk.old) (T.may_be disk.new) (T.writes disk.new) way.now hit.now to.now new_name.now now) }
+    ensures few { IfOk result (λ _. length (T.writes disk.new) ≤ 6) }
 {
     match *to {
         Destination::Own => put_own(disk, way, hit, new_name, now),
@@ -73,7 +74,8 @@ fn put_own<T: TreeDisk>(
     requires time { IsTime now }
     requires short { length new_name.now ≤ MOST_NAME }
     requires inside { hit.now.at < PLACES }
-    ensures { IfOk result (MovesTo (T.may_be disk.old) (T.may_be disk.new) (T.writes disk.new) way.now hit.now Own new_name.now now) }
+    ensures moves { IfOk result (MovesTo (T.may_be disk.old) (T.may_be disk.new) (T.writes disk.new) way.now hit.now Own new_name.now now) }
+    ensures few { IfOk result (λ _. length (T.writes disk.new) ≤ 6) }
 {
     let own = entry_at(hit.block, hit.at, hit.number, new_name);
     let heads = moved_heads(way, hit, hit.head.directory, hit.head.place, now);
@@ -95,7 +97,8 @@ fn put_own_over<T: TreeDisk>(
     requires short { length new_name.now ≤ MOST_NAME }
     requires inside { hit.now.at < PLACES }
     requires there { over.now.at < PLACES }
-    ensures { IfOk result (MovesTo (T.may_be disk.old) (T.may_be disk.new) (T.writes disk.new) way.now hit.now (OwnOver over.now) new_name.now now) }
+    ensures moves { IfOk result (MovesTo (T.may_be disk.old) (T.may_be disk.new) (T.writes disk.new) way.now hit.now (OwnOver over.now) new_name.now now) }
+    ensures few { IfOk result (λ _. length (T.writes disk.new) ≤ 6) }
 {
     let own = entry_at(hit.block, hit.at, hit.number, new_name);
     let heads = moved_heads(way, hit, hit.head.directory, hit.head.place, now);
@@ -118,7 +121,8 @@ fn put_onto<T: TreeDisk>(
     requires short { length new_name.now ≤ MOST_NAME }
     requires inside { hit.now.at < PLACES }
     requires there { over.now.at < PLACES }
-    ensures { IfOk result (MovesTo (T.may_be disk.old) (T.may_be disk.new) (T.writes disk.new) way.now hit.now (Onto over.now) new_name.now now) }
+    ensures moves { IfOk result (MovesTo (T.may_be disk.old) (T.may_be disk.new) (T.writes disk.new) way.now hit.now (Onto over.now) new_name.now now) }
+    ensures few { IfOk result (λ _. length (T.writes disk.new) ≤ 6) }
 {
     let new = entry_at(over.block, over.at, hit.number, new_name);
     let heads = moved_heads(way, hit, way.goal.number, over.head.place, now);
@@ -142,7 +146,8 @@ fn put_into<T: TreeDisk>(
     requires short { length new_name.now ≤ MOST_NAME }
     requires inside { hit.now.at < PLACES }
     requires there { IsInsidePlace place }
-    ensures { IfOk result (MovesTo (T.may_be disk.old) (T.may_be disk.new) (T.writes disk.new) way.now hit.now (Into place) new_name.now now) }
+    ensures moves { IfOk result (MovesTo (T.may_be disk.old) (T.may_be disk.new) (T.writes disk.new) way.now hit.now (Into place) new_name.now now) }
+    ensures few { IfOk result (λ _. length (T.writes disk.new) ≤ 6) }
 {
     match place {
         NewPlace::Here(place) => put_here(disk, way, hit, place, new_name, now),
@@ -164,7 +169,8 @@ fn put_here<T: TreeDisk>(
     requires short { length new_name.now ≤ MOST_NAME }
     requires inside { hit.now.at < PLACES }
     requires there { place.at < PLACES }
-    ensures { IfOk result (MovesTo (T.may_be disk.old) (T.may_be disk.new) (T.writes disk.new) way.now hit.now (Into (Here place)) new_name.now now) }
+    ensures moves { IfOk result (MovesTo (T.may_be disk.old) (T.may_be disk.new) (T.writes disk.new) way.now hit.now (Into (Here place)) new_name.now now) }
+    ensures few { IfOk result (λ _. length (T.writes disk.new) ≤ 6) }
 {
     let new = entry_at(place.block, place.at, hit.number, new_name);
     let heads = moved_heads(way, hit, way.goal.number, place.place, now);
@@ -187,7 +193,8 @@ fn put_further<T: TreeDisk>(
     requires short { length new_name.now ≤ MOST_NAME }
     requires inside { hit.now.at < PLACES }
     requires few { further.j < MOST_BLOCKS }
-    ensures { IfOk result (MovesTo (T.may_be disk.old) (T.may_be disk.new) (T.writes disk.new) way.now hit.now (Into (Further further)) new_name.now now) }
+    ensures moves { IfOk result (MovesTo (T.may_be disk.old) (T.may_be disk.new) (T.writes disk.new) way.now hit.now (Into (Further further)) new_name.now now) }
+    ensures few { IfOk result (λ _. length (T.writes disk.new) ≤ 6) }
 {
     let new = entry_at(further.block, 0, hit.number, new_name);
     let place = first_place(further.j);
@@ -226,7 +233,8 @@ fn no_entry_at(block: u32, at: usize) -> PlacedEntry
 fn put_one<T: TreeDisk>(disk: &mut T, one: PlacedEntry) -> Result<(), T::Fault>
     requires first { T.writes disk.old ≡ [] }
     requires inside { one.at < PLACES }
-    ensures { IfOk result (λ _. PutsEntry (T.may_be disk.old) (T.may_be disk.new) (T.writes disk.new) one) }
+    ensures puts { IfOk result (λ _. PutsEntry (T.may_be disk.old) (T.may_be disk.new) (T.writes disk.new) one) }
+    ensures few { IfOk result (λ _. length (T.writes disk.new) ≤ 1) }
 {
     let block = disk.block(one.block)?;
     disk.put_block(one.block, put_entry(block, one.at, one.entry))
@@ -241,7 +249,8 @@ fn put_entries<T: TreeDisk>(
     requires first { T.writes disk.old ≡ [] }
     requires inside { first.at < PLACES }
     requires there { second.at < PLACES }
-    ensures { IfOk result (λ _. PutsEntries (T.may_be disk.old) (T.may_be disk.new) (T.writes disk.new) first second) }
+    ensures puts { IfOk result (λ _. PutsEntries (T.may_be disk.old) (T.may_be disk.new) (T.writes disk.new) first second) }
+    ensures few { IfOk result (λ _. length (T.writes disk.new) ≤ 2) }
 {
     let block = disk.block(first.block)?;
     let changed = put_entry(block, first.at, first.entry);
@@ -296,7 +305,8 @@ fn put_two_heads<T: TreeDisk>(
     new_name: &[u8],
 ) -> Result<Renamed, T::Fault>
     requires short { length new_name.now ≤ MOST_NAME }
-    ensures { IfOk result (PutsTwo (T.may_be disk.old) (T.may_be disk.new) (T.writes disk.old) (T.writes disk.new) way.now number heads.now new_name.now) }
+    ensures puts { IfOk result (PutsTwo (T.may_be disk.old) (T.may_be disk.new) (T.writes disk.old) (T.writes disk.new) way.now number heads.now new_name.now) }
+    ensures few { IfOk result (λ _. length (T.writes disk.new) ≤ length (T.writes disk.old) + 2) }
 {
     let source = used_bytes(heads.source, &way.source.inode);
     disk.put_inode(way.source.number, source)?;
@@ -313,7 +323,8 @@ fn put_three_heads<T: TreeDisk>(
     new_name: &[u8],
 ) -> Result<Renamed, T::Fault>
     requires short { length new_name.now ≤ MOST_NAME }
-    ensures { IfOk result (PutsThree (T.may_be disk.old) (T.may_be disk.new) (T.writes disk.old) (T.writes disk.new) way.now number heads.now new_name.now) }
+    ensures puts { IfOk result (PutsThree (T.may_be disk.old) (T.may_be disk.new) (T.writes disk.old) (T.writes disk.new) way.now number heads.now new_name.now) }
+    ensures few { IfOk result (λ _. length (T.writes disk.new) ≤ length (T.writes disk.old) + 3) }
 {
     let source = used_bytes(heads.source, &way.source.inode);
     let goal = used_bytes(heads.goal, &way.goal.inode);

@@ -5,6 +5,7 @@ ghost use Rattle.journal_tree.specs.Times.{IsTime};
 ghost use Rattle.journal_tree.specs.Op.Call.{write as write_call};
 ghost use Rattle.journal_tree.specs.Op.Reply.{wrote};
 ghost use Rattle.journal_treecalls.specs.Disks.{Learns, Does};
+ghost use Rattle.journal_treecalls.specs.Counts.{most_written};
 ghost use Rattle.journal_treecalls.specs.Reaches.{reach_for, reach_count, IsReach, AreSized};
 ghost use Rattle.journal_treecalls.specs.Overlays.{status_of_writing, writing_status, gap_of, IsInsideTail, IsWrittenHead, ClearsGap, index_bytes, piece_at, is_kept, laying_at, LaysOne, LaysAt, LaysBlocks, WritesFile, WritesRoom, WritesAllowed, WritesNode};
 
@@ -38,7 +39,9 @@ pub struct WriteData<'a> {
 
 /// WRITE (RFC 1813, 3.3.7): bytes of a file from an offset on. If it ends before the offset, zeros
 /// come between. Where it has no block for them, and no index block for the numbers of these, it
-/// gets the first of the spare ones that nobody has. It may meet any number of index blocks.
+/// gets the first of the spare ones that nobody has. It may meet any number of index blocks. How
+/// many objects are written depends on the number of bytes (`most_written` of `specs/Counts.antt`):
+/// at most 42 for `TRANSFER_BYTES`.
 ///
 /// # Errors
 /// - The call is given up.
@@ -62,7 +65,8 @@ pub fn write<T: TreeDisk>(
 ) -> Result<Result<Changed, Status>, T::Fault>
     requires first { T.writes disk.old ≡ [] }
     requires time { IsTime now }
-    ensures { IfOk result (λ reply. Does (T.may_be disk.new) (T.writes disk.new) (write_call handle data.now.offset data.now.count data.now.bytes.now) caller.now now (wrote reply)) }
+    ensures does { IfOk result (λ reply. Does (T.may_be disk.new) (T.writes disk.new) (write_call handle data.now.offset data.now.count data.now.bytes.now) caller.now now (wrote reply)) }
+    ensures few { IfOk result (λ _. length (T.writes disk.new) ≤ most_written (length data.now.bytes.now)) }
 {
     are_words(*caller);
     match node(disk, handle)? {
@@ -83,7 +87,8 @@ fn write_node<T: TreeDisk>(
 ) -> Result<Result<Changed, Status>, T::Fault>
     requires first { T.writes disk.old ≡ [] }
     requires time { IsTime now }
-    ensures { IfOk result (WritesNode (T.may_be disk.old) (T.may_be disk.new) (T.writes disk.new) caller.now data.now.offset data.now.count data.now.bytes.now now number target.now) }
+    ensures writes { IfOk result (WritesNode (T.may_be disk.old) (T.may_be disk.new) (T.writes disk.new) caller.now data.now.offset data.now.count data.now.bytes.now now number target.now) }
+    ensures few { IfOk result (λ _. length (T.writes disk.new) ≤ most_written (length data.now.bytes.now)) }
 {
     let bytes = data.bytes;
     match writing_status(caller, &target.head, data.offset, data.count, bytes.len()) {
@@ -151,7 +156,8 @@ fn write_allowed<T: TreeDisk>(
     requires first { T.writes disk.old ≡ [] }
     requires time { IsTime now }
     requires fits { 0 < length data.now.bytes.now → data.now.offset + length data.now.bytes.now ≤ MOST_BYTES }
-    ensures { IfOk result (WritesAllowed (T.may_be disk.old) (T.may_be disk.new) (T.writes disk.new) caller.now data.now.offset data.now.bytes.now now number target.now) }
+    ensures writes { IfOk result (WritesAllowed (T.may_be disk.old) (T.may_be disk.new) (T.writes disk.new) caller.now data.now.offset data.now.bytes.now now number target.now) }
+    ensures few { IfOk result (λ _. length (T.writes disk.new) ≤ most_written (length data.now.bytes.now)) }
 {
     let bytes = data.bytes;
     if bytes.is_empty() {
@@ -178,7 +184,8 @@ fn write_room<T: TreeDisk>(
     requires time { IsTime now }
     requires some { 0 < length data.now.bytes.now }
     requires fits { data.now.offset + length data.now.bytes.now ≤ MOST_BYTES }
-    ensures { IfOk result (WritesRoom (T.may_be disk.old) (T.may_be disk.new) (T.writes disk.new) caller.now data.now.offset data.now.bytes.now now number target.now) }
+    ensures writes { IfOk result (WritesRoom (T.may_be disk.old) (T.may_be disk.new) (T.writes disk.new) caller.now data.now.offset data.now.bytes.now now number target.now) }
+    ensures few { IfOk result (λ _. length (T.writes disk.new) ≤ most_written (length data.now.bytes.now)) }
 {
     let bytes = data.bytes;
     let span = Span {
@@ -217,7 +224,8 @@ fn write_file<T: TreeDisk>(
     requires is_reach { IsReach change.now.reach }
     requires old_sized { AreSized change.now.reach change.now.old }
     requires new_sized { AreSized change.now.reach change.now.new }
-    ensures { IfOk result (WritesFile (T.may_be disk.old) (T.may_be disk.new) (T.writes disk.new) caller.now data.now.offset data.now.bytes.now change.now now number target.now) }
+    ensures writes { IfOk result (WritesFile (T.may_be disk.old) (T.may_be disk.new) (T.writes disk.new) caller.now data.now.offset data.now.bytes.now change.now now number target.now) }
+    ensures few { IfOk result (λ _. length (T.writes disk.new) ≤ most_written (length data.now.bytes.now)) }
 {
     let bytes = data.bytes;
     let end = data.offset + bytes.len() as u64;
@@ -254,7 +262,8 @@ fn written_head(caller: &Caller, head: &Head, numbers: &Numbers, end: u64, now: 
 fn clear_gap<T: TreeDisk>(disk: &mut T, head: &Head, offset: u64) -> Result<(), T::Fault>
     requires first { T.writes disk.old ≡ [] }
     requires fits { offset ≤ MOST_BYTES }
-    ensures { IfOk result (λ _. ClearsGap (T.may_be disk.old) (T.may_be disk.new) (T.writes disk.new) head.now offset) }
+    ensures clears { IfOk result (λ _. ClearsGap (T.may_be disk.old) (T.may_be disk.new) (T.writes disk.new) head.now offset) }
+    ensures few { IfOk result (λ _. length (T.writes disk.new) ≤ 1) }
 {
     match gap_of(disk, head, offset)? {
         None => Ok(()),
@@ -298,7 +307,8 @@ fn put_places<T: TreeDisk>(
     requires old_sized { AreSized change.now.reach change.now.old }
     requires new_sized { AreSized change.now.reach change.now.new }
     requires whole { length image.now ≡ 4096 * change.now.reach.blocks }
-    ensures { IfOk result (λ _. LaysBlocks (T.may_be disk.old) (T.may_be disk.new) (T.writes disk.old) (T.writes disk.new) number (laying_at change.now image.now) (reach_count change.now.reach)) }
+    ensures lays { IfOk result (λ _. LaysBlocks (T.may_be disk.old) (T.may_be disk.new) (T.writes disk.old) (T.writes disk.new) number (laying_at change.now image.now) (reach_count change.now.reach)) }
+    ensures few { IfOk result (λ _. length (T.writes disk.new) ≤ length (T.writes disk.old) + 2 * reach_count change.now.reach) }
 {
     for m in 0..reach_count(change.reach) {
         put_place(disk, number, change, m, image)?;
@@ -319,7 +329,8 @@ fn put_place<T: TreeDisk>(
     requires new_sized { AreSized change.now.reach change.now.new }
     requires low { m < reach_count change.now.reach }
     requires whole { length image.now ≡ 4096 * change.now.reach.blocks }
-    ensures { IfOk result (λ _. LaysAt (T.may_be disk.old) (T.may_be disk.new) (T.writes disk.old) (T.writes disk.new) number (laying_at change.now image.now m)) }
+    ensures lays { IfOk result (λ _. LaysAt (T.may_be disk.old) (T.may_be disk.new) (T.writes disk.old) (T.writes disk.new) number (laying_at change.now image.now m)) }
+    ensures few { IfOk result (λ _. length (T.writes disk.new) ≤ length (T.writes disk.old) + 2) }
 {
     if is_kept(change, m) {
         return Ok(());
@@ -393,7 +404,8 @@ fn put_piece<T: TreeDisk>(
 ) -> Result<(), T::Fault>
     requires low { place < 2 ^ 32 }
     requires whole { length piece.now ≡ 4096 }
-    ensures { IfOk result (λ _. LaysOne (T.may_be disk.old) (T.may_be disk.new) (T.writes disk.old) (T.writes disk.new) number blocks.0 blocks.1 place piece.now) }
+    ensures lays { IfOk result (λ _. LaysOne (T.may_be disk.old) (T.may_be disk.new) (T.writes disk.old) (T.writes disk.new) number blocks.0 blocks.1 place piece.now) }
+    ensures few { IfOk result (λ _. length (T.writes disk.new) ≤ length (T.writes disk.old) + 2) }
 {
     let zeros = disk.zero_block()?;
     let value = value_of(zeros, piece);

@@ -44,7 +44,8 @@ pub fn read<T: TreeDisk>(
     count: u32,
 ) -> Result<Result<ReadReply, Status>, T::Fault>
     requires first { T.writes disk.old ≡ [] }
-    ensures { IfOk result (λ reply. (now : Time) → Does (T.may_be disk.new) (T.writes disk.new) (read_call handle offset count) caller.now now (bytes_read (portion_told reply))) }
+    ensures does { IfOk result (λ reply. (now : Time) → Does (T.may_be disk.new) (T.writes disk.new) (read_call handle offset count) caller.now now (bytes_read (portion_told reply))) }
+    ensures unwritten { T.writes disk.new ≡ [] }
 {
     match node(disk, handle)? {
         None => Ok(Err(Status::Stale)),

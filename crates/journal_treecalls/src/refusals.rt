@@ -33,7 +33,8 @@ pub fn mknod<T: TreeDisk>(
     name: &[u8],
 ) -> Result<Status, T::Fault>
     requires first { T.writes disk.old ≡ [] }
-    ensures { IfOk result (λ status. (now : Time) → Does (T.may_be disk.new) (T.writes disk.new) (mknod_call directory name.now) caller.now now (not_done (Err status))) }
+    ensures does { IfOk result (λ status. (now : Time) → Does (T.may_be disk.new) (T.writes disk.new) (mknod_call directory name.now) caller.now now (not_done (Err status))) }
+    ensures unwritten { T.writes disk.new ≡ [] }
 {
     refuse_making(disk, caller, directory, name)
 }
@@ -54,7 +55,8 @@ pub fn link<T: TreeDisk>(
     name: &[u8],
 ) -> Result<Status, T::Fault>
     requires first { T.writes disk.old ≡ [] }
-    ensures { IfOk result (λ status. (now : Time) → Does (T.may_be disk.new) (T.writes disk.new) (link_call handle directory name.now) caller.now now (not_done (Err status))) }
+    ensures does { IfOk result (λ status. (now : Time) → Does (T.may_be disk.new) (T.writes disk.new) (link_call handle directory name.now) caller.now now (not_done (Err status))) }
+    ensures unwritten { T.writes disk.new ≡ [] }
 {
     match node(disk, handle)? {
         None => Ok(Status::Stale),

@@ -100,7 +100,8 @@ pub fn rename<T: TreeDisk>(
 ) -> Result<Result<Renamed, Status>, T::Fault>
     requires first { T.writes disk.old ≡ [] }
     requires time { IsTime now }
-    ensures { IfOk result (λ reply. Does (T.may_be disk.new) (T.writes disk.new) (rename_call source.now.directory source.now.name.now goal.now.directory goal.now.name.now) caller.now now (renamed reply)) }
+    ensures does { IfOk result (λ reply. Does (T.may_be disk.new) (T.writes disk.new) (rename_call source.now.directory source.now.name.now goal.now.directory goal.now.name.now) caller.now now (renamed reply)) }
+    ensures few { IfOk result (λ _. length (T.writes disk.new) ≤ 6) }
 {
     are_words(*caller);
     let (name, new_name) = (source.name, goal.name);
@@ -182,7 +183,8 @@ fn rename_on<T: TreeDisk>(
 ) -> Result<Result<Renamed, Status>, T::Fault>
     requires first { T.writes disk.old ≡ [] }
     requires time { IsTime now }
-    ensures { IfOk result (Renames (T.may_be disk.old) (T.may_be disk.new) (T.writes disk.new) caller.now way.now name.now new_name.now now) }
+    ensures renames { IfOk result (Renames (T.may_be disk.old) (T.may_be disk.new) (T.writes disk.new) caller.now way.now name.now new_name.now now) }
+    ensures few { IfOk result (λ _. length (T.writes disk.new) ≤ 6) }
 {
     match names_status(name, new_name) {
         Some(status) => Ok(Err(status)),
@@ -214,7 +216,8 @@ fn rename_named<T: TreeDisk>(
     requires first { T.writes disk.old ≡ [] }
     requires time { IsTime now }
     requires short { length new_name.now ≤ MOST_NAME }
-    ensures { IfOk result (RenamesNamed (T.may_be disk.old) (T.may_be disk.new) (T.writes disk.new) caller.now way.now name.now new_name.now now) }
+    ensures renames { IfOk result (RenamesNamed (T.may_be disk.old) (T.may_be disk.new) (T.writes disk.new) caller.now way.now name.now new_name.now now) }
+    ensures few { IfOk result (λ _. length (T.writes disk.new) ≤ 6) }
 {
     match decide(disk, caller, way, name, new_name, spare)? {
         Ok(decision) => {
@@ -237,7 +240,8 @@ fn perform<T: TreeDisk>(
     requires time { IsTime now }
     requires short { length new_name.now ≤ MOST_NAME }
     requires inside { IsInsideDecision decision.now }
-    ensures { IfOk result (Performs (T.may_be disk.old) (T.may_be disk.new) (T.writes disk.new) way.now decision.now new_name.now now) }
+    ensures performs { IfOk result (Performs (T.may_be disk.old) (T.may_be disk.new) (T.writes disk.new) way.now decision.now new_name.now now) }
+    ensures few { IfOk result (λ _. length (T.writes disk.new) ≤ 6) }
 {
     match *decision {
         Decision::Stays => Ok(both_same(way)),

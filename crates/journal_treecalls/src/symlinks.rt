@@ -1,5 +1,5 @@
 // SYMLINK and READLINK.
-ghost use Rattle.std.specs.Prelude.{◌≡◌, ◌<◌, ◌≤◌, [], None, IfOk, length};
+ghost use Rattle.std.specs.Prelude.{◌≡◌, ◌<◌, ◌≤◌, [], None, IfOk, length, ◌+◌};
 ghost use Rattle.journal_tree.specs.declared.caller.Caller.{Caller};
 ghost use Rattle.journal_tree.specs.declared.limits.TheConstants.{LAST_GENERATION, MOST_NAME, MOST_LINK};
 ghost use Rattle.journal_tree.specs.declared.time.Time.{Time};
@@ -53,7 +53,8 @@ struct Wanted<'a> {
 
 /// SYMLINK (RFC 1813, 3.3.10): a symbolic link of a name that the directory does not have, under the
 /// first of these numbers that is free. Its text goes into the first of these blocks that is free.
-/// The directory gets another as in `mkdir`.
+/// The directory gets another as in `mkdir`. At most seven writes are made, two of them of the
+/// link's inode.
 ///
 /// # Errors
 /// - The call is given up.
@@ -75,7 +76,8 @@ pub fn symlink<T: TreeDisk>(
 ) -> Result<Result<Made, Status>, T::Fault>
     requires first { T.writes disk.old ≡ [] }
     requires time { IsTime now }
-    ensures { IfOk result (λ reply. Does (T.may_be disk.new) (T.writes disk.new) (symlink_call directory name.now link.now.settings link.now.text.now) caller.now now (made reply)) }
+    ensures does { IfOk result (λ reply. Does (T.may_be disk.new) (T.writes disk.new) (symlink_call directory name.now link.now.settings link.now.text.now) caller.now now (made reply)) }
+    ensures few { IfOk result (λ _. length (T.writes disk.new) ≤ 7) }
 {
     are_words(*caller);
     let settings = link.settings;
@@ -148,7 +150,8 @@ fn link_found<T: TreeDisk>(
     requires time { IsTime now }
     requires named { length name.now ≤ MOST_NAME }
     requires few { link_refusal found.now wanted.now.plan ≡ None → length wanted.now.text.now ≤ MOST_LINK }
-    ensures { IfOk result (LinksFound (T.may_be disk.old) (T.may_be disk.new) (T.writes disk.new) number found.now name.now wanted.now.plan wanted.now.text.now now) }
+    ensures links { IfOk result (LinksFound (T.may_be disk.old) (T.may_be disk.new) (T.writes disk.new) number found.now name.now wanted.now.plan wanted.now.text.now now) }
+    ensures few { IfOk result (λ _. length (T.writes disk.new) ≤ 7) }
 {
     match link_refusal(found, &wanted.plan) {
         Some(status) => Ok(Err(status)),
@@ -180,7 +183,8 @@ fn link_node<T: TreeDisk>(
     requires time { IsTime now }
     requires named { length name.now ≤ MOST_NAME }
     requires few { length wanted.now.text.now ≤ MOST_LINK }
-    ensures { IfOk result (LinksNode (T.may_be disk.old) (T.may_be disk.new) (T.writes disk.new) number directory.now name.now wanted.now.plan.node wanted.now.text.now now) }
+    ensures links { IfOk result (LinksNode (T.may_be disk.old) (T.may_be disk.new) (T.writes disk.new) number directory.now name.now wanted.now.plan.node wanted.now.text.now now) }
+    ensures few { IfOk result (λ _. length (T.writes disk.new) ≤ 7) }
 {
     let blocks = spare.blocks;
     match find_room(disk, &directory.head, spare)? {
@@ -206,7 +210,8 @@ fn link_within<T: TreeDisk>(
     requires few { length wanted.now.text.now ≤ MOST_LINK }
     requires young { spare.0.number.generation < LAST_GENERATION }
     requires inside { IsInsidePlace spare.0.place }
-    ensures { IfOk result (LinksWithin (T.may_be disk.old) (T.may_be disk.new) (T.writes disk.new) number directory.now name.now wanted.now.plan.node wanted.now.text.now spare.entry.0 now) }
+    ensures links { IfOk result (LinksWithin (T.may_be disk.old) (T.may_be disk.new) (T.writes disk.new) number directory.now name.now wanted.now.plan.node wanted.now.text.now spare.entry.0 now) }
+    ensures few { IfOk result (λ _. length (T.writes disk.new) ≤ 7) }
 {
     let room = spare.0;
     let grown = widened(&directory.head, room.place);
@@ -246,7 +251,8 @@ fn put_link<T: TreeDisk>(
     requires few { length wanted.now.text.now ≤ MOST_LINK }
     requires young { room.0.number.generation < LAST_GENERATION }
     requires inside { IsInsidePlace room.0.place }
-    ensures { IfOk result (PutsLink (T.may_be disk.old) (T.may_be disk.new) (T.writes disk.new) number directory.now name.now wanted.now.plan.node wanted.now.text.now room.0 room.1 now) }
+    ensures puts { IfOk result (PutsLink (T.may_be disk.old) (T.may_be disk.new) (T.writes disk.new) number directory.now name.now wanted.now.plan.node wanted.now.text.now room.0 room.1 now) }
+    ensures few { IfOk result (λ _. length (T.writes disk.new) ≤ 7) }
 {
     let free = room.0.number;
     let place = room.0.place;
@@ -281,7 +287,8 @@ fn put_text<T: TreeDisk>(
 ) -> Result<(), T::Fault>
     requires named { length name.now ≤ MOST_NAME }
     requires few { length text.now ≤ MOST_LINK }
-    ensures { IfOk result (λ _. PutsText (T.may_be disk.old) (T.may_be disk.new) (T.writes disk.old) (T.writes disk.new) number link.now name.now block text.now) }
+    ensures puts { IfOk result (λ _. PutsText (T.may_be disk.old) (T.may_be disk.new) (T.writes disk.old) (T.writes disk.new) number link.now name.now block text.now) }
+    ensures few { IfOk result (λ _. length (T.writes disk.new) ≤ length (T.writes disk.old) + 3) }
 {
     let zeros = disk.zero_block()?;
     let head = with_first(link, block);
@@ -317,7 +324,8 @@ pub fn readlink<T: TreeDisk>(
     handle: Handle,
 ) -> Result<Result<LinkReply, Status>, T::Fault>
     requires first { T.writes disk.old ≡ [] }
-    ensures { IfOk result (λ reply. (caller : Caller) (now : Time) → Does (T.may_be disk.new) (T.writes disk.new) (readlink_call handle) caller now (link_read (link_told reply))) }
+    ensures does { IfOk result (λ reply. (caller : Caller) (now : Time) → Does (T.may_be disk.new) (T.writes disk.new) (readlink_call handle) caller now (link_read (link_told reply))) }
+    ensures unwritten { T.writes disk.new ≡ [] }
 {
     match node(disk, handle)? {
         None => Ok(Err(Status::Stale)),

@@ -24,7 +24,7 @@ use journal_treestore::Head;
 
 /// CREATE in the mode UNCHECKED (RFC 1813, 3.3.8): a file of a name. If the directory has a file of
 /// the name, it is this one, and only its size is set, if one is asked for. Else one is made as by
-/// `create_guarded`.
+/// `create_guarded`. At most four objects are written.
 ///
 /// # Errors
 /// - The call is given up.
@@ -47,7 +47,8 @@ pub fn create_unchecked<T: TreeDisk>(
 ) -> Result<Result<Made, Status>, T::Fault>
     requires first { T.writes disk.old ≡ [] }
     requires time { IsTime now }
-    ensures { IfOk result (λ reply. Does (T.may_be disk.new) (T.writes disk.new) (create_call directory name.now (Unchecked settings)) caller.now now (made reply)) }
+    ensures does { IfOk result (λ reply. Does (T.may_be disk.new) (T.writes disk.new) (create_call directory name.now (Unchecked settings)) caller.now now (made reply)) }
+    ensures few { IfOk result (λ _. length (T.writes disk.new) ≤ 4) }
 {
     are_words(*caller);
     are_asked(settings);
@@ -89,7 +90,8 @@ fn create_found<T: TreeDisk>(
     requires first { T.writes disk.old ≡ [] }
     requires time { IsTime now }
     requires named { length name.now ≤ MOST_NAME }
-    ensures { IfOk result (Creates (T.may_be disk.old) (T.may_be disk.new) (T.writes disk.new) caller.now wanted.now.directory found.now name.now wanted.now.plan wanted.now.size now) }
+    ensures creates { IfOk result (Creates (T.may_be disk.old) (T.may_be disk.new) (T.writes disk.new) caller.now wanted.now.directory found.now name.now wanted.now.plan wanted.now.size now) }
+    ensures few { IfOk result (λ _. length (T.writes disk.new) ≤ 4) }
 {
     let number = wanted.directory;
     match found.hit {
@@ -122,7 +124,8 @@ fn take_over<T: TreeDisk>(
     requires first { T.writes disk.old ≡ [] }
     requires time { IsTime now }
     requires named { length name.now ≤ MOST_NAME }
-    ensures { IfOk result (TakesOver (T.may_be disk.old) (T.may_be disk.new) (T.writes disk.new) caller.now directory hit.now name.now size now) }
+    ensures takes { IfOk result (TakesOver (T.may_be disk.old) (T.may_be disk.new) (T.writes disk.new) caller.now directory hit.now name.now size now) }
+    ensures few { IfOk result (λ _. length (T.writes disk.new) ≤ 3) }
 {
     match taking_status(caller, &hit.head, size) {
         Some(status) => Ok(Err(status)),
@@ -172,7 +175,8 @@ fn set_size<T: TreeDisk>(
     requires first { T.writes disk.old ≡ [] }
     requires time { IsTime now }
     requires named { length name.now ≤ MOST_NAME }
-    ensures { IfOk result (SizesAny (T.may_be disk.old) (T.may_be disk.new) (T.writes disk.new) caller.now hit.now name.now size now) }
+    ensures sizes { IfOk result (SizesAny (T.may_be disk.old) (T.may_be disk.new) (T.writes disk.new) caller.now hit.now name.now size now) }
+    ensures few { IfOk result (λ _. length (T.writes disk.new) ≤ 3) }
 {
     match size {
         None => Ok(hit.head),
@@ -192,7 +196,8 @@ fn set_some_size<T: TreeDisk>(
     requires first { T.writes disk.old ≡ [] }
     requires time { IsTime now }
     requires named { length name.now ≤ MOST_NAME }
-    ensures { IfOk result (Sizes (T.may_be disk.old) (T.may_be disk.new) (T.writes disk.new) caller.now hit.now name.now size now) }
+    ensures sizes { IfOk result (Sizes (T.may_be disk.old) (T.may_be disk.new) (T.writes disk.new) caller.now hit.now name.now size now) }
+    ensures few { IfOk result (λ _. length (T.writes disk.new) ≤ 3) }
 {
     let record = record_of(hit.head, name);
     let settings = size_alone(size);

@@ -10,8 +10,8 @@ plant-requires-clause-inside g c = subst IsInsidePlace c.in-Here.is c.requires.i
 pub plant_further-requires-clause-few : goal.plant_further-requires-clause-few
 plant_further-requires-clause-few g c = subst IsInsidePlace c.in-Further.is c.requires.inside
 
-pub returns-in-Here : goal.returns-in-Here
-returns-in-Here g c = IfOk-like c.plant.result _ _ (λ made k. plants-at _ _ _ c.args.number c.args.directory.now c.args.name.now c.args.node.now c.args.room.number c.args.room.place _ c.args.now made c.in-Here.is k) c.plant.ensures
+pub returns-in-Here-clause-plants : goal.returns-in-Here-clause-plants
+returns-in-Here-clause-plants g c = IfOk-like c.plant.result _ _ (λ made k. plants-at _ _ _ c.args.number c.args.directory.now c.args.name.now c.args.node.now c.args.room.number c.args.room.place _ c.args.now made c.in-Here.is k) c.plant.ensures.plants
 
-pub returns-in-Further : goal.returns-in-Further
-returns-in-Further g c = IfOk-like c.plant_further.result _ _ (λ made k. plants-at _ _ _ c.args.number c.args.directory.now c.args.name.now c.args.node.now c.args.room.number c.args.room.place _ c.args.now made c.in-Further.is k) c.plant_further.ensures
+pub returns-in-Further-clause-plants : goal.returns-in-Further-clause-plants
+returns-in-Further-clause-plants g c = IfOk-like c.plant_further.result _ _ (λ made k. plants-at _ _ _ c.args.number c.args.directory.now c.args.name.now c.args.node.now c.args.room.number c.args.room.place _ c.args.now made c.in-Further.is k) c.plant_further.ensures.plants

@@ -3,13 +3,17 @@ use Rattle.journal_treecalls.specs.Names.{HasKind}
 use Rattle.journal_treecalls.proofs.Naming.{name-short}
 use Rattle.journal_treecalls.proofs.Learned.{IfOk-like}
 use Rattle.journal_treecalls.proofs.Takeovers.{unchecked-err, unchecked-ok}
+use Rattle.journal_treecalls.proofs.Learning.{none-few}
 use Rattle.journal_treecalls.proofs.unchecked.create_unchecked.Goals as goal
 
 pub create_found-requires-clause-named : goal.create_found-requires-clause-named
 create_found-requires-clause-named g c = name-short c.args.name.now (subst (HasKind c.args.name.now) c.in-Ok.is c.in_ok-found.ensures.named)
 
-pub returns-in-Ok : goal.returns-in-Ok
-returns-in-Ok g c = IfOk-like c.create_found.result _ _ (λ reply k. unchecked-ok _ _ _ (g.T.TreeDisk.are_sound c.create_found.new.disk) _ c.args.directory c.args.name.now c.args.caller.now c.args.settings c.args.now _ c.in_ok-found.ensures.learns c.in-Ok.found c.in-Ok.is c.are_asked.ensures c.are_words.ensures c.requires.time c.create_plan-plan.result c.create_plan-plan.ensures reply k) c.create_found.ensures
+pub returns-in-Ok-clause-does : goal.returns-in-Ok-clause-does
+returns-in-Ok-clause-does g c = IfOk-like c.create_found.result _ _ (λ reply k. unchecked-ok _ _ _ (g.T.TreeDisk.are_sound c.create_found.new.disk) _ c.args.directory c.args.name.now c.args.caller.now c.args.settings c.args.now _ c.in_ok-found.ensures.learns c.in-Ok.found c.in-Ok.is c.are_asked.ensures c.are_words.ensures c.requires.time c.create_plan-plan.result c.create_plan-plan.ensures reply k) c.create_found.ensures.creates
 
-pub returns-in-Err : goal.returns-in-Err
-returns-in-Err g c = unchecked-err _ _ _ (g.T.TreeDisk.are_sound c.find_name.new.disk) _ c.args.directory c.args.name.now c.args.caller.now c.args.settings c.args.now _ c.in_ok-found.ensures.learns c.in-Err.status c.in_ok-found.ensures.first c.in-Err.is (λ V m. m)
+pub returns-in-Err-clause-does : goal.returns-in-Err-clause-does
+returns-in-Err-clause-does g c = unchecked-err _ _ _ (g.T.TreeDisk.are_sound c.find_name.new.disk) _ c.args.directory c.args.name.now c.args.caller.now c.args.settings c.args.now _ c.in_ok-found.ensures.learns c.in-Err.status c.in_ok-found.ensures.first c.in-Err.is (λ V m. m)
+
+pub returns-in-Err-clause-few : goal.returns-in-Err-clause-few
+returns-in-Err-clause-few g c = none-few _ 4 c.in_ok-found.ensures.first
