@@ -1,5 +1,5 @@
 -- A call in the history, and why an attempt at one is undone.
-use Rattle.std.specs.Prelude.{ℕ, ◌≡◌, ◌≤◌, ◌+◌, IsTrue, List, [], ◌∷◌, ◌++◌, length, take, Option, Some, None, slice_get}
+use Rattle.std.specs.Prelude.{ℕ, ◌≡◌, ◌<◌, ◌≤◌, ◌+◌, IsTrue, List, [], ◌∷◌, ◌++◌, length, take, Option, Some, None, slice_get}
 use mathlib.Core.List.{IsPrefix}
 use Rattle.journal_world.specs.declared.address.Addr.{Addr}
 use Rattle.journal_world.specs.declared.refusal.Refusal.{Refusal}
@@ -7,6 +7,7 @@ use Rattle.journal_world.specs.declared.refusal.Refusal.TheVariants.{NoMemory as
 use Rattle.journal_world.specs.Maps.{Transaction, apply}
 use Rattle.journal_world.specs.Histories.{Entry, commits_of, count, is_trusted, at, latest}
 use Rattle.journal_world.specs.Histories.Entry.{commit}
+use Rattle.journal_tail.specs.declared.limits.TheConstants.{MAX_UPDATES}
 use Rattle.journal_history.specs.Tokens.{SessionState, IsExact, CommitPlace}
 use Rattle.journal_memory.specs.declared.refusal_number.RefusalNumber.TheVariants.{J6, J9, J10, J11, J13}
 use Rattle.journal_memory.specs.Causes.{CauseState, IsUnexplained}
@@ -63,21 +64,23 @@ fault_of NoMemory refused = Refused NoMemoryRefusal
 fault_of GivenUp (Some fault) = fault
 fault_of GivenUp None = Refused NoMemoryRefusal
 
--- Why a call on a tree is refused: never for the size of a value, and never for room
-abbrev pub IsTreeRefusal : Refusal CauseState → Type 0
-IsTreeRefusal NoMemoryRefusal = Unit {0}
-IsTreeRefusal BadAddress = Unit {0}
-IsTreeRefusal TooLarge = Unit {0}
-IsTreeRefusal Busy = Unit {0}
-IsTreeRefusal (DeviceFailed cause) = IsUnexplained J6 cause
-IsTreeRefusal (Stale cause) = IsShown J9 cause
-IsTreeRefusal (Stranger cause) = IsShown J10 cause
-IsTreeRefusal (Worn cause) = IsUnexplained J11 cause
-IsTreeRefusal (Closed cause) = IsUnexplained J13 cause
-IsTreeRefusal Fenced = Unit {0}
-IsTreeRefusal other = ⊥
+-- Why a call on a tree is refused that makes at most so many writes: for the number of its blocks
+-- only where they are more than a transaction has room for, never for the size of a value, and
+-- never for room
+abbrev pub IsTreeRefusal : ℕ → Refusal CauseState → Type 0
+IsTreeRefusal most NoMemoryRefusal = Unit {0}
+IsTreeRefusal most BadAddress = Unit {0}
+IsTreeRefusal most TooLarge = MAX_UPDATES < most
+IsTreeRefusal most Busy = Unit {0}
+IsTreeRefusal most (DeviceFailed cause) = IsUnexplained J6 cause
+IsTreeRefusal most (Stale cause) = IsShown J9 cause
+IsTreeRefusal most (Stranger cause) = IsShown J10 cause
+IsTreeRefusal most (Worn cause) = IsUnexplained J11 cause
+IsTreeRefusal most (Closed cause) = IsUnexplained J13 cause
+IsTreeRefusal most Fenced = Unit {0}
+IsTreeRefusal most other = ⊥
 
 -- Why an attempt at one is undone
-abbrev pub IsAttemptEnd : AttemptFault CauseState → Type 0
-IsAttemptEnd (Held addr) = Unit {0}
-IsAttemptEnd (Refused why) = IsTreeRefusal why
+abbrev pub IsAttemptEnd : ℕ → AttemptFault CauseState → Type 0
+IsAttemptEnd most (Held addr) = Unit {0}
+IsAttemptEnd most (Refused why) = IsTreeRefusal most why

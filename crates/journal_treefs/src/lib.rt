@@ -8,10 +8,12 @@
 #![tactic(auto)]
 
 mod fault;
+mod law;
 mod store;
 mod transaction;
 
 pub use fault::AttemptFault;
 pub use journal_treerule::TreeRule;
+pub use law::a_transfer_fits_a_transaction;
 pub use store::{Committed, TreeStore};
 pub use transaction::JournalTransaction;

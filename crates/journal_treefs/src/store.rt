@@ -143,6 +143,8 @@ impl<'b, D: BlockDisk, R: TreeRule, J: Naming> TreeStore<'b, D, R, J> {
     ///   transaction held its slot.
     /// - `J2 BadAddress`: a number on the disk names no object of it. A sound disk has none such.
     /// - `J1 NoMemory`: memory is refused.
+    /// - `J4 TooLarge`: the call makes more writes than a transaction has room for. Only a WRITE of
+    ///   more than `TRANSFER_BYTES` bytes may.
     /// - All others: those of `Txn::read` and `Txn::commit`.
     pub fn run<O: TreeOperation, W: Wait>(
         &self,
@@ -155,7 +157,7 @@ impl<'b, D: BlockDisk, R: TreeRule, J: Naming> TreeStore<'b, D, R, J> {
         ensures committed { IfOk result (λ done. IsCommittedCall self.now.cut (O.call operation.now) asking.caller asking.now
             session.old session.new (O.told done.reply) done.receipt) }
         ensures session { OnErr result (OnlyExtends session.old session.new) }
-        ensures refusal { IfErr result IsTreeRefusal }
+        ensures refusal { IfErr result (IsTreeRefusal (O.most operation.now)) }
     {
         let mut first = Vec::new(self.alloc);
         for _ in 0..RETRIES {
@@ -186,7 +188,7 @@ impl<'b, D: BlockDisk, R: TreeRule, J: Naming> TreeStore<'b, D, R, J> {
         ensures committed { IfOk result (λ done. IsCommittedCall self.now.cut (O.call operation.now) asking.caller asking.now
             session.old session.new (O.told done.reply) done.receipt) }
         ensures session { OnErr result (OnlyExtends session.old session.new) }
-        ensures refusal { IfErr result IsAttemptEnd }
+        ensures refusal { IfErr result (IsAttemptEnd (O.most operation.now)) }
     {
         let txn = self.journal.begin(self.alloc, session);
         let mut transaction = JournalTransaction { rt, txn };

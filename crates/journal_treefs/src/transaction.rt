@@ -1,6 +1,7 @@
 // A transaction of a journal, as one on objects.
 ghost use Rattle.std.specs.Prelude.{◌≡◌, [], IfOk, IfErr, OnErr};
 ghost use Rattle.journal_world.specs.Maps.{Map, Agrees, overwritten};
+ghost use Rattle.journal_tail.specs.Writes.{written_blocks};
 ghost use Rattle.journal_history.specs.Tokens.{OnlyExtends};
 ghost use Rattle.journal_twophase.specs.Transactions.{core_of};
 ghost use Rattle.journal_twophase.specs.Commits.{IsCommitted};
@@ -31,7 +32,7 @@ impl<'t, 'j, 'b, D: BlockDisk, R: MapRule, J: Naming, W: Wait> ObjectTransaction
 
     type Fault = AttemptFault<Cause<'b, J, R>>;
 
-    ghost is_fault = { IsAttemptEnd };
+    ghost is_fault = { IsAttemptEnd 0 };
 
     ghost layout = { λ t. J.layout };
 
@@ -69,7 +70,7 @@ impl<'t, 'j, 'b, D: BlockDisk, R: MapRule, J: Naming, W: Wait> JournalTransactio
     pub(crate) fn read_all(&mut self, addrs: &[Addr]) -> Result<(), AttemptFault<Cause<'b, J, R>>>
         requires unwritten { self.old.txn.writes ≡ [] }
         ensures unwritten { self.new.txn.writes ≡ [] }
-        ensures fault { IfErr result IsAttemptEnd }
+        ensures fault { IfErr result (IsAttemptEnd 0) }
     {
         for addr in addrs {
             self.read(*addr)?;
@@ -89,7 +90,7 @@ impl<'t, 'j, 'b, D: BlockDisk, R: MapRule, J: Naming, W: Wait> JournalTransactio
             → R.statement (overwritten m self.txn.writes) }
         ensures committed { IfOk result (IsCommitted R.statement J.layout self.entry.txn.began (core_of self.entry.txn) session.old session.new) }
         ensures session { OnErr result (OnlyExtends session.old session.new) }
-        ensures refusal { IfErr result IsTreeRefusal }
+        ensures refusal { IfErr result (IsTreeRefusal (written_blocks self.entry.txn.writes)) }
     {
         let JournalTransaction { rt, txn } = self;
         txn.commit(rt, session)

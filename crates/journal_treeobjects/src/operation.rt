@@ -1,5 +1,5 @@
 // A call as one transaction.
-ghost use Rattle.std.specs.Prelude.{◌≡◌, [], IfOk};
+ghost use Rattle.std.specs.Prelude.{ℕ, ◌≡◌, ◌≤◌, [], IfOk, length};
 ghost use Rattle.journal_tree.specs.Times.{IsTime};
 ghost use Rattle.journal_tree.specs.Op.{Call, Reply};
 ghost use Rattle.journal_treecalls.specs.Disks.{Does};
@@ -25,6 +25,9 @@ pub trait TreeOperation {
     /// The answer by the definitions.
     ghost told: { Self.Reply → Reply };
 
+    /// The most writes that it makes.
+    ghost most: { Self → ℕ };
+
     /// Does the call on a disk of which nothing was read and nothing is written.
     ///
     /// # Errors
@@ -32,5 +35,6 @@ pub trait TreeOperation {
     fn attempt<T: TreeDisk>(&self, asking: Asking, disk: &mut T) -> Result<Self::Reply, T::Fault>
         requires first { T.writes disk.old ≡ [] }
         requires time { IsTime asking.now }
-        ensures { IfOk result (λ reply. Does (T.may_be disk.new) (T.writes disk.new) (call self.now) asking.caller asking.now (told reply)) };
+        ensures does { IfOk result (λ reply. Does (T.may_be disk.new) (T.writes disk.new) (call self.now) asking.caller asking.now (told reply)) }
+        ensures few { IfOk result (λ _. length (T.writes disk.new) ≤ most self.now) };
 }

@@ -94,13 +94,15 @@ impl<T: ObjectTransaction> TreeTransaction<T> {
     }
 
     /// Gives all writes to the transaction. A call that was done on the disk is then done on each
-    /// map that the transaction may be committed over.
+    /// map that the transaction may be committed over, and the transaction overwrites the objects
+    /// that the call wrote, and no others.
     pub fn finish(self) -> Finished<T>
         ensures cut { IsCut self.cut }
         ensures whole { IsWhole self.cut }
         ensures layout { T.layout result.transaction ≡ shape_of self.cut }
         ensures calls { (call : Call) (caller : Caller) (now : Time) (reply : Reply) → Does (may_be self) self.writes call caller now reply
             → OnOk result.outcome (DoesOnMaps self.cut (T.reads result.transaction) (T.writes result.transaction) call caller now reply) }
+        ensures writes { OnOk result.outcome (SamePairs (T.writes result.transaction) (pairs_of self.cut self.writes)) }
         ensures fault { IfErr result.outcome T.is_fault }
     {
         let TreeTransaction {

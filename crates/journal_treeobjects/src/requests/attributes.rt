@@ -19,6 +19,8 @@ impl TreeOperation for GetAttr {
 
     ghost told = { got };
 
+    ghost most = { λ o. 0 };
+
     fn attempt<T: TreeDisk>(
         &self,
         _asking: Asking,
@@ -46,6 +48,8 @@ impl TreeOperation for SetAttr {
     ghost call = { λ o. setattr o.handle o.settings o.guard };
 
     ghost told = { set };
+
+    ghost most = { λ o. 3 };
 
     fn attempt<T: TreeDisk>(
         &self,
@@ -75,6 +79,8 @@ impl TreeOperation for Access {
     ghost call = { λ o. access o.handle o.asked };
 
     ghost told = { λ reply. accessed (access_told reply) };
+
+    ghost most = { λ o. 0 };
 
     fn attempt<T: TreeDisk>(
         &self,

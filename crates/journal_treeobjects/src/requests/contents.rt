@@ -22,6 +22,8 @@ impl TreeOperation for Read {
 
     ghost told = { λ reply. bytes_read (portion_told reply) };
 
+    ghost most = { λ o. 0 };
+
     fn attempt<T: TreeDisk>(
         &self,
         asking: Asking,
@@ -41,14 +43,18 @@ pub struct Write<'n> {
 }
 
 impl<'n> TreeOperation for Write<'n> {
+    ghost use Rattle.std.specs.Prelude.{length};
     ghost use Rattle.journal_tree.specs.Op.Call.{write};
     ghost use Rattle.journal_tree.specs.Op.Reply.{wrote};
+    ghost use Rattle.journal_treecalls.specs.Counts.{most_written};
 
     type Reply = Result<Changed, Status>;
 
     ghost call = { λ o. write o.handle o.bytes.offset o.bytes.count o.bytes.bytes.now };
 
     ghost told = { wrote };
+
+    ghost most = { λ o. most_written (length o.bytes.bytes.now) };
 
     fn attempt<T: TreeDisk>(
         &self,
@@ -76,6 +82,8 @@ impl TreeOperation for Commit {
 
     ghost told = { committed };
 
+    ghost most = { λ o. 0 };
+
     fn attempt<T: TreeDisk>(
         &self,
         _asking: Asking,
@@ -101,6 +109,8 @@ impl TreeOperation for ReadLink {
     ghost call = { λ o. readlink o.handle };
 
     ghost told = { λ reply. link_read (link_told reply) };
+
+    ghost most = { λ o. 0 };
 
     fn attempt<T: TreeDisk>(
         &self,

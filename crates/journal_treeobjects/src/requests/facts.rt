@@ -21,6 +21,8 @@ impl TreeOperation for FsStat {
 
     ghost told = { space };
 
+    ghost most = { λ o. 0 };
+
     fn attempt<T: TreeDisk>(
         &self,
         _asking: Asking,
@@ -47,6 +49,8 @@ impl TreeOperation for FsInfo {
 
     ghost told = { λ reply. facts (facts_told reply) };
 
+    ghost most = { λ o. 0 };
+
     fn attempt<T: TreeDisk>(
         &self,
         _asking: Asking,
@@ -72,6 +76,8 @@ impl TreeOperation for PathConf {
     ghost call = { λ o. pathconf o.handle };
 
     ghost told = { λ reply. name_facts (name_facts_told reply) };
+
+    ghost most = { λ o. 0 };
 
     fn attempt<T: TreeDisk>(
         &self,

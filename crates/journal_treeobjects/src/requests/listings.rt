@@ -23,6 +23,8 @@ impl TreeOperation for ReadDir {
 
     ghost told = { λ reply. listed (listed_told reply) };
 
+    ghost most = { λ o. 0 };
+
     fn attempt<T: TreeDisk>(
         &self,
         asking: Asking,
@@ -53,6 +55,8 @@ impl TreeOperation for ReadDirPlus {
     ghost call = { λ o. readdirplus o.handle o.cookie o.names o.most };
 
     ghost told = { λ reply. listed_plus (listed_plus_told reply) };
+
+    ghost most = { λ o. 0 };
 
     fn attempt<T: TreeDisk>(
         &self,

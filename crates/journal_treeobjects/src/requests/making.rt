@@ -27,6 +27,8 @@ impl<'n> TreeOperation for CreateGuarded<'n> {
 
     ghost told = { made };
 
+    ghost most = { λ o. 4 };
+
     fn attempt<T: TreeDisk>(
         &self,
         asking: Asking,
@@ -59,6 +61,8 @@ impl<'n> TreeOperation for CreateUnchecked<'n> {
     ghost call = { λ o. create o.directory o.name.now (Unchecked o.settings) };
 
     ghost told = { made };
+
+    ghost most = { λ o. 4 };
 
     fn attempt<T: TreeDisk>(
         &self,
@@ -94,6 +98,8 @@ impl<'n> TreeOperation for CreateExclusive<'n> {
 
     ghost told = { made };
 
+    ghost most = { λ o. 4 };
+
     fn attempt<T: TreeDisk>(
         &self,
         asking: Asking,
@@ -125,6 +131,8 @@ impl<'n> TreeOperation for MkDir<'n> {
     ghost call = { λ o. mkdir o.directory o.name.now o.settings };
 
     ghost told = { made };
+
+    ghost most = { λ o. 4 };
 
     fn attempt<T: TreeDisk>(
         &self,
@@ -158,6 +166,8 @@ impl<'n> TreeOperation for SymLink<'n> {
 
     ghost told = { made };
 
+    ghost most = { λ o. 7 };
+
     fn attempt<T: TreeDisk>(
         &self,
         asking: Asking,
@@ -187,6 +197,8 @@ impl<'n> TreeOperation for MkNod<'n> {
 
     ghost told = { λ status. not_done (Err status) };
 
+    ghost most = { λ o. 0 };
+
     fn attempt<T: TreeDisk>(&self, asking: Asking, disk: &mut T) -> Result<Status, T::Fault> {
         mknod(disk, &asking.caller, self.directory, self.name)
     }
@@ -210,6 +222,8 @@ impl<'n> TreeOperation for Link<'n> {
     ghost call = { λ o. link o.handle o.directory o.name.now };
 
     ghost told = { λ status. not_done (Err status) };
+
+    ghost most = { λ o. 0 };
 
     fn attempt<T: TreeDisk>(&self, asking: Asking, disk: &mut T) -> Result<Status, T::Fault> {
         link(disk, &asking.caller, self.handle, self.directory, self.name)

@@ -20,6 +20,8 @@ impl<'n> TreeOperation for Lookup<'n> {
 
     ghost told = { found };
 
+    ghost most = { λ o. 0 };
+
     fn attempt<T: TreeDisk>(
         &self,
         asking: Asking,
@@ -45,6 +47,8 @@ impl<'n> TreeOperation for Remove<'n> {
     ghost call = { λ o. remove o.directory o.name.now };
 
     ghost told = { removed };
+
+    ghost most = { λ o. 3 };
 
     fn attempt<T: TreeDisk>(
         &self,
@@ -72,6 +76,8 @@ impl<'n> TreeOperation for RmDir<'n> {
     ghost call = { λ o. rmdir o.directory o.name.now };
 
     ghost told = { removed };
+
+    ghost most = { λ o. 3 };
 
     fn attempt<T: TreeDisk>(
         &self,
@@ -105,6 +111,8 @@ impl<'n> TreeOperation for Rename<'n> {
     ghost call = { λ o. rename o.source o.name.now o.goal o.new_name.now };
 
     ghost told = { renamed };
+
+    ghost most = { λ o. 6 };
 
     fn attempt<T: TreeDisk>(
         &self,

@@ -20,3 +20,10 @@ returns-clause-calls g c =
     (subst (λ ws. SamePairs (g.T.ObjectTransaction.writes c.overwrite_all-outcome.new.transaction) (pairs_of c.self.inside.cut (last_first ws []))) c.deref.ensures.value same)
     call caller now reply does)
     c.overwrite_all-outcome.ensures.writes)
+
+pub returns-clause-writes : goal.returns-clause-writes
+returns-clause-writes g c =
+    subst (λ (s : TreeState). OnOk c.overwrite_all-outcome.result (SamePairs (g.T.ObjectTransaction.writes c.overwrite_all-outcome.new.transaction) (pairs_of s.cut s.writes))) c.self.view_is
+    (on_ok_weaker c.overwrite_all-outcome.result
+    (subst (λ ws. SamePairs (g.T.ObjectTransaction.writes c.overwrite_all-outcome.new.transaction) (pairs_of c.self.inside.cut (last_first ws []))) c.deref.ensures.value)
+    c.overwrite_all-outcome.ensures.writes)
