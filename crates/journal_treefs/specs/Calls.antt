@@ -64,8 +64,8 @@ fault_of NoMemory refused = Refused NoMemoryRefusal
 fault_of GivenUp (Some fault) = fault
 fault_of GivenUp None = Refused NoMemoryRefusal
 
--- Why a call on a tree is refused that makes at most so many writes: for the number of its blocks
--- only where they are more than a transaction has room for, never for the size of a value, and
+-- Why a call on a tree is refused that makes at most `most` writes: for the number of its blocks
+-- only where these are more than a transaction has room for, never for the size of a value, and
 -- never for room
 abbrev pub IsTreeRefusal : ℕ → Refusal CauseState → Type 0
 IsTreeRefusal most NoMemoryRefusal = Unit {0}
