@@ -57,7 +57,7 @@ wait_error_is refusal.Fenced = tt
 pub told_wait_error_is : {C : Type 0} (why : Refusal C) (told : NfsError) → told ≡ wait_error why → IsWaitError told
 told_wait_error_is why told is = subst IsWaitError (sym is) (wait_error_is why)
 
-unchanged : (s : SessionState) → OnlyExtends s s
+pub unchanged : (s : SessionState) → OnlyExtends s s
 unchanged s = record { number = refl; mine = refl; seen = ([], append-nil s.seen) }
 
 module _ (S : Served) (asked : Requested) (call : Call) (caller : Caller) (now : Time) (old new : SessionState) where

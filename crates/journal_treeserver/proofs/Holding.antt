@@ -22,7 +22,7 @@ use Rattle.journal_treeserver.specs.declared.awaited.AwaitedForm.{AwaitedForm}
 use Rattle.journal_treeserver.specs.declared.awaited.Owed.{Owed}
 use Rattle.journal_treeserver.specs.Asking.{Wanted, files, mount, denied, refused, asks}
 use Rattle.journal_treeserver.specs.Forms.{form_of, refused_form}
-use Rattle.journal_treeserver.specs.Answers.{Served, marked, awaiting, owed_by, IsCovered, Comes, done, undone, unsure, changes, asked_of, ComesUnless, ComesTo, Outcome, told, outcome_text, IsOutcome, Replies, answers, service_of, StandsInFor}
+use Rattle.journal_treeserver.specs.Answers.{Served, marked, awaiting, owed_by, IsCovered, Comes, done, undone, unsure, repeated, repeated_unsure, changes, asked_of, ComesUnless, ComesTo, Outcome, told, outcome_text, IsOutcome, Replies, answers, service_of, StandsInFor}
 use Rattle.journal_treeserver.specs.CodeViews.{held_wait, IsHeld}
 use Rattle.journal_treeserver.specs.Lawful.{replies_unsure}
 
@@ -44,6 +44,8 @@ module _ (S : Served) (history : List Entry) (wait : Option (Owed CommitPlace)) 
   comes_over asked call caller now old new r (done reply receipt made so_far) = done reply receipt made (covered (form_of asked) reply receipt so_far)
   comes_over asked call caller now old new r (undone why journal extends none) = undone why journal extends tt
   comes_over asked call caller now old new r (unsure why at form reply place e journal waits made) = absurd cc
+  comes_over asked call caller now old new r (repeated client reply receipt has once was stable none) = repeated client reply receipt has once was stable tt
+  comes_over asked call caller now old new r (repeated_unsure why client reply receipt is has once was none) = repeated_unsure why client reply receipt is has once was tt
 
   unless_over : (forbidden : Bool) (asked : Requested) (call : Call) (caller : Caller) (now : Time) (old new : SessionState) (r : Results)
       → ComesUnless forbidden S (awaiting wait) asked call caller now old new r → ComesUnless forbidden S (marked history) asked call caller now old new r

@@ -1,11 +1,10 @@
 -- Which reply belongs to a call on a tree that is served.
-use Rattle.std.specs.Prelude.{ℕ, ◌≡◌, ◌≤◌, Bool, true, false, ◌&&◌, nat_lt, bit_and, if◌then◌else◌, List, length, Option, Some, None, Result, Ok, Err}
+use Rattle.std.specs.Prelude.{ℕ, ◌≡◌, ◌≤◌, Bool, true, false, ◌&&◌, nat_lt, bit_and, if◌then◌else◌, List, length, Option, Some, None, Ok, Err}
 use Rattle.journal_world.specs.declared.refusal.Refusal.{Refusal}
 use Rattle.journal_world.specs.declared.refusal.Refusal.TheVariants.{Busy, DeviceFailed}
 use Rattle.journal_world.specs.Histories.{Entry, floor}
 use Rattle.journal_history.specs.Tokens.{SessionState, OnlyExtends, CommitPlace}
 use Rattle.journal_inode.specs.declared.node.Time.{Time as Moment}
-use Rattle.journal_rpc.specs.declared.replies.CallRefused.{CallRefused}
 use Rattle.journal_rpc.specs.Calls.{Message, message}
 use Rattle.journal_rpc.specs.Markings.{record_marking}
 use Rattle.journal_rpc.specs.Replies.{one_fragment, reply, denial}
@@ -33,17 +32,21 @@ use Rattle.journal_tree.specs.declared.limits.TheConstants.{MOST_LINK, TRANSFER_
 use Rattle.journal_treeserver.specs.declared.awaited.AwaitedCall.{AwaitedCall}
 use Rattle.journal_treeserver.specs.declared.awaited.AwaitedForm.{AwaitedForm}
 use Rattle.journal_treeserver.specs.declared.awaited.Owed.{Owed}
-use Rattle.journal_treeserver.specs.Asking.{Wanted, files, mount, denied, refused, asks}
+use Rattle.journal_treeserver.specs.declared.client.ClientAddress.{ClientAddress}
+use Rattle.journal_treeserver.specs.Again.{is_done_once, WasCommitted}
+use Rattle.journal_treeserver.specs.Asking.{Wanted, files, mount, refused, asks}
 use Rattle.journal_treeserver.specs.Forms.{how_of, form_of}
 
--- A tree as it is served: how its disk is cut, the disk's own number, whether root is squashed,
--- whether the tree is only read, and the server's verifier
+-- A tree as it is served to a client: how its disk is cut, the disk's own number, whether root is
+-- squashed, whether the tree is only read, the server's verifier, and the client's address, where
+-- it has one
 pub record Served : Type 0 where
   pub cut : Cut
   pub disk : ℕ
   pub squash : Bool
   pub read_only : Bool
   pub verifier : List ℕ
+  pub client : Option ClientAddress
 
 -- ---- how far a reply is
 
@@ -119,13 +122,22 @@ IsWaitError other = ⊥
 
 -- A call of the tree is committed with its reply, of which there are results; or the journal
 -- refuses, and it was not done; or it was done, and is not known to be stable. So a call that is
--- answered JUKEBOX was not done
+-- answered JUKEBOX was not done.
+--
+-- Of a client that has an address, a call that is to be done once may also be a copy of one that
+-- came before. It has the results of that one, whose commit is in the history that the session
+-- has then seen, with a mark that covers it; or they are refused, where it is not known to be
+-- stable. The call is not done again
 pub data Comes (S : Served) (standing : Standing) (asked : Requested) (call : Call) (caller : Caller) (now : Time) (old new : SessionState) : Results → Type 0 where
   done : (r : Reply) (receipt : CommitPlace) → IsCommittedCall S.cut call caller now old new r receipt → IsSoFar standing (form_of asked) r receipt
       → Comes S standing asked call caller now old new (told_results S.disk S.verifier (how_of asked) call r)
   undone : (why : NfsError) → IsJournalError why → OnlyExtends old new → HasNoWait standing → Comes S standing asked call caller now old new (refused_request asked why)
   unsure : (why : NfsError) (history : List Entry) (form : AwaitedForm) (r : Reply) (place : ℕ) → standing ≡ marked history → IsWaitError why → form_of asked ≡ Some form
       → IsMadeAt S.cut call caller now old new r place → Comes S standing asked call caller now old new (refused_request asked why)
+  repeated : (client : ClientAddress) (r : Reply) (receipt : CommitPlace) → S.client ≡ Some client → is_done_once asked ≡ true → WasCommitted S.cut call caller old new r receipt
+      → receipt.count ≤ floor new.seen → HasNoWait standing → Comes S standing asked call caller now old new (told_results S.disk S.verifier (how_of asked) call r)
+  repeated_unsure : (why : NfsError) (client : ClientAddress) (r : Reply) (receipt : CommitPlace) → IsWaitError why → S.client ≡ Some client → is_done_once asked ≡ true
+      → WasCommitted S.cut call caller old new r receipt → HasNoWait standing → Comes S standing asked call caller now old new (refused_request asked why)
 
 -- the call is one that changes a tree, or would
 abbrev pub changes : Call → Bool

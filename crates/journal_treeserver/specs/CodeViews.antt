@@ -1,5 +1,5 @@
 -- The meaning of the code's values.
-use Rattle.std.specs.Prelude.{ℕ, ◌≡◌, false, Option, Some, None, IfSome}
+use Rattle.std.specs.Prelude.{ℕ, ◌≡◌, false, List, Option, Some, None}
 use Rattle.journal_history.specs.Tokens.{SessionState, CommitPlace}
 use Rattle.journal_inode.specs.declared.node.Time.{Time as Moment}
 use Rattle.journal_protocol.specs.declared.held_reply.HeldReply.{HeldReply}
@@ -17,15 +17,18 @@ use Rattle.journal_treeserver.specs.declared.asking.Wanted.TheVariants as code_w
 use Rattle.journal_treeserver.specs.declared.awaited.AwaitedCall.{AwaitedCall}
 use Rattle.journal_treeserver.specs.declared.awaited.Owed.{Owed}
 use Rattle.journal_treeserver.specs.declared.performing.Done.{Done}
+use Rattle.journal_treeserver.specs.declared.reply_table.Begun.{Begun}
+use Rattle.journal_treeserver.specs.declared.reply_table.Begun.TheVariants.{Again, First, NotKept}
 use Rattle.journal_treeserver.specs.declared.server.Export.{Export}
 use Rattle.journal_treeserver.specs.declared.taking.Taking as code_taking
 use Rattle.journal_treeserver.specs.declared.taking.Taking.TheVariants as code_takes
 use Rattle.journal_treeserver.specs.Asking.{Wanted, files, mount, denied, refused}
 use Rattle.journal_treewire.specs.Results.{Null}
+use Rattle.journal_treeserver.specs.Kept.{IsKept}
 use Rattle.journal_treeserver.specs.Answers.{Served, awaiting, IsAtOnce, asked_of, changes, Comes, ComesUnless, Replies}
 
 abbrev pub served_as : Cut → Export → Served
-served_as cut e = record { cut = cut; disk = e.disk; squash = e.squash; read_only = e.is_read_only; verifier = e.verifier.0 }
+served_as cut e = record { cut = cut; disk = e.disk; squash = e.squash; read_only = e.is_read_only; verifier = e.verifier.0; client = e.client }
 
 abbrev pub wanted_of : code_wanted.Wanted → Wanted
 wanted_of (code_wants.Files caller r) = files caller (request_of r)
@@ -69,3 +72,9 @@ LooksAs S asked (Some call) caller now old new d = ComesUnless (changes call) S 
 abbrev pub ChangesAs : Served → Requested → Option Call → Caller → Time → SessionState → SessionState → Done CommitPlace → Type 0
 ChangesAs S asked None caller now old new d = IsAtOnce (awaiting d.wait) old new Null (results_of S.disk d.results)
 ChangesAs S asked (Some call) caller now old new d = IsDone S asked (asked_of S.read_only call) caller now old new d
+
+-- a reply that is given again is that to the call of this record
+abbrev pub IsBegun : {J R : Type 0} → Served → List ℕ → Begun J R → Type 0
+IsBegun S record_bytes (Again repeat) = IsKept S record_bytes repeat.reply.items repeat.front
+IsBegun S record_bytes First = Unit {0}
+IsBegun S record_bytes NotKept = Unit {0}

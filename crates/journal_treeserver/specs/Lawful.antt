@@ -1,17 +1,15 @@
 -- A served tree is a protocol.
-use Rattle.std.proofs.Common.{◌≡◌, ℕ, ◌≤◌, true, false, List, Option, Some, None, Result, Ok, Err, refl, sym, ap, subst, ◌∙◌, arith}
+use Rattle.std.proofs.Common.{◌≡◌, ℕ, ◌≤◌, true, false, List, Option, Some, None, Ok, Err, refl, sym, ap, ◌∙◌, arith}
 use Rattle.std.specs.Prelude.{Bool, ◌&&◌}
 use mathlib.Core.List.{IsPrefix}
 use Rattle.journal_world.specs.Histories.{Entry, floor}
 use Rattle.journal_history.specs.Tokens.{SessionState, CommitPlace}
 use Rattle.journal_inode.specs.declared.node.Time.{Time as Moment}
-use Rattle.journal_rpc.specs.Calls.{Message}
 use Rattle.journal_xdr.specs.ItemLaws.{some_is}
 use Rattle.journal_tree.specs.declared.caller.Caller.{Caller}
 use Rattle.journal_tree.specs.declared.time.Time.{Time}
 use Rattle.journal_tree.specs.Op.{Call, Reply, is_refusal}
 use Rattle.journal_nfs3_wire.specs.Arguments as nine
-use Rattle.journal_nfs3_wire.specs.declared.arguments.StableHow.{StableHow}
 use Rattle.journal_nfs3_wire.specs.declared.arguments.StableHow.TheVariants.{Unstable, DataSync, FileSync}
 use Rattle.journal_nfs3_wire.specs.declared.results.NfsError.{NfsError}
 use Rattle.journal_nfs3_wire.specs.declared.results.NfsError.TheVariants.{ServerFault}
@@ -28,7 +26,7 @@ use Rattle.journal_treeserver.specs.declared.awaited.AwaitedForm.{AwaitedForm}
 use Rattle.journal_treeserver.specs.declared.awaited.Owed.{Owed}
 use Rattle.journal_treeserver.specs.Asking.{Wanted, files, mount, denied, refused, asks}
 use Rattle.journal_treeserver.specs.Forms.{form_of, refused_form}
-use Rattle.journal_treeserver.specs.Answers.{Served, Standing, marked, awaiting, owed_by, IsCovered, IsWaitError, Comes, done, undone, unsure, changes, asked_of, ComesUnless, ComesTo, Outcome, told, outcome_text, IsOutcome, Replies, answers, service_of, StandsInFor}
+use Rattle.journal_treeserver.specs.Answers.{Served, Standing, marked, awaiting, owed_by, IsCovered, IsWaitError, Comes, done, undone, unsure, repeated, repeated_unsure, changes, asked_of, ComesUnless, ComesTo, Outcome, told, outcome_text, IsOutcome, Replies, service_of, StandsInFor}
 
 -- ---- what takes the place of results that wait
 
@@ -63,6 +61,8 @@ module _ (S : Served) where
   comes_grow standing asked call caller now old new r (done reply receipt is so_far) = is.made.extends
   comes_grow standing asked call caller now old new r (undone why journal extends wait) = extends.seen
   comes_grow standing asked call caller now old new r (unsure why history form reply place is journal waits made) = made.extends
+  comes_grow standing asked call caller now old new r (repeated client reply receipt has once was stable none) = was.extends.seen
+  comes_grow standing asked call caller now old new r (repeated_unsure why client reply receipt is has once was none) = was.extends.seen
 
   unless_grow : (forbidden : Bool) (standing : Standing) (asked : Requested) (call : Call) (caller : Caller) (now : Time) (old new : SessionState) (r : Results) → ComesUnless forbidden S standing asked call caller now old new r → IsPrefix old.seen new.seen
   unless_grow true standing asked call caller now old new r h = grows-same old new h.1
@@ -90,6 +90,8 @@ module _ (S : Served) where
   comes_stay history longer asked call caller now old new r more (done reply receipt is so_far) = done reply receipt is (still_covered history longer (form_of asked) reply receipt more so_far)
   comes_stay history longer asked call caller now old new r more (undone why journal extends wait) = undone why journal extends tt
   comes_stay history longer asked call caller now old new r more (unsure why at form reply place is journal waits made) = unsure why longer form reply place refl journal waits made
+  comes_stay history longer asked call caller now old new r more (repeated client reply receipt has once was stable none) = repeated client reply receipt has once was stable tt
+  comes_stay history longer asked call caller now old new r more (repeated_unsure why client reply receipt is has once was none) = repeated_unsure why client reply receipt is has once was tt
 
   unless_stays : (forbidden : Bool) (history longer : List Entry) (asked : Requested) (call : Call) (caller : Caller) (now : Time) (old new : SessionState) (r : Results) → floor history ≤ floor longer
       → ComesUnless forbidden S (marked history) asked call caller now old new r → ComesUnless forbidden S (marked longer) asked call caller now old new r
@@ -131,6 +133,8 @@ module _ (S : Served) where
       (waits, unsure why history owed.form reply receipt.place refl is waits made.made)
   comes_unsure why is history owed asked call caller now old new r (undone e journal extends wait) = absurd cc
   comes_unsure why is history owed asked call caller now old new r (unsure f at form reply place e journal waits made) = absurd cc
+  comes_unsure why is history owed asked call caller now old new r (repeated client reply receipt has once was stable none) = absurd cc
+  comes_unsure why is history owed asked call caller now old new r (repeated_unsure f client reply receipt e has once was none) = absurd cc
 
   unless_unsure : (forbidden : Bool) (why : NfsError) (is : IsWaitError why) (history : List Entry) (owed : Owed CommitPlace) (asked : Requested) (call : Call) (caller : Caller) (now : Time) (old new : SessionState) (r : Results)
       → ComesUnless forbidden S (awaiting (Some owed)) asked call caller now old new r → (form_of asked ≡ Some owed.form) × ComesUnless forbidden S (marked history) asked call caller now old new (refused_request asked why)

@@ -57,7 +57,7 @@ impl<'s, 'b, D: BlockDisk, R: TreeRule, J: Naming, H: FreeHints> Protocol
         let Some(call) = read_call(bytes) else {
             return Ok(None);
         };
-        match self.answer(rt, alloc, session, &call, moment) {
+        match self.answer(rt, alloc, session, bytes, &call, moment) {
             Ok(held) => Ok(Some(held)),
             Err(_) => Err(ConnFault::NoMemory),
         }

@@ -1,6 +1,7 @@
 // The reply to a call.
-ghost use Rattle.std.specs.Prelude.{◌≡◌, ℕ, List, IfOk, OnErr, None, false};
+ghost use Rattle.std.specs.Prelude.{◌≡◌, ℕ, List, IfOk, OnErr, Some, None, false};
 ghost use Rattle.journal_world.specs.Histories.{Entry};
+ghost use Rattle.journal_rpc.specs.Calls.{message};
 ghost use Rattle.journal_rpc.specs.CallViews.{message_of};
 ghost use Rattle.journal_protocol.specs.Moments.{time_of};
 ghost use Rattle.journal_mount_wire.specs.Arguments.{mount_call_of};
@@ -37,10 +38,10 @@ const ROOT_GENERATION: u32 = 1;
 const REPLY_BYTES: usize = 256;
 
 // A reply that is held, and what it waits for.
-type Held<'b, J, R> = HeldReply<AwaitedCall, Receipt<'b, J, R>>;
+pub(crate) type Held<'b, J, R> = HeldReply<AwaitedCall, Receipt<'b, J, R>>;
 
 impl<'s, 'b, D: BlockDisk, R: TreeRule, J: Naming, H: FreeHints> TreeServer<'s, 'b, D, R, J, H> {
-    // The reply to a call up to its commit, and the wait before it may be sent.
+    // The reply to the call of these bytes up to its commit, and the wait before it may be sent.
     //
     // # Errors
     // - Memory for the reply is refused. The call is done all the same, and its reply is lost.
@@ -49,9 +50,11 @@ impl<'s, 'b, D: BlockDisk, R: TreeRule, J: Naming, H: FreeHints> TreeServer<'s, 
         rt: &W,
         alloc: Global,
         session: &mut Session<'b, J, R>,
+        bytes: &[u8],
         call: &Call<'_>,
         moment: Moment,
     ) -> Result<Held<'b, J, R>, AllocError>
+        requires { message bytes.now ≡ Some (message_of call.now) }
         ensures held { IfOk result (IsHeld (served_as self.now.store.now.cut self.now.export) (time_of moment) call.now.xid (asks self.now.export.squash (message_of call.now))
             session.old session.new) }
         ensures lost { OnErr result ((history : List Entry) → (reply : List ℕ) × Replies (served_as self.now.store.now.cut self.now.export) (marked history) (time_of moment) call.now.xid
@@ -60,7 +63,7 @@ impl<'s, 'b, D: BlockDisk, R: TreeRule, J: Naming, H: FreeHints> TreeServer<'s, 
         let xid = call.xid;
         match decide(self.export.squash, call) {
             Wanted::Files(caller, requested) => {
-                self.answer_files(rt, alloc, session, xid, caller, &requested, moment)
+                self.answer_sent(rt, alloc, session, bytes, xid, caller, &requested, moment)
             }
             Wanted::Mount(mount) => Ok(at_once(self.mounted(alloc, xid, &mount)?)),
             Wanted::Denied => Ok(at_once(write_denial(alloc, xid)?)),
@@ -69,7 +72,7 @@ impl<'s, 'b, D: BlockDisk, R: TreeRule, J: Naming, H: FreeHints> TreeServer<'s, 
     }
 
     // The reply to a request of NFS.
-    fn answer_files<W: Wait>(
+    pub(crate) fn answer_files<W: Wait>(
         &self,
         rt: &W,
         alloc: Global,
@@ -97,7 +100,12 @@ impl<'s, 'b, D: BlockDisk, R: TreeRule, J: Naming, H: FreeHints> TreeServer<'s, 
     }
 
     // A reply with results.
-    fn told(&self, alloc: Global, xid: u32, results: TreeResults) -> Result<Vec<u8>, AllocError>
+    pub(crate) fn told(
+        &self,
+        alloc: Global,
+        xid: u32,
+        results: TreeResults,
+    ) -> Result<Vec<u8>, AllocError>
         ensures { IfOk result (λ reply. reply.items ≡ outcome_text self.now.export.disk xid (told (results_of self.now.export.disk results))) }
     {
         let told = DiskResults {
@@ -150,7 +158,7 @@ fn refused(alloc: Global, xid: u32, why: CallRefused) -> Result<Vec<u8>, AllocEr
 }
 
 // A reply for which nothing waits.
-fn at_once<P>(reply: Vec<u8>) -> HeldReply<AwaitedCall, P>
+pub(crate) fn at_once<P>(reply: Vec<u8>) -> HeldReply<AwaitedCall, P>
     ensures { result ≡ record { reply = reply; wait = None; ends = false } }
 {
     HeldReply {
@@ -161,7 +169,7 @@ fn at_once<P>(reply: Vec<u8>) -> HeldReply<AwaitedCall, P>
 }
 
 // The wait of a reply to a call with this number, with what is remembered of the call.
-fn held_wait<P>(xid: u32, wait: Option<Owed<P>>) -> Option<HeldWait<AwaitedCall, P>>
+pub(crate) fn held_wait<P>(xid: u32, wait: Option<Owed<P>>) -> Option<HeldWait<AwaitedCall, P>>
     ensures { result ≡ held_wait xid wait }
 {
     match wait {

@@ -17,6 +17,7 @@
 #![tactic(auto)]
 
 mod checking;
+mod clients;
 mod comparing;
 mod counting;
 mod cutting;

@@ -4,12 +4,13 @@ ghost use Rattle.journal_disk.specs.Disks.{IsSettled};
 ghost use Rattle.journal_treestore.specs.Places.{shape_of, IsCut};
 ghost use Rattle.journal_treeobjects.specs.Maps.{IsWhole};
 
+use crate::clients::TreeClients;
 use crate::cutting::TreeCut;
 use crate::hints::StoreHints;
 use crate::looking::Looker;
 use crate::mounting::{close, mount, slot_cell};
 use journal_clients::{
-    Access, Control, Endpoint, Explained, Plan, Reads, ServiceFault, Visits, ended, mirror,
+    Access, Control, Endpoint, Explained, Plan, Reads, ServiceFault, VisitsByClient, ended, mirror,
     moment_of_mount, serve_by_pool, verifier_of,
 };
 use journal_disk::BlockDisk;
@@ -20,7 +21,7 @@ use journal_nfs3_wire::Verifier;
 use journal_program::{Settled, SharedDisk, SizedDisk};
 use journal_treefs::TreeStore;
 use journal_treerule::SoundTree;
-use journal_treeserver::{Export, FreeHints, TreeServer};
+use journal_treeserver::{Export, FreeHints, ReplyTable, TreeServer};
 use journal_treestore::Cut;
 use journal_world::Refusal;
 use std::alloc::Global;
@@ -200,9 +201,13 @@ fn serve_tree<
     service: Service<'_>,
     output: &mut O,
 ) -> Result<(), ServiceFault>
-    requires { IsCut cut }
+    requires possible { IsCut cut }
+    requires own { store.now.cut ≡ cut }
 {
     let journal = store.journal();
+    let Ok(replies) = ReplyTable::new(alloc) else {
+        return Err(ServiceFault::Refused(Refusal::NoMemory));
+    };
     let disk = match Looker::new(rt, alloc, journal, cut)?.disk_number(rt) {
         Ok(disk) => disk,
         Err(why) => return Err(ServiceFault::Refused(why)),
@@ -212,11 +217,14 @@ fn serve_tree<
     let server = TreeServer {
         store,
         hints: &hints,
+        replies: &replies,
+        cut,
         export: Export {
             disk,
             squash: asked.squash,
             is_read_only: access == Access::ReadOnly,
             verifier,
+            client: None,
         },
     };
     let plan = Plan {
@@ -243,6 +251,7 @@ fn serve_clients<
     output: &mut O,
 ) -> Result<(), ServiceFault> {
     let journal = server.store.journal();
-    let visits = Visits::new(alloc, journal, server);
+    let clients = TreeClients(server);
+    let visits = VisitsByClient::new(alloc, journal, &clients);
     serve_by_pool(rt, alloc, plan, journal, &visits, output)
 }

@@ -1,10 +1,11 @@
-use Rattle.std.proofs.Common.{◌≡◌, List, ℕ, refl, sym, ap, subst, ◌∙◌}
+use Rattle.std.proofs.Common.{List, ℕ, refl, sym, ap, subst, ◌∙◌}
 use Rattle.std.specs.Prelude.{OnErr}
 use Rattle.journal_world.specs.Histories.{Entry}
 use Rattle.journal_history.specs.Tokens.{CommitPlace}
 use Rattle.journal_mount_wire.specs.Arguments.{mount_call_of}
 use Rattle.journal_protocol.specs.declared.held_reply.HeldReply.{HeldReply}
 use Rattle.journal_protocol.specs.Moments.{time_of}
+use Rattle.journal_rpc.specs.CallViews.{message_of}
 use Rattle.journal_treeserver.specs.declared.awaited.AwaitedCall.{AwaitedCall}
 use Rattle.journal_treeserver.specs.Asking.{Wanted, mount, denied, refused}
 use Rattle.journal_treeserver.specs.Answers.{marked, mounted, none_told, Replies}
@@ -44,5 +45,8 @@ returns-in_ok-refused-in-Refused-clause-held g c =
 
 pub returns-in-Files-clause-lost : goal.returns-in-Files-clause-lost
 returns-in-Files-clause-lost g c =
-    subst (λ (w : Wanted). OnErr c.answer_files.result ((history : List Entry) → (reply : List ℕ) × Replies (served_as c.args.self.now.store.now.cut c.args.self.now.export) (marked history) (time_of c.args.moment) c.args.call.now.xid w c.args.session.now c.answer_files.new.session reply))
-    (sym (ap wanted_of c.in-Files.is) ∙ c.decide.ensures) c.answer_files.ensures.lost
+    subst (λ (w : Wanted). OnErr c.answer_sent.result ((history : List Entry) → (reply : List ℕ) × Replies (served_as c.args.self.now.store.now.cut c.args.self.now.export) (marked history) (time_of c.args.moment) c.args.call.now.xid w c.args.session.now c.answer_sent.new.session reply))
+    (sym (ap wanted_of c.in-Files.is) ∙ c.decide.ensures) c.answer_sent.ensures.lost
+
+pub answer_sent-requires : goal.answer_sent-requires
+answer_sent-requires g c = record { sent = message_of c.args.call.now; reads = c.requires; number = refl; asks_so = sym c.decide.ensures ∙ ap wanted_of c.in-Files.is }
