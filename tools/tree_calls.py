@@ -6,6 +6,7 @@ standard says, each boolean 0 or 1, each pad of zeros, and nothing after the end
 `Malformed`.
 """
 
+import random
 import socket
 import struct
 from typing import NamedTuple, Optional
@@ -400,7 +401,9 @@ class Connection:
         self.socket.setsockopt(socket.IPPROTO_TCP, socket.TCP_NODELAY, 1)
         self.stream = self.socket.makefile("rb")
         self.credential = credential
-        self.sent = self.received = 100
+        # Another connection begins with another number: a call that has been sent before, byte by byte,
+        # is not done again.
+        self.sent = self.received = random.SystemRandom().getrandbits(31)
 
     def __enter__(self):
         return self

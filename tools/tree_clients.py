@@ -77,6 +77,7 @@ class Call:
 
     tells_stable = True
     is_done = True  # False once it was answered that nothing was done.
+    is_answered = False
     ctime = None
     handle = None
 
@@ -339,6 +340,7 @@ class Client:
         """Takes the answer to a call."""
         call = self.calls[place]
         status, results = connection.receive_nfs(call.procedure)
+        call.is_answered = True
         if status == JUKEBOX:
             # Others were in the way, and nothing was done.
             call.is_done = False
