@@ -472,11 +472,12 @@ class Connection:
 
     def read_all(self, handle):
         """All bytes of a file."""
-        data, is_end = b"", False
+        data, is_end = bytearray(), False
         while not is_end:
             portion = self.must(READ, at_place(handle, len(data), 65536))
-            data, is_end = data + portion.data, portion.is_end
-        return data
+            data += portion.data
+            is_end = portion.is_end
+        return bytes(data)
 
     def list_all(self, directory):
         """Each line of a directory but `.` and `..`, with attributes and handle."""

@@ -19,8 +19,13 @@ import threading
 from typing import NamedTuple, Optional
 
 from tree_calls import *
+from tree_content import EMPTY, Content, content_of
 
 FILE_BYTES = 20000
+# Of a client with large files: how large they get, where another index block is needed, and how much
+# it writes at once and in a row.
+LARGE_BYTES, INDEX_EDGES = 12 << 20, tuple(4096 * (48 + 1024 * index) for index in range(3))
+MOST_WRITTEN, MOST_IN_A_ROW = 65536, 48
 SHARED = b"shared"
 FOLDERS = 3
 FILES_EACH = 2
@@ -39,13 +44,14 @@ class Node(NamedTuple):
 
     handle: Optional[bytes]
     mode: int
-    content: Optional[bytes]
+    content: Optional[Content]
     ctime: Optional[Time]
 
     def is_found_as(self, found):
         return (
             found is not None
-            and (self.mode, self.content) == (found.mode, found.content)
+            and self.mode == found.mode
+            and is_same_content(self.content, found.content)
             and self.handle in (None, found.handle)
             and self.ctime in (None, found.ctime)
         )
@@ -56,15 +62,20 @@ class Node(NamedTuple):
         if self.content is None:
             return f"folder {handle}, mode {self.mode:o}"
         written = ", ".join(f"{stamp.hex()}*{count}" for stamp, count in runs(self.content))
-        return f"file {handle}, mode {self.mode:o}, ctime {moment}, {len(self.content)} bytes: {written}"
+        return f"file {handle}, mode {self.mode:o}, ctime {moment}, {self.content.size} bytes: {written}"
+
+
+def is_same_content(one, other):
+    """Whether both are folders, or files with the same bytes."""
+    return one is other if None in (one, other) else one.is_same(other)
 
 
 def runs(content):
     """The bytes by fours, each the number of the write that wrote it, and how often it stands there
     in a row."""
-    found = []
-    for at in range(0, len(content), 4):
-        stamp = content[at : at + 4]
+    data, found = content.part(0, content.size), []
+    for at in range(0, len(data), 4):
+        stamp = data[at : at + 4]
         if found and found[-1][0] == stamp:
             found[-1][1] += 1
         else:
@@ -101,7 +112,7 @@ class Create(Call):
         self.handle, self.ctime = made.handle, made.attributes.ctime
 
     def node(self, before):
-        return Node(self.handle, self.mode, bytes(self.size), self.ctime)
+        return Node(self.handle, self.mode, EMPTY.resized(self.size), self.ctime)
 
 
 class MakeFolder(Call):
@@ -182,8 +193,8 @@ class Set(Call):
         self.ctime = change.after.ctime
 
     def node(self, before):
-        mode, size = self.asked.get("mode", before.mode), self.asked.get("size", len(before.content))
-        return Node(before.handle, mode, before.content[:size].ljust(size, b"\0"), self.ctime)
+        mode, size = self.asked.get("mode", before.mode), self.asked.get("size", before.content.size)
+        return Node(before.handle, mode, before.content.resized(size), self.ctime)
 
 
 class Write(Call):
@@ -202,9 +213,7 @@ class Write(Call):
             raise Wrong(f"{self.path}: WRITE answers {wrote.count}, {wrote.committed}, not {wanted}")
 
     def node(self, before):
-        content = before.content.ljust(self.offset, b"\0")
-        content = content[: self.offset] + self.data + content[self.offset + len(self.data) :]
-        return Node(before.handle, before.mode, content, self.ctime)
+        return Node(before.handle, before.mode, before.content.overlaid(self.offset, self.data), self.ctime)
 
 
 class Commit(Call):
@@ -225,13 +234,15 @@ class Commit(Call):
 class Client:
     """The calls of a connection to paths of its own, and what it was told of them. It goes on from
     run to run. Of its bursts `names_share` change a name, and of these changes `renames_share` are
-    renames."""
+    renames. A call that is answered by one of `refusals` is not done."""
 
-    def __init__(self, number, most_at_once, choice=random, names_share=NAMES_SHARE, renames_share=RENAMES_SHARE):
+    refusals = (JUKEBOX,)
+
+    def __init__(self, number, most_at_once, choice=random, names_share=NAMES_SHARE, renames_share=RENAMES_SHARE, folders=FOLDERS):
         self.number, self.most_at_once, self.choice = number, most_at_once, choice
         self.names_share, self.renames_share = names_share, renames_share
         self.own = b"client%d" % number
-        tops = [(self.own, b"folder%d" % place) for place in range(FOLDERS)]
+        tops = [(self.own, b"folder%d" % place) for place in range(folders)]
         self.folders = tops + [(*top, b"deep") for top in tops]
         places = range(FILES_EACH)
         inner = [(*top, b"file%d" % place) for top in [(self.own,), *self.folders] for place in places]
@@ -289,13 +300,16 @@ class Client:
             return Set(path, handle, size=self.choice.randint(0, FILE_BYTES))
         if chance < 0.3:
             return Set(path, handle, mode=self.choice.choice((0o600, 0o644, 0o755)))
-        self.writes += 1
-        stamp = struct.pack(">I", self.number + 1 << 24 | self.writes)
         start = self.choice.choice([0, 0, self.choice.randrange(FILE_BYTES)])
         end = self.choice.choice([FILE_BYTES, self.choice.randint(start + 1, FILE_BYTES)])
-        data = (stamp * (FILE_BYTES // 4))[start:end]
-        how = self.choice.choice([UNSTABLE, UNSTABLE, DATA_SYNC, FILE_SYNC])
-        return Write(path, handle, start, data, how)
+        return self.write_at(path, start, end - start, self.choice.choice([UNSTABLE, UNSTABLE, DATA_SYNC, FILE_SYNC]))
+
+    def write_at(self, path, start, size, how):
+        """A write of so many bytes, by fours from a file's first one on the number of the write."""
+        self.writes += 1
+        stamp = struct.pack(">I", self.number + 1 << 24 | self.writes)
+        data = (stamp * (size // 4 + 2))[start % 4 :][:size]
+        return Write(path, self.handles[path], start, data, how)
 
     def change_of_names(self):
         """A file or a folder that is made, removed or renamed, where its folder is there."""
@@ -307,7 +321,10 @@ class Client:
         directory = self.handles[path[:-1]]
         if path in self.folders:
             return MakeFolder(path, directory, 0o755)
-        return Create(path, directory, 0o644, self.choice.choice([0, 0, 1, 5000, FILE_BYTES]))
+        return Create(path, directory, 0o644, self.first_size())
+
+    def first_size(self):
+        return self.choice.choice([0, 0, 1, 5000, FILE_BYTES])
 
     def removal(self, path):
         """The removal of a path, or of the first thing that is in it."""
@@ -341,8 +358,8 @@ class Client:
         call = self.calls[place]
         status, results = connection.receive_nfs(call.procedure)
         call.is_answered = True
-        if status == JUKEBOX:
-            # Others were in the way, and nothing was done.
+        if status in self.refusals:
+            # Others were in the way, or there was no room. Nothing was done.
             call.is_done = False
             return
         if status != OK:
@@ -398,6 +415,40 @@ class Client:
             yield f"{name} found:   {found.get(path) or 'absent'}"
             for line in dict.fromkeys(str(state.get(path) or "absent") for state in states):
                 yield f"{name} allowed: {line}"
+
+
+class LargeClient(Client):
+    """One whose files have index blocks (docs/FORMATS.md): it writes many blocks in a row, cuts and
+    removes them. Where the disk is full, what needs room is not done."""
+
+    refusals = (JUKEBOX, NOSPC)
+
+    def __init__(self, number, choice):
+        super().__init__(number, MOST_IN_A_ROW, choice, names_share=0.25, folders=0)
+
+    def burst(self):
+        there = [path for path in self.files if self.handles.get(path)]
+        if not there or self.choice.random() < self.names_share:
+            return [self.change_of_names()]
+        path = self.choice.choice(there)
+        if self.choice.random() < 0.25:
+            return [Set(path, self.handles[path], size=self.place())]
+        return self.writes_in_a_row(path)
+
+    def writes_in_a_row(self, path):
+        start, count = self.place(), self.choice.randint(1, self.most_at_once)
+        how = self.choice.choice((UNSTABLE, UNSTABLE, FILE_SYNC))
+        places = range(start, min(start + count * MOST_WRITTEN, LARGE_BYTES), MOST_WRITTEN)
+        calls = [self.write_at(path, place, min(MOST_WRITTEN, LARGE_BYTES - place), how) for place in places]
+        return [*calls, Commit(path, self.handles[path])] if how == UNSTABLE else calls
+
+    def place(self):
+        """A place in a file, often near one where another index block is needed."""
+        near = self.choice.choice(INDEX_EDGES) + self.choice.randint(-9000, 9000)
+        return self.choice.choice((0, self.choice.randrange(LARGE_BYTES), max(near, 0)))
+
+    def first_size(self):
+        return self.choice.choice((0, 0, self.choice.randrange(LARGE_BYTES)))
 
 
 def is_found(node, found):
@@ -492,7 +543,7 @@ def node_of(connection, line):
     content = connection.read_all(line.handle)
     if len(content) != told.size:
         raise Wrong(f"{line.name}: size {told.size}, and {len(content)} bytes to read")
-    return Node(line.handle, told.mode, content, told.ctime)
+    return Node(line.handle, told.mode, content_of(content), told.ctime)
 
 
 def own_nodes(client, nodes):

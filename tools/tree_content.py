@@ -1,6 +1,6 @@
 """The bytes of a file of any size, by the blocks of it that were written. All else is zeros.
 
-A module: `tree_large.py` and `tree_watch.py` use it.
+A module: `tree_large.py`, `tree_watch.py` and `tree_clients.py` use it.
 """
 
 from typing import NamedTuple
@@ -45,5 +45,17 @@ class Content(NamedTuple):
         found = (self.blocks.get(place, bytes(BLOCK)) for place in range(offset // BLOCK, -(-(offset + count) // BLOCK)))
         return b"".join(found)[offset % BLOCK :][:count]
 
+    def is_same(self, other):
+        """Whether both have the same bytes. A block of zeros may be there or not."""
+        places = self.blocks.keys() | other.blocks.keys()
+        zeros = bytes(BLOCK)
+        return self.size == other.size and all(self.blocks.get(at, zeros) == other.blocks.get(at, zeros) for at in places)
+
 
 EMPTY = Content(0, {})
+
+
+def content_of(data):
+    """The content that has these bytes."""
+    parts = ((place, part.ljust(BLOCK, b"\0")) for place, _, part in pieces(0, data))
+    return Content(len(data), {place: block for place, block in parts if any(block)})
