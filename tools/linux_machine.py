@@ -11,7 +11,8 @@ import subprocess
 import sys
 from pathlib import Path
 
-HOST, GUEST, TAP = "192.168.77.1", "192.168.77.2", "taptree"
+HOST, GUEST, NETWORK, TAP = "192.168.77.1", "192.168.77.2", "192.168.77.0/24", "taptree"
+SENT_AGAIN = "5ms"
 PACKAGES = ("user-mode-linux", "busybox-static")
 MODULES = ("sunrpc", "grace", "nfs_acl", "lockd", "netfs", "fscache", "nfs", "nfsv3")
 
@@ -61,6 +62,9 @@ class Tap:
         run("ip", "tuntap", "add", "dev", TAP, "mode", "tap")
         run("ip", "addr", "add", f"{HOST}/24", "dev", TAP)
         run("ip", "link", "set", TAP, "up")
+        # At times the machine does not wake for a packet, and waits until it is sent again: after a
+        # fifth of a second, if no other time is set.
+        run("ip", "route", "replace", NETWORK, "dev", TAP, "src", HOST, "rto_min", SENT_AGAIN)
         return self
 
     def __exit__(self, *_):
