@@ -12,7 +12,9 @@ import sys
 from pathlib import Path
 
 HOST, GUEST, NETWORK, TAP = "192.168.77.1", "192.168.77.2", "192.168.77.0/24", "taptree"
-SENT_AGAIN = "5ms"
+# More addresses of this machine, so that the other one has several connections.
+HOSTS = tuple(f"192.168.77.{number}" for number in range(11, 15))
+SENT_AGAIN = "1ms"
 PACKAGES = ("user-mode-linux", "busybox-static")
 MODULES = ("sunrpc", "grace", "nfs_acl", "lockd", "netfs", "fscache", "nfs", "nfsv3")
 
@@ -60,7 +62,8 @@ class Tap:
         if Path(f"/sys/class/net/{TAP}").exists():
             raise OSError(f"{TAP} is there: of another run, or of a killed one: ip tuntap del dev {TAP} mode tap")
         run("ip", "tuntap", "add", "dev", TAP, "mode", "tap")
-        run("ip", "addr", "add", f"{HOST}/24", "dev", TAP)
+        for host in (HOST, *HOSTS):
+            run("ip", "addr", "add", f"{host}/24", "dev", TAP)
         run("ip", "link", "set", TAP, "up")
         # At times the machine does not wake for a packet, and waits until it is sent again: after a
         # fifth of a second, if no other time is set.

@@ -236,13 +236,13 @@ class Client:
     run to run. Of its bursts `names_share` change a name, and of these changes `renames_share` are
     renames. A call that is answered by one of `refusals` is not done."""
 
-    refusals = (JUKEBOX,)
+    refusals, own_folders = (JUKEBOX,), FOLDERS
 
-    def __init__(self, number, most_at_once, choice=random, names_share=NAMES_SHARE, renames_share=RENAMES_SHARE, folders=FOLDERS):
+    def __init__(self, number, most_at_once, choice=random, names_share=NAMES_SHARE, renames_share=RENAMES_SHARE):
         self.number, self.most_at_once, self.choice = number, most_at_once, choice
         self.names_share, self.renames_share = names_share, renames_share
         self.own = b"client%d" % number
-        tops = [(self.own, b"folder%d" % place) for place in range(folders)]
+        tops = [(self.own, b"folder%d" % place) for place in range(self.own_folders)]
         self.folders = tops + [(*top, b"deep") for top in tops]
         places = range(FILES_EACH)
         inner = [(*top, b"file%d" % place) for top in [(self.own,), *self.folders] for place in places]
@@ -421,10 +421,10 @@ class LargeClient(Client):
     """One whose files have index blocks (docs/FORMATS.md): it writes many blocks in a row, cuts and
     removes them. Where the disk is full, what needs room is not done."""
 
-    refusals = (JUKEBOX, NOSPC)
+    refusals, own_folders = (JUKEBOX, NOSPC), 0
 
     def __init__(self, number, choice):
-        super().__init__(number, MOST_IN_A_ROW, choice, names_share=0.25, folders=0)
+        super().__init__(number, MOST_IN_A_ROW, choice, names_share=0.25)
 
     def burst(self):
         there = [path for path in self.files if self.handles.get(path)]

@@ -1,7 +1,7 @@
 """What the checks of `mount-tree` need within the kernel's machine: mounts, acts of other users,
 refusals, and what was given to the machine.
 
-A module: `tree_uses.py`, `tree_saves.py` and `tree_basics.py` use it.
+A module: `tree_uses.py`, `tree_saves.py`, `tree_basics.py` and `tree_fio.py` use it.
 """
 
 import collections
@@ -95,11 +95,11 @@ def begin(given):
     vars(GIVEN).update(json.loads(Path(given).read_text()))
 
 
-def mount(served, folder, port, more=""):
+def mount(served, folder, port, more="", host=None):
     folder.mkdir(exist_ok=True)
-    mount_port = GIVEN.mount_port if port == GIVEN.port else port
-    options = OPTIONS.format(host=GIVEN.host, port=port, mount_port=mount_port, more=more + GIVEN.options).encode()
-    if LIBRARY.mount(f"{GIVEN.host}:{served}".encode(), bytes(folder), b"nfs", 0, options):
+    host, mount_port = host or GIVEN.host, GIVEN.mount_port if port == GIVEN.port else port
+    options = OPTIONS.format(host=host, port=port, mount_port=mount_port, more=more + GIVEN.options).encode()
+    if LIBRARY.mount(f"{host}:{served}".encode(), bytes(folder), b"nfs", 0, options):
         raise OSError(ctypes.get_errno(), f"mount {folder}")
 
 

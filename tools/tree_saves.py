@@ -244,6 +244,18 @@ def removal_of_open_files():
     equal("what is left", names_in(A), [])
 
 
+def removal_of_files_that_another_client_has_open():
+    """That client is told ESTALE, because only the one that removes a file knows who has it open."""
+    write(A / "file", bytes_of(5000))
+    with open(B / "file", "rb", buffering=0) as file:
+        equal("its bytes", len(os.pread(file.fileno(), 5000, 0)), 5000)
+        os.remove(A / "file")
+        equal("what is left", names_in(A), [])
+        forget()
+        refused("a read", errno.ESTALE, lambda: os.pread(file.fileno(), 5000, 0))
+        refused("its attributes", errno.ESTALE, lambda: os.fstat(file.fileno()))
+
+
 # ---- two mounts
 
 
@@ -531,6 +543,7 @@ CHECKS = (
     saves_of_editors,
     fifty_saves,
     removal_of_open_files,
+    removal_of_files_that_another_client_has_open,
     a_folder_moved_under_another_mount,
     two_mounts_that_rename,
     two_mounts_exercise_a_file,

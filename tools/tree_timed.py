@@ -3,8 +3,9 @@ kernel's machine.
 
     python3 tree_timed.py GIVEN
 
-GIVEN is a file of JSON with the servers, how many turns they take, and a word: those uses alone are
-made whose name has it. Each use prints a line, `took SECONDS CALLS SERVER USE`.
+GIVEN is a file of JSON with the servers, how many turns they take, how many MiB a large file has, and
+a word: those uses alone are made whose name has it. Each use prints a line, `took SECONDS CALLS
+SERVER USE`. A line `DO forget` asks that the servers' machine forgets what it has in memory.
 """
 
 import os
@@ -16,6 +17,7 @@ import time
 from tree_mount import *
 
 FILES, FILES_IN_GIT, SAVES, INSERTS = 400, 200, 100, 50
+FORGETS = 3  # So many seconds the servers' machine has to forget.
 
 
 def make_sources():
@@ -56,6 +58,29 @@ def saves(top):
         os.replace(top / "beside", top / "saved")
 
 
+def dd(*words):
+    # What dd says of its speed goes nowhere.
+    run("dd", "status=none", "bs=1M", *words)
+
+
+def forget_all():
+    """Neither this machine nor that of the servers has a file in memory then."""
+    forget()
+    print("DO forget", flush=True)
+    time.sleep(FORGETS)
+
+
+def uses_of_a_large_file(path):
+    """Each use by its name, with what comes before it and is not measured."""
+    nothing = lambda: None
+    return {
+        f"dd of {GIVEN.large} MiB, fsync": (nothing, lambda: dd("if=/dev/zero", f"of={path}", f"count={GIVEN.large}", "conv=fsync")),
+        f"dd reads {GIVEN.large} MiB, from the device": (forget_all, lambda: dd(f"if={path}", "of=/dev/null")),
+        f"dd reads {GIVEN.large} MiB again": (forget, lambda: dd(f"if={path}", "of=/dev/null")),
+        f"rm of {GIVEN.large} MiB": (nothing, lambda: os.remove(path)),
+    }
+
+
 def uses(top):
     """Each use by its name, in their order."""
     (top / "untar").mkdir()
@@ -71,6 +96,12 @@ def uses(top):
     }
 
 
+def took(server, name, use):
+    before, begun = calls(A), time.monotonic()
+    use()
+    print(f"took {time.monotonic() - begun:.3f} {sum((calls(A) - before).values())} {server['name']} {name}", flush=True)
+
+
 def measure(server, turn):
     GIVEN.port, GIVEN.mount_port = server["port"], server["mount_port"]
     mount(server["path"], A, server["port"])
@@ -79,10 +110,11 @@ def measure(server, turn):
         top.mkdir()
         for name, use in uses(top).items():
             if GIVEN.only in name or name in ("tar x", "rm -rf"):
-                before, begun = calls(A), time.monotonic()
-                use()
-                print(f"took {time.monotonic() - begun:.3f} {sum((calls(A) - before).values())} {server['name']} {name}", flush=True)
+                took(server, name, use)
         top.rmdir()
+        for name, (prepare, use) in uses_of_a_large_file(A / f"large{turn}").items() if GIVEN.large else ():
+            prepare()
+            took(server, name, use)
     finally:
         unmount(A)
 

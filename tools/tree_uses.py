@@ -8,7 +8,8 @@ of few blocks, which gets full; how many blocks of data and inodes the first one
 be done. Each check prints a line, `ok NAME` or `WRONG NAME: WHY`, and those alone are made whose
 name has the word in it that is given. A line `DO restart` asks that the service is killed and
 started again. What is needed lies below /mnt, which must be writable. Checks of what saves by
-RENAME are in `tree_saves.py`, and those that Connectathon's basic ones make in `tree_basics.py`.
+RENAME are in `tree_saves.py`, those that Connectathon's basic ones make in `tree_basics.py`, and one
+by fio in `tree_fio.py`.
 """
 
 import errno
@@ -25,6 +26,7 @@ import traceback
 from pathlib import Path
 
 import tree_basics
+import tree_fio
 import tree_saves
 from tree_mount import *
 
@@ -714,6 +716,7 @@ CHECKS = (
     listing_while_names_change,
     *tree_basics.CHECKS,
     *tree_saves.CHECKS,
+    *tree_fio.CHECKS,
     a_kill_under_a_copy,
 )
 
