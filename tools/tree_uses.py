@@ -359,7 +359,8 @@ def room():
     write(A / "takes", bytes_of(REACH))
     os.sync()
     taken = told.f_bavail - os.statvfs(A).f_bavail
-    if not taken * told.f_frsize >= REACH:
+    # Both numbers of free units are rounded down.
+    if not (taken + 1) * told.f_frsize >= REACH:
         raise Wrong(f"a file of {REACH} bytes takes {taken} units of {told.f_frsize}")
     os.remove(A / "takes")
     for words in (("df", A), ("df", "-i", A)):
