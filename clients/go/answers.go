@@ -9,27 +9,28 @@ import (
 
 // What a connection does with answers.
 
-func (c *connection) hasAnswered(of *call) bool {
-	return c.answered.Load() > of.number
+// hasEnded says whether a call was answered, or has met the end of the connection.
+func (of *call) hasEnded() bool {
+	return of.ended.Load() != 0
 }
 
-// await waits until a call was answered, or has met the end of the connection. It has the lock at
-// first, and not at last.
+// await waits until a call has ended. It has the lock at first, and not at last.
 func (c *connection) await(mine *call) {
 	switch {
-	case c.hasAnswered(mine):
+	case mine.hasEnded():
 		c.mu.Unlock()
-	case c.isReading:
+		return
+	case c.isReading || c.lacksFlush(mine) && c.syncs == 0:
 		c.sleep(mine)
-		if !c.hasAnswered(mine) {
-			// Who read has left that to this goroutine.
-			c.mu.Lock()
-			c.read(mine)
+		if mine.hasEnded() {
+			return
 		}
+		// The reading was left to this goroutine.
+		c.mu.Lock()
 	default:
 		c.isReading = true
-		c.read(mine)
 	}
+	c.read(mine)
 }
 
 // sleep waits until the goroutine of a call is woken. It has the lock at first, and not at last.
@@ -81,31 +82,78 @@ func (c *connection) unlockAndWake() {
 	}
 }
 
-// read reads answers until a call was answered; or, without one, as long as the socket takes no
+// read reads answers until a call has ended; or, without one, as long as the socket takes no
 // records. It has the lock at first, and not at last. Nobody else reads.
 func (c *connection) read(mine *call) {
 	for c.readsOn(mine) {
-		c.release()
+		isAtRest := c.isAtRest()
+		if mine != nil && c.lacksFlush(mine) && c.isFree() {
+			c.push(mine)
+		}
 		c.unlockAndWake()
-		n, err := c.socket.Read(c.received[c.used:])
+		n, err := c.receive(isAtRest)
 		c.mu.Lock()
 		c.takeIn(n, err)
 	}
 	c.isReading = false
 	if c.isBlocked && c.err == nil {
 		c.readAside()
-	} else if c.waiting > 0 {
-		c.isReading = true
-		c.wakeLater(c.calls.firstWaiting())
 	}
+	c.seeToReader()
+	c.release()
 	c.unlockAndWake()
+}
+
+// isAtRest says whether the port syncs the disk for many calls, and none of their goroutines runs.
+func (c *connection) isAtRest() bool {
+	return c.syncs > 0 && c.coming.Load() == 0 && c.calls.len()+len(c.unstable) >= manyCalls
 }
 
 func (c *connection) readsOn(mine *call) bool {
 	if mine == nil {
 		return c.isBlocked && c.err == nil
 	}
-	return !c.hasAnswered(mine)
+	return !mine.hasEnded()
+}
+
+// seeToReader has a goroutine that waits for an answer read, with the lock held, unless one reads.
+func (c *connection) seeToReader() {
+	if c.isReading {
+		return
+	}
+	next := c.firstWaiting(false)
+	if next == nil && c.syncs > 0 {
+		next = c.firstWaiting(true)
+	}
+	if next != nil {
+		c.isReading = true
+		c.wakeLater(next)
+	}
+}
+
+// firstWaiting returns the first call whose goroutine waits, and that lacks a flush or does not. It
+// returns nil where there is none.
+func (c *connection) firstWaiting(lacksFlush bool) *call {
+	if c.waiting == 0 {
+		return nil
+	}
+	for _, some := range [][]*call{c.unstable, c.calls.unanswered()} {
+		for _, each := range some {
+			if each.isWaiting && c.lacksFlush(each) == lacksFlush {
+				return each
+			}
+		}
+	}
+	return nil
+}
+
+// receive reads what comes. Where the connection is at rest, the thread waits for that itself for a
+// moment: to have the runtime wait takes longer.
+func (c *connection) receive(isAtRest bool) (n int, err error) {
+	if isAtRest {
+		c.raw.Control(awaitShortly)
+	}
+	return c.socket.Read(c.received[c.used:])
 }
 
 // readAside has a goroutine of its own read, with the lock held, unless one reads.
@@ -157,7 +205,6 @@ func moveTo(buffer, rest []byte) ([]byte, int) {
 // the answers say of commits is noted before a goroutine sees one, so before another connection.
 func (c *connection) settle(came []byte) (rest []byte, err error) {
 	var told, stable uint64
-	answered := c.answered.Load()
 	for {
 		record, behind, wrong := nextRecord(came)
 		if record == nil {
@@ -173,6 +220,8 @@ func (c *connection) settle(came []byte) (rest []byte, err error) {
 		switch {
 		case !isDone || of.operation != opCommit:
 			err = c.settleOne(of, record)
+		case of.isDeferred:
+			of.receipt = receipt
 		case of.isStable:
 			of.receipt, stable = receipt, max(stable, receipt.Commits)
 		default:
@@ -182,12 +231,51 @@ func (c *connection) settle(came []byte) (rest []byte, err error) {
 			break
 		}
 		came = behind
-		answered++
-		c.wakeLater(c.calls.take())
+		c.takeAnswered()
 	}
 	c.promises.note(told, stable)
-	c.answered.Store(answered)
 	return came, err
+}
+
+// takeAnswered takes the first call, which was answered. It ends then, unless a flush is to come.
+func (c *connection) takeAnswered() {
+	of := c.calls.take()
+	if of.syncs {
+		c.syncs--
+	}
+	switch {
+	case of.isDeferred && of.err == nil:
+		c.unstable = append(c.unstable, of)
+	case of.isOwnFlush:
+		c.endUnstable(of.err == nil)
+		calls.Put(of)
+	default:
+		c.endCall(of)
+	}
+}
+
+// endUnstable ends the commits that were done before a flush.
+func (c *connection) endUnstable(areStable bool) {
+	var told, stable uint64
+	for _, each := range c.unstable {
+		if areStable {
+			stable = each.receipt.Commits
+		} else {
+			each.err, told = &Unsure{each.receipt}, each.receipt.Commits
+		}
+	}
+	c.promises.note(told, stable)
+	for i, each := range c.unstable {
+		c.unstable[i] = nil
+		c.endCall(each)
+	}
+	c.unstable = c.unstable[:0]
+}
+
+// endCall ends a call. Its goroutine, if it waits, is woken once the lock is free.
+func (c *connection) endCall(of *call) {
+	of.ended.Store(1)
+	c.wakeLater(of)
 }
 
 // settleOne answers a call. It returns an error where the answer is none of the protocol.

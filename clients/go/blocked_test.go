@@ -97,7 +97,7 @@ func TestSomebodyReadsWhileTheSocketTakesNothing(t *testing.T) {
 		}
 		c.mu.Unlock()
 	}
-	go c.push()
+	go pushHeld(c)
 	waitFor(t, c, "a full socket", func() bool { return c.isBlocked })
 	close(mayGoOn)
 	if err := <-first; err != nil {

@@ -38,10 +38,11 @@ var errUntold = errors.New("a flight was lost before: wait for it first")
 // are done in their order.
 //
 // A commit may be held back, so that many are written at once: until Wait has to wait, 8 KiB are
-// held back, or 32 KiB where the last one is Stable, or any other call of the Journal. Where Wait
-// is for a Stable one, or that call is a Stable commit, it goes on to be held back while the port
-// owes an answer. While the socket takes no more, Submit waits, but the answers that come are
-// read, so port and caller never wait for each other.
+// held back, or 2 KiB where the last one is Stable, or any other call of the Journal. A Stable one
+// is sent as one that does not wait. A flush behind it makes it stable, which is sent where Wait
+// has to wait for one, or a Stable commit for its answer, once the port syncs the disk for no other
+// call. While the socket takes no more, Submit waits, but the answers that come are read, so port
+// and caller never wait for each other.
 //
 // Where the connection is lost, each Flight without an answer returns ErrLost. Those that were
 // done, if any, are the first ones of these. Until Wait has returned for each of them, Submit sends
@@ -88,7 +89,7 @@ func (j *Journal) submit(mine *call, pieces ...[]byte) (*connection, error) {
 // Timeout of the Journal is for one Wait: after it the connection ends.
 func (f *Flight) Wait() (Receipt, error) {
 	if f.over != nil {
-		if !f.over.hasAnswered(&f.call) {
+		if !f.call.hasEnded() {
 			f.await()
 		}
 		if f.call.err != nil && errors.Is(f.call.err, ErrLost) {

@@ -313,7 +313,7 @@ func TestALossWhileASubmitWaits(t *testing.T) {
 	j := dialFaulty(t)
 	// The port reads nothing while it answers this one.
 	flights := []*Flight{submit(j, Address{514, 15}, []byte{1})}
-	j.connection.Load().push()
+	pushHeld(j.connection.Load())
 	time.AfterFunc(500*time.Millisecond, func() { j.Close() })
 	for i := 0; i < many/10; i++ {
 		flights = append(flights, submit(j, Address{540, 0}, make([]byte, maxValue)))
@@ -379,7 +379,7 @@ func TestAnEndIsFoundBeforeASubmit(t *testing.T) {
 	for _, bit := range []uint32{freeBit, 0} {
 		flights = append(flights, submit(j, Address{514, bit}, []byte{1}))
 	}
-	over.push()
+	pushHeld(over)
 	time.Sleep(200 * time.Millisecond)
 	for i, each := range append(flights, submit(j, Address{514, freeBit}, []byte{1})) {
 		if _, err := end(t, each); err != nil {

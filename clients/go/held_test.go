@@ -1,6 +1,8 @@
 package jnl
 
 import (
+	"encoding/binary"
+	"errors"
 	"fmt"
 	"net"
 	"path/filepath"
@@ -41,6 +43,13 @@ func heldPort(t *testing.T) (*Journal, net.Conn) {
 	return j, peer
 }
 
+// pushHeld has what is held written.
+func pushHeld(c *connection) {
+	c.mu.Lock()
+	c.push(nil)
+	c.mu.Unlock()
+}
+
 // answerAll answers commits with these numbers.
 func answerAll(t *testing.T, peer net.Conn, first, last uint64) {
 	t.Helper()
@@ -53,23 +62,71 @@ func answerAll(t *testing.T, peer net.Conn, first, last uint64) {
 	}
 }
 
-// wantPiece wants so many records of commits to come, and no more.
-func wantPiece(t *testing.T, peer net.Conn, records int) {
+// answerFlush answers a flush after so many commits.
+func answerFlush(t *testing.T, peer net.Conn, commits uint64) {
 	t.Helper()
-	piece := make([]byte, 1<<16)
+	flushed := request(nil).word(0).word(opFlush)
+	if _, err := peer.Write(recordOf(binary.BigEndian.AppendUint64(flushed, commits))); err != nil {
+		t.Fatal(err)
+	}
+}
+
+// piece is how many records came: commits that wait, commits that do not, and flushes.
+type piece struct {
+	waiting, others, flushes int
+}
+
+// pieceOf reads the records of a piece, which has no part of another one.
+func pieceOf(t *testing.T, came []byte) (found piece) {
+	t.Helper()
+	for len(came) > 0 {
+		record, rest, err := nextRecord(came)
+		if err != nil || record == nil {
+			t.Fatalf("%d bytes are no record: %v", len(came), err)
+		}
+		switch operation := request(record).operation(); {
+		case operation == opFlush:
+			found.flushes++
+		case operation != opCommit:
+			t.Fatalf("operation %d", operation)
+		case record[waitByte] == 1:
+			found.waiting++
+		default:
+			found.others++
+		}
+		came = rest
+	}
+	return found
+}
+
+// wantPiece wants such records to come, and no more.
+func wantPiece(t *testing.T, peer net.Conn, wanted piece) {
+	t.Helper()
+	size := bitRecordBytes*(wanted.waiting+wanted.others) + (lengthBytes+wordBytes)*wanted.flushes
+	room := make([]byte, 1<<16)
 	came, limit := 0, time.Now().Add(patience)
-	for came < records*bitRecordBytes && time.Now().Before(limit) {
+	for came < size && time.Now().Before(limit) {
 		peer.SetReadDeadline(limit)
-		n, err := peer.Read(piece)
+		n, err := peer.Read(room[came:])
 		if err != nil {
 			t.Fatalf("%d bytes came: %v", came, err)
 		}
 		came += n
 	}
 	peer.SetReadDeadline(time.Now().Add(aMoment))
-	n, _ := peer.Read(piece)
-	if came += n; came != records*bitRecordBytes {
-		t.Fatalf("%d bytes, not %d records", came, records)
+	n, _ := peer.Read(room[came:])
+	if found := pieceOf(t, room[:came+n]); found != wanted {
+		t.Fatalf("%+v came, not %+v", found, wanted)
+	}
+}
+
+// wantNobodyTold wants no call to have ended that gives its error to a channel.
+func wantNobodyTold(t *testing.T, errs <-chan error) {
+	t.Helper()
+	select {
+	case err := <-errs:
+		t.Fatalf("a call has ended: %v", err)
+	case <-time.After(aMoment):
 	}
 }
 
@@ -98,36 +155,65 @@ func wantNoErrors(t *testing.T, errs <-chan error, count int) {
 	}
 }
 
-// TestCommitsThatWaitAreWrittenAtOnce wants them to be held back while an answer is owed.
-func TestCommitsThatWaitAreWrittenAtOnce(t *testing.T) {
+// TestCommitsOfManyShareAFlush wants them to be held back while the port syncs the disk, and nobody
+// to be told before the flush is answered.
+func TestCommitsOfManyShareAFlush(t *testing.T) {
 	j, peer := heldPort(t)
 	errs := make(chan error, 1+held)
 	commitLater(t, j, Stable, errs)
-	wantPiece(t, peer, 1)
+	wantPiece(t, peer, piece{waiting: 1})
 	for i := 0; i < held; i++ {
 		commitLater(t, j, Stable, errs)
 	}
-	wantPiece(t, peer, 0)
+	wantPiece(t, peer, piece{})
 	answerAll(t, peer, 1, 1)
-	wantPiece(t, peer, held)
+	wantNoErrors(t, errs, 1)
+	wantPiece(t, peer, piece{others: held, flushes: 1})
 	answerAll(t, peer, 2, 1+held)
-	wantNoErrors(t, errs, 1+held)
+	wantNobodyTold(t, errs)
+	answerFlush(t, peer, 1+held)
+	wantNoErrors(t, errs, held)
+	if told := &j.promises; told.told > told.stable || told.stable != 1+held {
+		t.Errorf("%d commits are told, and %d stable", told.told, told.stable)
+	}
+}
+
+// TestManyCommitsAreSentBeforeTheirFlush wants those that are many to be sent while the port syncs.
+func TestManyCommitsAreSentBeforeTheirFlush(t *testing.T) {
+	j, peer := heldPort(t)
+	atOnce := (deferredPieceBytes + bitRecordBytes - 1) / bitRecordBytes
+	errs := make(chan error, 1+atOnce)
+	commitLater(t, j, Stable, errs)
+	wantPiece(t, peer, piece{waiting: 1})
+	for i := 0; i < atOnce; i++ {
+		commitLater(t, j, Stable, errs)
+	}
+	wantPiece(t, peer, piece{others: atOnce})
+	answerAll(t, peer, 1, 1)
+	wantPiece(t, peer, piece{flushes: 1})
+	answerAll(t, peer, 2, uint64(1+atOnce))
+	answerFlush(t, peer, uint64(1+atOnce))
+	wantNoErrors(t, errs, 1+atOnce)
 }
 
 // TestOtherCallsAreNotHeldBack wants what was held back to be written with a call that does not
-// wait for the disk.
+// wait for the disk, and that one to be told without a flush.
 func TestOtherCallsAreNotHeldBack(t *testing.T) {
 	j, peer := heldPort(t)
-	errs := make(chan error, 2+held)
+	errs, lazy := make(chan error, 1+held), make(chan error, 1)
 	commitLater(t, j, Stable, errs)
-	wantPiece(t, peer, 1)
+	wantPiece(t, peer, piece{waiting: 1})
 	for i := 0; i < held; i++ {
 		commitLater(t, j, Stable, errs)
 	}
-	commitLater(t, j, Lazy, errs)
-	wantPiece(t, peer, held+1)
+	commitLater(t, j, Lazy, lazy)
+	wantPiece(t, peer, piece{others: held + 1})
 	answerAll(t, peer, 1, 2+held)
-	wantNoErrors(t, errs, 2+held)
+	wantNoErrors(t, errs, 1)
+	wantNoErrors(t, lazy, 1)
+	wantPiece(t, peer, piece{flushes: 1})
+	answerFlush(t, peer, 2+held)
+	wantNoErrors(t, errs, held)
 }
 
 // TestAWaitForAFlightIsNotHeldBack wants a commit that does not wait for the disk to be written
@@ -136,15 +222,77 @@ func TestAWaitForAFlightIsNotHeldBack(t *testing.T) {
 	j, peer := heldPort(t)
 	errs := make(chan error, 2)
 	commitLater(t, j, Stable, errs)
-	wantPiece(t, peer, 1)
+	wantPiece(t, peer, piece{waiting: 1})
 	flight := submit(j, Address{514, freeBit}, []byte{1})
 	go func() {
 		_, err := flight.Wait()
 		errs <- err
 	}()
-	wantPiece(t, peer, 1)
+	wantPiece(t, peer, piece{others: 1})
 	answerAll(t, peer, 1, 2)
 	wantNoErrors(t, errs, 2)
+}
+
+// TestNoFlushIsSentForWhatNobodyWaitsFor has a lazy commit come behind a flight.
+func TestNoFlushIsSentForWhatNobodyWaitsFor(t *testing.T) {
+	j, peer := heldPort(t)
+	errs := make(chan error, 1)
+	flight := submitStable(j)
+	commitLater(t, j, Lazy, errs)
+	wantPiece(t, peer, piece{others: 2})
+	answerAll(t, peer, 1, 2)
+	wantNoErrors(t, errs, 1)
+	go func() {
+		_, err := flight.Wait()
+		errs <- err
+	}()
+	wantPiece(t, peer, piece{flushes: 1})
+	answerFlush(t, peer, 2)
+	wantNoErrors(t, errs, 1)
+}
+
+// TestManyFlightsThatNobodyWaitsForGetAFlush wants no more to be kept than so many.
+func TestManyFlightsThatNobodyWaitsForGetAFlush(t *testing.T) {
+	j, peer := heldPort(t)
+	go answerCommits(peer)
+	for i := 0; i < 4*mostUnstable; i++ {
+		submitStable(j)
+	}
+	c := j.connection.Load()
+	waitFor(t, c, "few that are kept", func() bool {
+		c.isUsable(true)
+		return len(c.unstable)+c.calls.len() < 2*mostUnstable
+	})
+}
+
+// answerCommits answers commits, and flushes, until the peer ends.
+func answerCommits(peer net.Conn) {
+	var came, answers []byte
+	room := make([]byte, 1<<16)
+	for commits := uint64(0); ; {
+		n, err := peer.Read(room)
+		came, answers = append(came, room[:n]...), answers[:0]
+		for record, rest, _ := nextRecord(came); record != nil; record, rest, _ = nextRecord(came) {
+			came = rest
+			if request(record).operation() == opCommit {
+				commits++
+				answers = append(answers, recordOf(committed(commits))...)
+			} else {
+				flushed := request(nil).word(0).word(opFlush)
+				answers = append(answers, recordOf(binary.BigEndian.AppendUint64(flushed, commits))...)
+			}
+		}
+		if _, wrong := peer.Write(answers); err != nil || wrong != nil {
+			return
+		}
+	}
+}
+
+// submitStable submits a commit that is to be stable.
+func submitStable(j *Journal) *Flight {
+	tx := j.Begin()
+	tx.Write(Address{514, freeBit}, []byte{1})
+	return tx.Submit(Stable)
 }
 
 // TestWhoIsWokenLastHasOthersWritten has the first of two that are answered at once commit again
@@ -154,7 +302,7 @@ func TestWhoIsWokenLastHasOthersWritten(t *testing.T) {
 	j, peer := heldPort(t)
 	errs := make(chan error, 4)
 	commitLater(t, j, Stable, errs)
-	wantPiece(t, peer, 1)
+	wantPiece(t, peer, piece{waiting: 1})
 	go func() {
 		errs <- put(j, freeBit, Stable)
 		errs <- put(j, freeBit, Stable)
@@ -163,10 +311,12 @@ func TestWhoIsWokenLastHasOthersWritten(t *testing.T) {
 	waitFor(t, c, "a record that is held", func() bool { return len(c.held) > 0 })
 	commitLater(t, j, Stable, errs)
 	answerAll(t, peer, 1, 1)
-	wantPiece(t, peer, 2)
+	wantPiece(t, peer, piece{others: 2, flushes: 1})
 	answerAll(t, peer, 2, 3)
-	wantPiece(t, peer, 1)
+	answerFlush(t, peer, 3)
+	wantPiece(t, peer, piece{others: 1, flushes: 1})
 	answerAll(t, peer, 4, 4)
+	answerFlush(t, peer, 4)
 	wantNoErrors(t, errs, 4)
 }
 
@@ -176,40 +326,92 @@ func TestWhoDoesNotCallAgainHoldsNobodyBack(t *testing.T) {
 	j, peer := heldPort(t)
 	errs := make(chan error, 3*held)
 	commitLater(t, j, Stable, errs)
-	wantPiece(t, peer, 1)
+	wantPiece(t, peer, piece{waiting: 1})
 	for i := 1; i < 3*held; i++ {
 		commitLater(t, j, Stable, errs)
 		if i == held {
 			answerAll(t, peer, 1, 1)
-			wantPiece(t, peer, held)
+			wantPiece(t, peer, piece{others: held, flushes: 1})
 		}
 	}
-	wantPiece(t, peer, 0)
-	answerAll(t, peer, 2, held) // one is owed still
-	wantPiece(t, peer, 0)
-	answerAll(t, peer, 1+held, 1+held)
-	wantPiece(t, peer, 2*held-1)
+	wantPiece(t, peer, piece{})
+	answerAll(t, peer, 2, 1+held)
+	wantPiece(t, peer, piece{}) // the flush is owed still
+	answerFlush(t, peer, 1+held)
+	wantPiece(t, peer, piece{others: 2*held - 1, flushes: 1})
 	answerAll(t, peer, 2+held, 3*held)
+	answerFlush(t, peer, 3*held)
 	wantNoErrors(t, errs, 3*held)
 }
 
-// TestACommitWaitsBehindAFlight has nobody wait for the flight whose answer is owed.
+// TestACommitWaitsBehindAFlight has a flush be owed of which nobody waits for the answer.
 func TestACommitWaitsBehindAFlight(t *testing.T) {
 	j, peer := heldPort(t)
 	errs := make(chan error, 1)
-	tx := j.Begin()
-	tx.Write(Address{514, freeBit}, []byte{1})
-	flight := tx.Submit(Stable)
-	j.connection.Load().push()
-	wantPiece(t, peer, 1)
+	flight, c := submitStable(j), j.connection.Load()
+	c.mu.Lock()
+	c.push(&flight.call)
+	c.mu.Unlock()
+	wantPiece(t, peer, piece{others: 1, flushes: 1})
 	commitLater(t, j, Stable, errs)
-	wantPiece(t, peer, 0)
+	wantPiece(t, peer, piece{})
 	answerAll(t, peer, 1, 1)
-	wantPiece(t, peer, 1)
+	answerFlush(t, peer, 1)
+	wantPiece(t, peer, piece{others: 1, flushes: 1})
 	answerAll(t, peer, 2, 2)
+	answerFlush(t, peer, 2)
 	wantNoErrors(t, errs, 1)
 	if _, err := end(t, flight); err != nil {
 		t.Error(err)
+	}
+}
+
+// TestAnotherReadsTheAnswerToAFlush has who reads be answered before a flush that is owed, of which
+// nobody waits for the answer.
+func TestAnotherReadsTheAnswerToAFlush(t *testing.T) {
+	j, peer := heldPort(t)
+	errs, lazy := make(chan error, 1), make(chan error, 1)
+	commitLater(t, j, Lazy, lazy)
+	wantPiece(t, peer, piece{others: 1})
+	flight, c := submitStable(j), j.connection.Load()
+	c.mu.Lock()
+	c.push(&flight.call)
+	c.mu.Unlock()
+	wantPiece(t, peer, piece{others: 1, flushes: 1})
+	commitLater(t, j, Stable, errs)
+	answerAll(t, peer, 1, 1)
+	wantNoErrors(t, lazy, 1)
+	wantPiece(t, peer, piece{})
+	answerAll(t, peer, 2, 2)
+	answerFlush(t, peer, 2)
+	wantPiece(t, peer, piece{others: 1, flushes: 1})
+	answerAll(t, peer, 3, 3)
+	answerFlush(t, peer, 3)
+	wantNoErrors(t, errs, 1)
+}
+
+// TestARefusedFlush wants the commits before it to be unsure, and one that was refused to be so.
+func TestARefusedFlush(t *testing.T) {
+	j, peer := heldPort(t)
+	errs := make(chan error, 1+held)
+	commitLater(t, j, Stable, errs)
+	wantPiece(t, peer, piece{waiting: 1})
+	commitLater(t, j, Stable, errs)
+	commitLater(t, j, Stable, errs)
+	answerAll(t, peer, 1, 1)
+	wantNoErrors(t, errs, 1)
+	wantPiece(t, peer, piece{others: 2, flushes: 1})
+	refused := append(recordOf(request(nil).word(uint32(Conflict))), recordOf(committed(2))...)
+	if _, err := peer.Write(append(refused, recordOf(request(nil).word(uint32(Closed)))...)); err != nil {
+		t.Fatal(err)
+	}
+	wantError(t, "a commit that was refused", <-errs, Conflict)
+	var unsure *Unsure
+	if err := <-errs; !errors.As(err, &unsure) || unsure.Receipt.Commits != 2 {
+		t.Errorf("a commit whose flush was refused: %v", err)
+	}
+	if told := &j.promises; told.told != 2 || told.stable != 1 {
+		t.Errorf("%d commits are told, and %d stable", told.told, told.stable)
 	}
 }
 
@@ -263,12 +465,36 @@ func TestALossOfCommitsThatWait(t *testing.T) {
 	j, peer := heldPort(t)
 	errs := make(chan error, 1+held)
 	commitLater(t, j, Stable, errs)
-	wantPiece(t, peer, 1)
+	wantPiece(t, peer, piece{waiting: 1})
 	for i := 0; i < held; i++ {
 		commitLater(t, j, Stable, errs)
 	}
 	peer.Close()
 	for i := 0; i < 1+held; i++ {
 		wantError(t, "a commit that was lost", <-errs, ErrLost)
+	}
+}
+
+// TestALossBeforeTheFlush wants goroutines to be told whose commits were answered, and whose flush
+// was not. Nobody was told of the commits, so no restart is told either.
+func TestALossBeforeTheFlush(t *testing.T) {
+	j, peer := heldPort(t)
+	errs := make(chan error, 1+held)
+	commitLater(t, j, Stable, errs)
+	wantPiece(t, peer, piece{waiting: 1})
+	for i := 0; i < held; i++ {
+		commitLater(t, j, Stable, errs)
+	}
+	answerAll(t, peer, 1, 1)
+	wantNoErrors(t, errs, 1)
+	wantPiece(t, peer, piece{others: held, flushes: 1})
+	answerAll(t, peer, 2, 1+held)
+	wantNobodyTold(t, errs)
+	peer.Close()
+	for i := 0; i < held; i++ {
+		wantError(t, "a commit without a flush", <-errs, ErrLost)
+	}
+	if told := &j.promises; told.told > told.stable {
+		t.Errorf("%d commits are told, and %d stable", told.told, told.stable)
 	}
 }

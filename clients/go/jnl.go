@@ -13,9 +13,10 @@
 //	})
 //
 // A Journal is one connection, for any number of goroutines at once. A call does not wait for the
-// answers of others, so as many requests are in flight as there are calls. Stable commits alone
-// are held back while the port owes an answer, and then sent at once: so the disk is synced once
-// for all of them. A connection that the port has ended, for its silence or with the service, is
+// answers of others, so as many requests are in flight as there are calls. Of Stable commits at
+// once each is sent as one that does not wait, and a flush behind all of them. Each returns once
+// that is answered: so the disk is synced once for all of them, and the port works while they are
+// made. A connection that the port has ended, for its silence or with the service, is
 // made again by the next call. Where the service was started again in between, and commits of the
 // Journal may be gone, that call returns ErrRestarted. Where the connection is lost, each call
 // without an answer returns ErrLost. Those commits that were done, if any, are the first ones of

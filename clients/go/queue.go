@@ -37,11 +37,7 @@ func (q *queue) take() *call {
 	return c
 }
 
-// firstWaiting returns the first call whose goroutine waits. There is one.
-func (q *queue) firstWaiting() *call {
-	at := q.first
-	for !q.all[at].isWaiting {
-		at++
-	}
-	return q.all[at]
+// unanswered returns the calls, until one is added or taken.
+func (q *queue) unanswered() []*call {
+	return q.all[q.first:]
 }
