@@ -247,20 +247,18 @@ func (c *connection) takeAnswered() {
 	case of.isDeferred && of.err == nil:
 		c.unstable = append(c.unstable, of)
 	case of.isOwnFlush:
-		c.endUnstable(of.err == nil)
+		c.endUnstable(of.receipt.Commits)
 		calls.Put(of)
 	default:
 		c.endCall(of)
 	}
 }
 
-// endUnstable ends the commits that were done before a flush.
-func (c *connection) endUnstable(areStable bool) {
-	var told, stable uint64
+// endUnstable ends the commits that were done before a flush, which says that so many are stable.
+func (c *connection) endUnstable(stable uint64) {
+	told := uint64(0)
 	for _, each := range c.unstable {
-		if areStable {
-			stable = each.receipt.Commits
-		} else {
+		if each.receipt.Commits > stable {
 			each.err, told = &Unsure{each.receipt}, each.receipt.Commits
 		}
 	}

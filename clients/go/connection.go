@@ -43,7 +43,7 @@ type call struct {
 	number     uint64        // its place among the calls of the connection, from 0
 	decode     func(*answer) // nil for a commit, whose receipt is kept
 	note       func()        // called once the answer was read; may be nil
-	receipt    Receipt
+	receipt    Receipt       // of a commit. Its Commits are those that a flush says to be stable
 	err        error
 	wake       chan struct{} // has room for one, so nobody waits to wake it. Nil until one waits
 	next       *call         // the goroutine of which is woken after that of this one
@@ -228,8 +228,9 @@ func (c *connection) addFlush(mine *call) {
 	if !c.hasUnflushed || c.isBusy() || c.err != nil || !c.needsFlush(mine) {
 		return
 	}
-	flush := newCall(opFlush, func(a *answer) { a.hyper() })
+	flush := newCall(opFlush, nil)
 	flush.isOwnFlush = true
+	flush.decode = func(a *answer) { flush.receipt.Commits = a.hyper() }
 	c.calls.add(flush)
 	c.held = binary.BigEndian.AppendUint32(c.held, wordBytes)
 	c.held = binary.BigEndian.AppendUint32(c.held, opFlush)

@@ -212,6 +212,7 @@ func TestNoAnswerInTime(t *testing.T) {
 	if err := setBit(j, 14); !errors.Is(err, ErrLost) {
 		t.Errorf("no answer: %v", err)
 	}
+	j.Timeout = 0
 	if found := commits(t, j); found != before+1 {
 		t.Errorf("%d commits, not %d", found, before+1)
 	}
@@ -224,7 +225,7 @@ func TestALimitIsOfTheWholeCall(t *testing.T) {
 	if !errors.Is(err, ErrLost) || !errors.Is(err, os.ErrDeadlineExceeded) {
 		t.Errorf("an answer in pieces: %v", err)
 	}
-	if took := time.Since(begin); took > 4*time.Second {
+	if took := time.Since(begin); took > patience {
 		t.Errorf("it took %v", took)
 	}
 }
@@ -250,7 +251,7 @@ func TestNoPortInTime(t *testing.T) {
 		if !errors.Is(err, ErrNoPort) || !errors.Is(err, os.ErrDeadlineExceeded) {
 			t.Errorf("%s: %v", kind, err)
 		}
-		if took := time.Since(begin); took < 200*time.Millisecond || took > 5*time.Second {
+		if took := time.Since(begin); took < 200*time.Millisecond || took > patience {
 			t.Errorf("%s: it took %v", kind, took)
 		}
 	}

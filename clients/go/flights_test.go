@@ -328,15 +328,8 @@ func TestALossWhileASubmitWaits(t *testing.T) {
 
 // TestALimitEndsAllInFlight wants each call to end after the limit of time.
 func TestALimitEndsAllInFlight(t *testing.T) {
-	path := os.Getenv("JNL_FAULTY_SOCKET")
-	if path == "" {
-		t.Skip("JNL_FAULTY_SOCKET names no socket")
-	}
-	j, err := DialTimeout("unix", path, time.Second)
-	if err != nil {
-		t.Fatal(err)
-	}
-	defer j.Close()
+	j := dialFaulty(t)
+	j.Timeout = time.Second
 	errs, began := make(chan error, inFlights), time.Now()
 	for i := 0; i < inFlights; i++ {
 		go func() { errs <- setBit(j, 14) }()
@@ -346,9 +339,10 @@ func TestALimitEndsAllInFlight(t *testing.T) {
 			t.Errorf("%v", err)
 		}
 	}
-	if took := time.Since(began); took > 5*time.Second {
+	if took := time.Since(began); took > patience {
 		t.Errorf("%v", took)
 	}
+	j.Timeout = 0
 	commits(t, j)
 }
 

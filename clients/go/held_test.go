@@ -406,13 +406,36 @@ func TestARefusedFlush(t *testing.T) {
 		t.Fatal(err)
 	}
 	wantError(t, "a commit that was refused", <-errs, Conflict)
+	wantUnsure(t, j, <-errs, 2)
+}
+
+// wantUnsure wants an error to say that this commit is not known to be stable, and the one before
+// it to be known so.
+func wantUnsure(t *testing.T, j *Journal, err error, commits uint64) {
+	t.Helper()
 	var unsure *Unsure
-	if err := <-errs; !errors.As(err, &unsure) || unsure.Receipt.Commits != 2 {
-		t.Errorf("a commit whose flush was refused: %v", err)
+	if !errors.As(err, &unsure) || unsure.Receipt.Commits != commits {
+		t.Errorf("commit %d: %v", commits, err)
 	}
-	if told := &j.promises; told.told != 2 || told.stable != 1 {
+	if told := &j.promises; told.told != commits || told.stable != commits-1 {
 		t.Errorf("%d commits are told, and %d stable", told.told, told.stable)
 	}
+}
+
+// TestAFlushOfFewer has a flush say that less is stable than was done before it.
+func TestAFlushOfFewer(t *testing.T) {
+	j, peer := heldPort(t)
+	errs, first := make(chan error, 1), make(chan error, 2)
+	commitLater(t, j, Stable, first)
+	wantPiece(t, peer, piece{waiting: 1})
+	commitLater(t, j, Stable, first)
+	commitLater(t, j, Stable, errs)
+	answerAll(t, peer, 1, 1)
+	wantPiece(t, peer, piece{others: 2, flushes: 1})
+	answerAll(t, peer, 2, 3)
+	answerFlush(t, peer, 2)
+	wantNoErrors(t, first, 2)
+	wantUnsure(t, j, <-errs, 3)
 }
 
 // TestManyGoroutinesWaitUntilStable has goroutines wait for commits and for flights, and read.

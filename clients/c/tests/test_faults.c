@@ -7,6 +7,9 @@
 #include <stdlib.h>
 #include <time.h>
 
+/* The most seconds that a call with a limit may take where the machine has other work. */
+#define PATIENCE 20
+
 static jnl *j;
 static unsigned tries;
 
@@ -172,7 +175,7 @@ static void no_port_in_time(const char *path, const char *kind)
     snprintf(nowhere, sizeof nowhere, "%s.%s", path, kind);
     want((unsigned)jnl_open_within(nowhere, 200, &none), JNL_NO_PORT, kind, 0);
     want((unsigned)errno, ETIMEDOUT, kind, 0);
-    want(seconds() - begin >= 0.2 && seconds() - begin < 5, 1, kind, 0);
+    want(seconds() - begin >= 0.2 && seconds() - begin < PATIENCE, 1, kind, 0);
 }
 
 /* An answer that comes by a byte each fifth of a second. */
@@ -182,7 +185,7 @@ static void a_limit_is_of_the_whole_call(void)
     jnl_set_timeout(j, 500);
     want((unsigned)commit(15, NULL), JNL_LOST, "a commit", 15);
     want((unsigned)errno, ETIMEDOUT, "why", 15);
-    want(seconds() - begin < 4, 1, "seconds", 15);
+    want(seconds() - begin < PATIENCE, 1, "seconds", 15);
 }
 
 int main(int argc, char **argv)

@@ -324,7 +324,7 @@ static void a_call_after_pieces(void)
 
 static void a_limit_of_time(void)
 {
-    jnl_set_timeout(j, 1000);
+    jnl_set_timeout(j, 3000);
     uint64_t before = commits();
     submit_bit(FREE_BIT, 0);
     submit_bit(14, 1);

@@ -15,6 +15,8 @@ sys.path.insert(0, os.path.join(os.path.dirname(__file__), ".."))
 import jnl  # noqa: E402
 
 PATH = os.environ.get("JNL_FAULTY_SOCKET", "")
+# The most seconds that a call with a limit may take where the machine has other work.
+PATIENCE = 20
 
 
 @unittest.skipUnless(PATH, "JNL_FAULTY_SOCKET names no socket")
@@ -170,7 +172,7 @@ class Faults(unittest.TestCase):
         self.want_commits(1)
 
     def test_a_port_that_does_not_answer(self) -> None:
-        with jnl.connect(PATH, timeout=0.2) as j:
+        with jnl.connect(PATH, timeout=2) as j:
             t = j.begin()
             t.write(514, 14, b"\1")
             with self.assertRaises(jnl.Lost):
@@ -185,12 +187,12 @@ class Faults(unittest.TestCase):
             self.assertEqual(self.journal.read([(514, bit)]), [b"\1"])
 
     def test_a_limit_is_of_the_whole_call(self) -> None:
-        with jnl.connect(PATH, timeout=0.5) as j:
+        with jnl.connect(PATH, timeout=2) as j:
             t, begin = j.begin(), time.monotonic()
             t.write(514, 15, b"\1")
             with self.assertRaises(jnl.Lost):
                 t.commit()
-            self.assertLess(time.monotonic() - begin, 4)
+            self.assertLess(time.monotonic() - begin, PATIENCE)
 
     def test_no_port(self) -> None:
         for path, reason in [
@@ -208,7 +210,7 @@ class Faults(unittest.TestCase):
             with self.assertRaises(jnl.NoPort) as caught:
                 jnl.connect(f"{PATH}.{kind}", timeout=0.2)
             self.assertEqual(caught.exception.errno, errno.ETIMEDOUT)
-            self.assertTrue(0.2 <= time.monotonic() - begin < 5)
+            self.assertTrue(0.2 <= time.monotonic() - begin < PATIENCE)
 
 
 if __name__ == "__main__":

@@ -6,6 +6,9 @@ use std::io::ErrorKind;
 use std::thread;
 use std::time::{Duration, Instant};
 
+/// The most that a call with a limit may take where the machine has other work.
+const PATIENCE: Duration = Duration::from_secs(20);
+
 fn bit(number: u32) -> Address {
     Address { block: 514, bit: number }
 }
@@ -167,7 +170,7 @@ fn a_limit_is_of_the_whole_call(j: &mut Journal) {
         Err(Error::Lost(error)) => assert_eq!(error.kind(), ErrorKind::TimedOut),
         other => panic!("an answer in pieces: {other:?}"),
     }
-    assert!(begin.elapsed() < Duration::from_secs(4));
+    assert!(begin.elapsed() < PATIENCE);
 }
 
 /// Why there is no port.
@@ -195,6 +198,6 @@ fn no_port_in_time() {
         let (begin, limit) = (Instant::now(), Duration::from_millis(200));
         let found = Journal::connect_within(format!("{path}.{kind}"), limit);
         assert_eq!(kind_of_no_port(found), ErrorKind::TimedOut, "{kind}");
-        assert!(limit <= begin.elapsed() && begin.elapsed() < 25 * limit, "{kind}");
+        assert!(limit <= begin.elapsed() && begin.elapsed() < PATIENCE, "{kind}");
     }
 }

@@ -310,7 +310,7 @@ fn another_call_after_an_answer_in_pieces() {
 fn a_limit_of_time() {
     with_journal("JNL_FAULTY_SOCKET", |j| {
         let before = commits(j);
-        j.set_timeout(Some(Duration::from_secs(1)));
+        j.set_timeout(Some(Duration::from_secs(3)));
         for (i, bit) in [FREE_BIT, 14, 14].into_iter().enumerate() {
             submit_bit(j, bit, i as u64).expect("submit");
         }
