@@ -2,9 +2,10 @@
 use Rattle.std.proofs.Common.{◌≡◌, ◌-◌, ◌||◌, ℕ, Bor, IfSome, option_copied, zero, suc, nat_eq, Bool, true, false, cond, List, [], ◌∷◌, ◌++◌, take, Option, Some, None, is_some, unwrap_or, IsSome, Result, Ok, Err, OnOk, OnErr, IsOk, append_assoc, refl, sym, ap, subst, ◌∙◌}
 use Rattle.std.specs.Option.{option_map_or}
 use Rattle.std.specs.Cmp.{nat_eq_equiv}
-use Rattle.std.specs.Map.{lookup, lookup_entry, remove_entry}
+use Rattle.std.specs.Map.{keys_of, lookup, lookup_entry, remove_entry}
+use Rattle.std.specs.List.{AllByRecursion, IsDistinct}
 use Rattle.std.proofs.lemmas.Bool.{false≢true, eqb-true}
-use Rattle.lru.specs.LruCache.{LruCache, lru_cache, promoted, put_entries}
+use Rattle.lru.specs.LruCache.{LruCache, lru_cache, promoted, demoted, put_entries}
 use Rattle.lru.proofs.CallerLemmas.{Contains-lookup_entry}
 use Rattle.journal_block.specs.declared.update.Update.{Update}
 use Rattle.journal_block.specs.Block.{Bytes}
@@ -151,6 +152,72 @@ promoted_alike es k b = by (lookup_entry (nat_eq k) es) refl
         ∙ first_entry es k f f.1 is b
         ∙ again es k f.1 (lookup_first k b es f is) b
 
+-- ---- an entry goes last
+
+-- a key that is apart from all is not found
+none_apart : (es : List (ℕ × Bytes)) (k : ℕ) → AllByRecursion (λ j. nat_eq k j ≡ false) (keys_of es) → lookup (nat_eq k) es ≡ None
+none_apart [] k apart = refl
+none_apart (e ∷ es) k apart = ap (λ (t : Bool). cond t (Some e.1) (lookup (nat_eq k) es)) apart.0 ∙ none_apart es k apart.1
+
+-- where no key comes twice, a key that was removed is gone
+removed_gone : (es : List (ℕ × Bytes)) (k : ℕ) → IsDistinct nat_eq (keys_of es) → lookup (nat_eq k) (remove_entry (nat_eq k) es) ≡ None
+unfolding IsDistinct
+removed_gone [] k distinct = refl
+removed_gone (e ∷ es) k distinct = by (nat_eq k e.0) refl (removed_gone es k distinct.1)
+  where
+    by : (here : Bool) → nat_eq k e.0 ≡ here → lookup (nat_eq k) (remove_entry (nat_eq k) es) ≡ None
+        → lookup (nat_eq k) (cond (nat_eq k e.0) es (e ∷ remove_entry (nat_eq k) es)) ≡ None
+    by true is rest =
+        ap (λ (t : Bool). lookup (nat_eq k) (cond t es (e ∷ remove_entry (nat_eq k) es))) is
+        ∙ none_apart es k (subst (λ (j : ℕ). AllByRecursion (λ i. nat_eq j i ≡ false) (keys_of es)) (sym (eqb-true k e.0 is)) distinct.0)
+    by false is rest =
+        ap (λ (t : Bool). lookup (nat_eq k) (cond t es (e ∷ remove_entry (nat_eq k) es))) is
+        ∙ ap (λ (t : Bool). cond t (Some e.1) (lookup (nat_eq k) (remove_entry (nat_eq k) es))) is ∙ rest
+
+-- an entry behind others is found where none of them is
+behind_gone : (es : List (ℕ × Bytes)) (f : ℕ × Bytes) (b : ℕ) → lookup (nat_eq b) es ≡ None → lookup (nat_eq b) (es ++ f ∷ []) ≡ cond (nat_eq b f.0) (Some f.1) None
+behind_gone [] f b none = refl
+behind_gone (e ∷ es) f b none = by (nat_eq b e.0) refl (behind_gone es f b)
+  where
+    by : (here : Bool) → nat_eq b e.0 ≡ here → (lookup (nat_eq b) es ≡ None → lookup (nat_eq b) (es ++ f ∷ []) ≡ cond (nat_eq b f.0) (Some f.1) None)
+        → cond (nat_eq b e.0) (Some e.1) (lookup (nat_eq b) (es ++ f ∷ [])) ≡ cond (nat_eq b f.0) (Some f.1) None
+    by true is rest =
+        let found : Some e.1 ≡ None = sym (ap (λ (t : Bool). cond t (Some e.1) (lookup (nat_eq b) es)) is) ∙ none in
+        let impossible : ⊥ = cc in absurd impossible
+    by false is rest =
+        ap (λ (t : Bool). cond t (Some e.1) (lookup (nat_eq b) (es ++ f ∷ []))) is
+        ∙ rest (sym (ap (λ (t : Bool). cond t (Some e.1) (lookup (nat_eq b) es)) is) ∙ none)
+
+-- and changes nothing of another block
+behind_other : (es : List (ℕ × Bytes)) (f : ℕ × Bytes) (b : ℕ) → nat_eq b f.0 ≡ false → lookup (nat_eq b) (es ++ f ∷ []) ≡ lookup (nat_eq b) es
+behind_other [] f b other = ap (λ (t : Bool). cond t (Some f.1) None) other
+behind_other (e ∷ es) f b other = ap (λ (o : Option Bytes). cond (nat_eq b e.0) (Some e.1) o) (behind_other es f b other)
+
+pub demoted_alike : (es : List (ℕ × Bytes)) (k b : ℕ) → IsDistinct nat_eq (keys_of es) → lookup (nat_eq b) (demoted (nat_eq k) es) ≡ lookup (nat_eq b) es
+demoted_alike es k b distinct = by (lookup_entry (nat_eq k) es) refl
+  where
+    last : (f : ℕ × Bytes) → lookup_entry (nat_eq k) es ≡ Some f → (here : Bool) → nat_eq b k ≡ here
+        → lookup (nat_eq b) (remove_entry (nat_eq k) es ++ f ∷ []) ≡ lookup (nat_eq b) es
+    last f is true here =
+        let same : b ≡ k = eqb-true b k here in
+        let found : k ≡ f.0 = eqb-true k f.0 (Contains-lookup_entry (nat_eq k) es f is).1 in
+        ap (λ (j : ℕ). lookup (nat_eq j) (remove_entry (nat_eq k) es ++ f ∷ [])) same
+        ∙ behind_gone (remove_entry (nat_eq k) es) f k (removed_gone es k distinct)
+        ∙ ap (λ (t : Bool). cond t (Some f.1) None) (Contains-lookup_entry (nat_eq k) es f is).1
+        ∙ sym (lookup_first k k es f is)
+        ∙ ap (λ (j : ℕ). lookup (nat_eq j) es) (sym same)
+    last f is false here =
+        let found : k ≡ f.0 = eqb-true k f.0 (Contains-lookup_entry (nat_eq k) es f is).1 in
+        behind_other (remove_entry (nat_eq k) es) f b (ap (nat_eq b) (sym found) ∙ here)
+        ∙ removed_other k b es here
+
+    by : (o : Option (ℕ × Bytes)) → lookup_entry (nat_eq k) es ≡ o
+        → lookup (nat_eq b) (option_map_or (λ f. remove_entry (nat_eq k) es ++ f ∷ []) (lookup_entry (nat_eq k) es) es) ≡ lookup (nat_eq b) es
+    by None is = ap (λ (o : Option (ℕ × Bytes)). lookup (nat_eq b) (option_map_or (λ f. remove_entry (nat_eq k) es ++ f ∷ []) o es)) is
+    by (Some f) is =
+        ap (λ (o : Option (ℕ × Bytes)). lookup (nat_eq b) (option_map_or (λ f. remove_entry (nat_eq k) es ++ f ∷ []) o es)) is
+        ∙ last f is (nat_eq b k) refl
+
 taken : (n : ℕ) (es : List (ℕ × Bytes)) (b : ℕ) (w : Bytes) → lookup (nat_eq b) (take n es) ≡ Some w → lookup (nat_eq b) es ≡ Some w
 taken zero es b w is = let impossible : ⊥ = cc in absurd impossible
 taken (suc n) [] b w is = is
@@ -271,6 +338,10 @@ no_other_then first second third fewer more = record {
   blocks = λ b named. fewer.blocks b (more.blocks b named);
   content = λ b x named. more.content b x named ∙ fewer.content b x (more.blocks b named);
 }
+
+-- updates that make the same as others make no other
+pub same_no_other : (first second : List Update) → MakeTheSame second first → MakesNoOther first second
+same_no_other first second same = record { blocks = λ b named. sym (same.blocks b) ∙ named; content = λ b x named. same.content b x }
 
 pub no_other_same : (us : List Update) → MakesNoOther us us
 no_other_same us = record { blocks = λ b named. named; content = λ b x named. refl }

@@ -7,17 +7,23 @@ ghost use Rattle.journal_tail.specs.Tails.{MakeTheSame, MakesNoOther};
 use journal_block::{Block, Update};
 use journal_world::Refusal;
 use lru::LruCache;
-use std::alloc::Global;
+use std::alloc::{AllocFailed, Global};
 use std::marker::Model;
 use std::num::NonZeroUsize;
 
+// Of the limit, one part in so many is for copies that were not used again since they were kept.
+const UNUSED_PART: usize = 4;
+
 /// Copies of blocks, with a limit to their number. Above it the one that was used least recently is
-/// dropped.
+/// dropped. But where more than a quarter were not used again since they were kept, the oldest of
+/// these goes: so blocks that are read once, as those of a large file, leave the others in memory.
 ///
 /// Contracts see them as updates, the least recently used first.
 #[derive(Drop)]
 pub(crate) struct BlockCache {
     blocks: LruCache<u64, Block>,
+    // The blocks of the copies that were not used again since they were kept, the last kept first.
+    unused: LruCache<u64, ()>,
 }
 
 impl Model for BlockCache {
@@ -42,7 +48,8 @@ impl BlockCache {
     {
         let most = NonZeroUsize::new(most).unwrap();
         let blocks = LruCache::new(alloc, most)?;
-        Ok(BlockCache { blocks })
+        let unused = LruCache::new(alloc, most)?;
+        Ok(BlockCache { blocks, unused })
     }
 
     /// The copy of the block, lent, if there is one.
@@ -60,6 +67,7 @@ impl BlockCache {
         ensures { MakeTheSame self.new self.old }
     {
         let _kept = self.blocks.promote(&block);
+        self.unused.pop(&block);
     }
 
     /// Keeps the block as the update has it. Above the limit another copy is dropped. If memory is
@@ -67,9 +75,31 @@ impl BlockCache {
     pub(crate) fn keep(&mut self, update: Update)
         ensures { MakesNoOther (self.old ++ update ∷ []) self.new }
     {
+        self.choose_next();
+        self.put(update);
+    }
+
+    // The same, where the copy that is dropped for it is the least recently used one.
+    fn put(&mut self, update: Update)
+        ensures { MakesNoOther (self.old ++ update ∷ []) self.new }
+    {
         let Update { block, bytes } = update;
-        let before = self.blocks.put(block, bytes);
-        drop(before);
+        let kept = self.blocks.push(block, bytes);
+        note_kept(&mut self.unused, block, kept);
+    }
+
+    // If the cache is full, and more than a quarter of the copies were not used again since they
+    // were kept, the oldest of these becomes the least recently used one, which is dropped next.
+    fn choose_next(&mut self)
+        ensures { MakeTheSame self.new self.old }
+    {
+        let most = self.blocks.cap().get();
+        if self.blocks.len() < most || self.unused.len() <= most / UNUSED_PART {
+            return;
+        }
+        if let Some((oldest, ())) = self.unused.peek_lru() {
+            self.blocks.demote(oldest);
+        }
     }
 
     /// Keeps these blocks, one after the other.
@@ -94,4 +124,20 @@ impl BlockCache {
             drop(before);
         }
     }
+}
+
+// What keeping a copy of a block returns: the copy that was dropped for it, or it itself, if memory
+// is refused.
+type Keeping = Result<Option<(u64, Block)>, AllocFailed<(u64, Block)>>;
+
+// Notes that a copy of the block was kept, and which one was dropped for it. Where memory is
+// refused for the note, it counts as one that was used again.
+fn note_kept(unused: &mut LruCache<u64, ()>, block: u64, kept: Keeping) {
+    let Ok(dropped) = kept else {
+        return;
+    };
+    if let Some((other, _)) = dropped {
+        unused.pop(&other);
+    }
+    let _ = unused.put(block, ());
 }

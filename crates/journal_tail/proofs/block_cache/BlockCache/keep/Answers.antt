@@ -1,11 +1,9 @@
-use Rattle.std.proofs.Common.{◌∷◌, ◌++◌, [], List, subst}
-use Rattle.journal_block.specs.declared.update.Update.{Update}
-use Rattle.journal_tail.specs.CachedUpdates.{cached_updates}
-use Rattle.journal_tail.specs.Tails.{MakesNoOther}
-use Rattle.journal_tail.proofs.Kept.{put_kept}
+use Rattle.std.proofs.Common.{◌∷◌, ◌++◌, []}
+use Rattle.journal_tail.proofs.Kept.{no_other_behind, no_other_then, same_no_other}
 use Rattle.journal_tail.proofs.block_cache.BlockCache.keep.Goals as goal
 
 pub returns : goal.returns
 returns c =
-    subst (λ (us : List Update). MakesNoOther (us ++ c.args.update ∷ []) (cached_updates c.put-before.new.self.entries)) c.self.view_is
-    (put_kept c.self.inside.blocks c.args.update.block c.args.update.bytes c.put-before.new.self c.put-before.result c.put-before.ensures.entries c.put-before.ensures.err c.put-before.ensures.succeeds)
+    no_other_then (c.args.self.now ++ c.args.update ∷ []) (c.choose_next.new.self ++ c.args.update ∷ []) c.put.new.self
+    (no_other_behind c.args.self.now c.choose_next.new.self (c.args.update ∷ []) (same_no_other c.args.self.now c.choose_next.new.self c.choose_next.ensures))
+    c.put.ensures
