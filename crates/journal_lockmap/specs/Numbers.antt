@@ -1,5 +1,5 @@
 -- The slots' numbers, and a held slot, as contracts see them.
-use Rattle.std.specs.Prelude.{ℕ, ◌≡◌, ◌<◌, ◌+◌, ◌==◌, if◌then◌else◌, Bool, false, IsTrue, List, length, map, All, slice_index, slice_index_or}
+use Rattle.std.specs.Prelude.{◌≤◌, ℕ, ◌≡◌, ◌<◌, ◌+◌, ◌==◌, if◌then◌else◌, Bool, false, IsTrue, List, length, map, All, slice_index, slice_index_or}
 use Rattle.std.specs.List.{list_any}
 use Rattle.atomic_table.specs.Seated.{TableId}
 use Rattle.journal_world.specs.Addresses.{slot_of, Shape}
@@ -34,6 +34,10 @@ HasNumber counts h = (h.slot < length counts) × (h.count ≡ slice_index counts
 -- the held slots agree with the numbers
 abbrev pub Agree : List ℕ → List HeldState → Type 0
 Agree counts held = All (HasNumber counts) held
+
+-- and so do those from one on
+abbrev pub AgreeFrom : ℕ → List ℕ → List HeldState → Type 0
+AgreeFrom from counts held = (k : ℕ) (d : HeldState) → from ≤ k → k < length held → HasNumber counts (slice_index_or held k d)
 
 -- the slots of what is held
 abbrev pub slots_of : List HeldState → List ℕ

@@ -3,7 +3,7 @@ ghost use Rattle.std.specs.Prelude.{false, ◌≡◌, [], IfOk, length, replicat
 ghost use Rattle.crossbeam_utils.specs.Seq.{cell_view};
 ghost use Rattle.journal_world.specs.Files.{shape};
 ghost use Rattle.journal_history.specs.Counts.{keeper, first as first_view};
-ghost use Rattle.journal_lockmap.specs.Numbers.{Agree, AreApart, AreNone, HoldsSlots, slots_of, CountsWrites};
+ghost use Rattle.journal_lockmap.specs.Numbers.{Agree, AgreeFrom, AreApart, AreNone, HoldsSlots, slots_of, CountsWrites};
 
 use crate::held::Held;
 use crate::keeper::Keeper;
@@ -123,14 +123,14 @@ impl<J: Naming> SlotCounts<J> {
 
     // A commit also requires that no slot is held twice (`apart`), though the tokens imply it: the
     // cell's rule speaks of two tokens that are looked at together, and a look takes one.
-    /// Shows that the numbers of the held slots are those that are kept here. Nothing changes, and
-    /// the call does not block.
-    pub fn verify_tokens<W: Wait>(&mut self, rt: &W, held: &mut [Held<J>])
+    /// Shows that the numbers of the held slots from place `from` on are those that are kept here.
+    /// Nothing changes, and the call does not block.
+    pub fn verify_tokens<W: Wait>(&mut self, rt: &W, held: &mut [Held<J>], from: usize)
         ensures same { self.new ≡ self.old }
         ensures held { held.new ≡ held.old }
-        ensures agree { Agree self.old held.old }
+        ensures agree { AgreeFrom from self.old held.old }
     {
-        for index in 0..held.len() {
+        for index in from..held.len() {
             self.keeper.verify_token(rt, &mut held[index]);
         }
     }

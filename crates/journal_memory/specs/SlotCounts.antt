@@ -1,6 +1,6 @@
 -- How many commits touched each slot, what the core counts beside its history, and what is held
 -- under the slots.
-use Rattle.std.specs.Prelude.{ℕ, ◌≡◌, ◌<◌, List, length, slice_index, slice_get, Some, All}
+use Rattle.std.specs.Prelude.{ℕ, ◌≡◌, ◌<◌, List, length, slice_index, slice_index_or, slice_get, Some, All}
 use Rattle.journal_world.specs.Addresses.{slot_of, Shape}
 use Rattle.journal_world.specs.Maps.{Pair}
 use Rattle.journal_world.specs.Histories.{Entry, touched}
@@ -23,6 +23,10 @@ pub record KeepsCounts (layout : Shape) (fenced : List Run) (sessions counts : L
 -- the held slots agree with the history: each slot was touched by as many commits as its token says
 abbrev pub AgreeWith : Shape → List Entry → List HeldState → Type 0
 AgreeWith layout history held = All (λ h. h.count ≡ touched layout history h.slot) held
+
+-- so do the first of them
+abbrev pub AgreeUpTo : Shape → List Entry → ℕ → List HeldState → Type 0
+AgreeUpTo layout history known held = (k : ℕ) (d : HeldState) → k < known → k < length held → (slice_index_or held k d).count ≡ touched layout history (slice_index_or held k d).slot
 
 -- the address's slot is held, and as many commits of the history touched it as its token says
 abbrev pub IsUnder : Shape → List HeldState → List Entry → Pair → Type 0

@@ -1,10 +1,10 @@
 // The core's ledger: its history, and the counts beside it.
-ghost use Rattle.std.specs.Prelude.{ℕ, ◌≡◌, ◌≢◌, [], false, length, replicate, IfErr, OnOk};
+ghost use Rattle.std.specs.Prelude.{ℕ, ◌≡◌, ◌≢◌, [], false, length, replicate, IsTrue, IfErr, OnOk};
 ghost use mathlib.Core.List.{IsPrefix};
 ghost use Rattle.journal_world.specs.Histories.{opened, is_fenced, commits, count, floor};
 ghost use Rattle.journal_history.specs.Soundness.{IsSound};
 ghost use Rattle.journal_memory.specs.Ledgers.{IsCheckRefusal};
-ghost use Rattle.journal_memory.specs.SlotCounts.{AgreeWith};
+ghost use Rattle.journal_memory.specs.SlotCounts.{AgreeUpTo, AgreeWith};
 
 use crate::cause::Cause;
 use crate::fenced_sessions::FencedSessions;
@@ -127,7 +127,38 @@ impl<'b, R: MapRule, J: Naming> Ledger<'b, R, J> {
         ensures held { held.new ≡ held.old }
         ensures agree { AgreeWith J.layout self.old.history held.old }
     {
-        self.slots.verify_tokens(rt, held);
+        self.slots.verify_tokens(rt, held, 0);
+    }
+
+    /// Shows the same of held slots of which the first `known` agree with the history of a front.
+    /// They are not looked at where nothing was added to that history.
+    pub(crate) fn verify_new_tokens<W: Wait>(
+        &mut self,
+        rt: &W,
+        front: &Front<'b, J, R>,
+        known: usize,
+        held: &mut [Held<J>],
+    )
+        requires known { AgreeUpTo J.layout front.now known held.old }
+        ensures same { self.new ≡ self.old }
+        ensures held { held.new ≡ held.old }
+        ensures agree { AgreeWith J.layout self.old.history held.old }
+    {
+        let from = if self.is_at(front) { known } else { 0 };
+        self.slots.verify_tokens(rt, held, from);
+    }
+
+    // True if the front has the whole history.
+    fn is_at(&self, front: &Front<'b, J, R>) -> bool
+        ensures { IsTrue result → front.now ≡ self.now.history }
+    {
+        if front.len() != self.writer.len() {
+            return false;
+        }
+        // Called for its contract: the one of two fronts that is not longer begins the other.
+        let mut both = self.writer.front();
+        both.see(front);
+        true
     }
 
     /// Refuses by J9 a transaction that has seen more of the history.

@@ -8,7 +8,7 @@ ghost use Rattle.journal_tail.specs.Tails.{empty_tail};
 ghost use Rattle.journal_tail.specs.declared.limits.TheConstants.{MAX_TAIL};
 ghost use Rattle.journal_history.specs.Soundness.{IsSound};
 ghost use Rattle.journal_memory.specs.Ledgers.{IsNumberRefusal};
-ghost use Rattle.journal_memory.specs.SlotCounts.{AgreeWith};
+ghost use Rattle.journal_memory.specs.SlotCounts.{AgreeUpTo, AgreeWith};
 ghost use Rattle.journal_memory.specs.Outsets.{GoesOn, IsEndRefusal};
 ghost use Rattle.journal_memory.specs.Volatiles.{IsVolatile, IsFrontRefusal, outset_of};
 ghost use Rattle.journal_memory.specs.VolatileHolds.{AnswersSession, Stops};
@@ -174,6 +174,23 @@ impl<'b, R: MapRule, J: Naming> Volatile<'b, R, J> {
         ensures agree { AgreeWith J.layout self.old.ledger.history held.old }
     {
         self.ledger.verify_tokens(rt, held);
+    }
+
+    /// Shows the same of held slots of which the first `known` agree with the history of a front.
+    /// They are not looked at where nothing was added to that history since.
+    pub(crate) fn verify_new_tokens<W: Wait>(
+        &mut self,
+        rt: &W,
+        front: &Front<'b, J, R>,
+        known: usize,
+        held: &mut [Held<J>],
+    )
+        requires known { AgreeUpTo J.layout front.now known held.old }
+        ensures same { self.new ≡ self.old }
+        ensures held { held.new ≡ held.old }
+        ensures agree { AgreeWith J.layout self.old.ledger.history held.old }
+    {
+        self.ledger.verify_new_tokens(rt, front, known, held);
     }
 
     /// Part of a hold of both: notes that a device call failed.

@@ -6,7 +6,7 @@ ghost use Rattle.journal_world.specs.Maps.{value_at, is_object};
 ghost use Rattle.journal_world.specs.Histories.{is_trusted, latest};
 ghost use Rattle.journal_object.specs.Objects.{size_at};
 ghost use Rattle.journal_tail.specs.ObjectTails.{known_at, known_updates};
-ghost use Rattle.journal_memory.specs.SlotCounts.{AgreeWith, AreUnder};
+ghost use Rattle.journal_memory.specs.SlotCounts.{AgreeUpTo, AgreeWith, AreUnder};
 ghost use Rattle.journal_memory.specs.Transactions.{AreUnmoved};
 ghost use Rattle.journal_memory.specs.Updates.{AreObjectsOf};
 ghost use Rattle.journal_memory.specs.Outsets.{MayRead, IsCheckRefusal};
@@ -24,15 +24,16 @@ use journal_world::{Addr, MapRule, Refusal};
 use std::sync::Wait;
 
 impl<'b, R: MapRule, J: Naming> Volatile<'b, R, J> {
-    // All held slots are looked at, whatever is asked. So the clause `agree` holds at every hold,
+    // The held slots are looked at, whatever is asked. So the clause `agree` holds at every hold,
     // and of a refused call too.
     /// A hold of memory alone: reads the value that the map after the history gives the address,
     /// into bytes that are as many as its object has. It is read as memory has it, or if memory has
     /// no update of its block, as it was fetched. Answers none if the block has to be fetched: it
     /// was not, or memory has dropped writes after the fetch. The call takes no memory.
     ///
-    /// The slots of all earlier reads are held. Their tokens are verified first. That shows that no
-    /// commit touched these slots since. It does not block and compares no value. Nothing changes.
+    /// The slots of all earlier reads are held. Their tokens are verified first, but where nothing was
+    /// added to the history that the transaction has seen: then those of the first `known` slots,
+    /// which agree with that, are not looked at. That shows that no commit touched these slots since. It does not block and compares no value. Nothing changes.
     ///
     /// # Errors
     /// The first that applies is answered. The transaction is as it was.
@@ -45,19 +46,21 @@ impl<'b, R: MapRule, J: Naming> Volatile<'b, R, J> {
         rt: &W,
         transaction: &Transaction<'b, J, R>,
         held: &mut [Held<J>],
+        known: usize,
         addr: Addr,
         fetched: &Fetched<'b, J, R>,
         into: &mut [u8],
     ) -> Result<Option<ReadResult<'b, J, R>>, Refusal<Cause<'b, J, R>>>
         requires size { IsTrue (is_valid J.layout addr) → length into.old ≡ size_at J.layout addr }
         requires under { AreUnder J.layout held.old transaction.now.seen transaction.now.reads }
+        requires known { AgreeUpTo J.layout transaction.now.seen known held.old }
         ensures agree { AgreeWith J.layout self.new.ledger.history held.new }
         ensures held { held.new ≡ held.old }
         ensures stays { IfOk result (λ found. found ≡ None → into.new ≡ into.old) }
         ensures refusal { IfErr result (IsReadRefusal J.layout self.old transaction.now addr fetched.now) }
         ensures event { AnswersRead J.layout self.old transaction.now addr fetched.now result into.new self.new }
     {
-        self.verify_tokens(rt, held);
+        self.verify_new_tokens(rt, &transaction.front, known, held);
         self.read_verified(transaction, addr, fetched, into)
     }
 
@@ -75,16 +78,18 @@ impl<'b, R: MapRule, J: Naming> Volatile<'b, R, J> {
         rt: &W,
         transaction: &Transaction<'b, J, R>,
         held: &mut [Held<J>],
+        known: usize,
         addr: Addr,
     ) -> Result<(), Refusal<Cause<'b, J, R>>>
         requires under { AreUnder J.layout held.old transaction.now.seen transaction.now.reads }
+        requires known { AgreeUpTo J.layout transaction.now.seen known held.old }
         ensures agree { AgreeWith J.layout self.new.ledger.history held.new }
         ensures held { held.new ≡ held.old }
         ensures same { self.new ≡ self.old }
         ensures may { OnOk result (MayRead J.layout (outset_of self.old) transaction.now addr) }
         ensures refusal { IfErr result (IsCheckRefusal J.layout (outset_of self.old) transaction.now addr) }
     {
-        self.verify_tokens(rt, held);
+        self.verify_new_tokens(rt, &transaction.front, known, held);
         self.check_verified(transaction, addr)
     }
 

@@ -4,6 +4,7 @@ pub mod Looking
 pub mod Committing
 pub mod Fencing
 pub mod Holding
+pub mod Verified
 pub mod Failing
 pub mod Images
 pub mod Finding

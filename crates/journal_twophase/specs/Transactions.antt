@@ -1,5 +1,5 @@
 -- An open transaction as contracts see it, the effects of its calls, and why they are refused.
-use Rattle.std.specs.Prelude.{ℕ, ◌≡◌, ◌≢◌, ◌==◌, All, nat_lt, Bool, false, if◌then◌else◌, IsTrue, List, [], ◌∷◌, ◌++◌, MatchOption}
+use Rattle.std.specs.Prelude.{ℕ, ◌≡◌, ◌≢◌, ◌≤◌, ◌==◌, length, All, nat_lt, Bool, false, if◌then◌else◌, IsTrue, List, [], ◌∷◌, ◌++◌, MatchOption}
 use Rattle.std.specs.List.{list_any}
 use mathlib.Core.List.{IsPrefix}
 use Rattle.journal_world.specs.declared.address.Addr.{Addr}
@@ -11,7 +11,7 @@ use Rattle.journal_world.specs.Histories.{Entry, is_trusted, latest}
 use Rattle.journal_memory.specs.declared.refusal_number.RefusalNumber.TheVariants.{J6, J9, J13}
 use Rattle.journal_memory.specs.Causes.{CauseState, IsUnexplained, IsExplained}
 use Rattle.journal_lockmap.specs.Numbers.{HeldState, HoldsSlots, AreApart}
-use Rattle.journal_memory.specs.SlotCounts.{AgreeWith, AreUnder}
+use Rattle.journal_memory.specs.SlotCounts.{AgreeUpTo, AgreeWith, AreUnder}
 use Rattle.journal_memory.specs.Transactions.{TransactionState, ReadResultState, AreUnmoved}
 
 pub record TxnState : Type 0 where
@@ -76,6 +76,11 @@ pub record KeepsHeld (layout : Shape) (held : List HeldState) (t : TransactionSt
   pub reads : AreUnder layout held t.seen t.reads
   pub writes : HoldsSlots layout held t.writes
   pub apart : AreApart held
+
+-- The first of the held slots agree with a history: that which the transaction has seen
+pub record KnowsHeld (layout : Shape) (held : List HeldState) (seen : List Entry) (known : ℕ) : Type 0 where
+  pub few : known ≤ length held
+  pub agree : AgreeUpTo layout seen known held
 
 -- nothing of these lies under the slot
 abbrev pub IsClearOf : Shape → ℕ → List Pair → Type 0

@@ -14,7 +14,7 @@ ghost use Rattle.journal_circ.specs.Mending.{IsMendable};
 ghost use Rattle.journal_history.specs.Tokens.{OnlyExtends};
 ghost use Rattle.journal_parts.specs.Cores.{Leaves};
 ghost use Rattle.journal_parts.specs.Durables.{disk_of, is_faulted};
-ghost use Rattle.journal_memory.specs.SlotCounts.{AreUnder};
+ghost use Rattle.journal_memory.specs.SlotCounts.{AgreeUpTo, AreUnder};
 ghost use Rattle.journal_twophase.specs.Journals.{IsLogRefusal, IsInstallRefusal, IsFetchRefusal, IsCloseRefusal, IsImageRefusal};
 ghost use Rattle.journal_twophase.specs.Transactions.{KeepsHeld, ReadsObject, IsCheckRefusal};
 ghost use Rattle.journal_twophase.specs.Commits.{IsCommitted, ShowsFence, IsTryRefusal, IsRefusedWhenFull};
@@ -183,6 +183,7 @@ impl<'b, D: BlockDisk, R: MapRule, J: Naming> LockedParts<'b, D, R, J> {
         rt: &W,
         transaction: &Transaction<'b, J, R>,
         held: &mut [Held<J>],
+        known: usize,
         addr: Addr,
         nothing: Fetched<'b, J, R>,
         into: &mut Vec<u8>,
@@ -190,6 +191,7 @@ impl<'b, D: BlockDisk, R: MapRule, J: Naming> LockedParts<'b, D, R, J> {
         requires valid { IsTrue (is_valid J.layout addr) }
         requires below { addr.block < J.layout.blocks }
         requires under { AreUnder J.layout held.old transaction.now.seen transaction.now.reads }
+        requires known { AgreeUpTo J.layout transaction.now.seen known held.old }
         requires size { length into.old.items ≡ size_at J.layout addr }
         ensures read { IfOk result (ReadsObject J.layout transaction.now addr held.new into.new.items) }
         ensures held { held.new ≡ held.old }
@@ -198,7 +200,15 @@ impl<'b, D: BlockDisk, R: MapRule, J: Naming> LockedParts<'b, D, R, J> {
         let mut fetched = nothing;
         let mut durable = self.durable.lock(rt);
         for _ in rt.forever() {
-            if let Some(found) = self.read_with(rt, transaction, held, addr, fetched, into)? {
+            if let Some(found) = self.read_with(
+                rt,
+                transaction,
+                held,
+                known,
+                addr,
+                fetched,
+                into,
+            )? {
                 return Ok(found);
             }
             fetched = self.fetch(rt, &mut durable, &[addr.block])?;

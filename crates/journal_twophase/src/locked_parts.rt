@@ -12,7 +12,7 @@ ghost use Rattle.journal_object.specs.Objects.{size_at};
 ghost use Rattle.journal_world.specs.Histories.{count, is_fenced};
 ghost use Rattle.journal_disk.specs.Disks.{IsSettled};
 ghost use Rattle.journal_history.specs.Tokens.{made, IsExact, OnlyExtends};
-ghost use Rattle.journal_memory.specs.SlotCounts.{AreUnder};
+ghost use Rattle.journal_memory.specs.SlotCounts.{AgreeUpTo, AreUnder};
 ghost use Rattle.journal_memory.specs.Volatiles.{HasNothingToLog};
 ghost use Rattle.journal_parts.specs.Openings.{HasWellFormedLog, IsLayoutRefusal, OnlyReadsDisk};
 ghost use Rattle.journal_twophase.specs.Journals.{BeginsWith, IsSessionRefusal, IsFenceRefusal};
@@ -427,15 +427,19 @@ impl<'b, D: BlockDisk, R: MapRule, J: Naming> LockedParts<'b, D, R, J> {
         rt: &W,
         transaction: &Transaction<'b, J, R>,
         held: &mut [Held<J>],
+        known: usize,
         addr: Addr,
     ) -> Result<(), JournalRefusal<'b, J, R>>
         requires valid { IsTrue (is_valid J.layout addr) }
         requires under { AreUnder J.layout held.old transaction.now.seen transaction.now.reads }
+        requires known { AgreeUpTo J.layout transaction.now.seen known held.old }
         ensures held { held.new ≡ held.old }
         ensures refusal { IfErr result (IsCheckRefusal transaction.now) }
     {
         let mut memory = self.memory.lock(rt);
-        memory.volatile.check_read(rt, transaction, held, addr)
+        memory
+            .volatile
+            .check_read(rt, transaction, held, known, addr)
     }
 
     // Reads the value that the map gives the address, for the transaction to remember. The held
@@ -446,17 +450,19 @@ impl<'b, D: BlockDisk, R: MapRule, J: Naming> LockedParts<'b, D, R, J> {
         rt: &W,
         transaction: &Transaction<'b, J, R>,
         held: &mut [Held<J>],
+        known: usize,
         addr: Addr,
         into: &mut Vec<u8>,
     ) -> Result<ReadResult<'b, J, R>, JournalRefusal<'b, J, R>>
         requires valid { IsTrue (is_valid J.layout addr) }
         requires under { AreUnder J.layout held.old transaction.now.seen transaction.now.reads }
+        requires known { AgreeUpTo J.layout transaction.now.seen known held.old }
         requires size { length into.old.items ≡ size_at J.layout addr }
         ensures read { IfOk result (ReadsObject J.layout transaction.now addr held.new into.new.items) }
         ensures held { held.new ≡ held.old }
         ensures refusal { IfErr result (IsCheckRefusal transaction.now) }
     {
-        let answer = self.read_or_fetch(rt, transaction, held, addr, into);
+        let answer = self.read_or_fetch(rt, transaction, held, known, addr, into);
         self.wake_after_fault(&answer);
         answer
     }
@@ -467,20 +473,22 @@ impl<'b, D: BlockDisk, R: MapRule, J: Naming> LockedParts<'b, D, R, J> {
         rt: &W,
         transaction: &Transaction<'b, J, R>,
         held: &mut [Held<J>],
+        known: usize,
         addr: Addr,
         into: &mut Vec<u8>,
     ) -> Result<ReadResult<'b, J, R>, JournalRefusal<'b, J, R>>
         requires valid { IsTrue (is_valid J.layout addr) }
         requires under { AreUnder J.layout held.old transaction.now.seen transaction.now.reads }
+        requires known { AgreeUpTo J.layout transaction.now.seen known held.old }
         requires size { length into.old.items ≡ size_at J.layout addr }
         ensures read { IfOk result (ReadsObject J.layout transaction.now addr held.new into.new.items) }
         ensures held { held.new ≡ held.old }
         ensures refusal { IfErr result (IsCheckRefusal transaction.now) }
     {
         let nothing = self.empty_fetch(transaction);
-        match self.read_in(rt, transaction, held, addr, &nothing, into)? {
+        match self.read_in(rt, transaction, held, known, addr, &nothing, into)? {
             Some(found) => Ok(found),
-            None => self.read_fetched(rt, transaction, held, addr, nothing, into),
+            None => self.read_fetched(rt, transaction, held, known, addr, nothing, into),
         }
     }
 
@@ -490,12 +498,14 @@ impl<'b, D: BlockDisk, R: MapRule, J: Naming> LockedParts<'b, D, R, J> {
         rt: &W,
         transaction: &Transaction<'b, J, R>,
         held: &mut [Held<J>],
+        known: usize,
         addr: Addr,
         fetched: &Fetched<'b, J, R>,
         into: &mut Vec<u8>,
     ) -> Result<Option<ReadResult<'b, J, R>>, JournalRefusal<'b, J, R>>
         requires valid { IsTrue (is_valid J.layout addr) }
         requires under { AreUnder J.layout held.old transaction.now.seen transaction.now.reads }
+        requires known { AgreeUpTo J.layout transaction.now.seen known held.old }
         requires size { length into.old.items ≡ size_at J.layout addr }
         requires front { fetched.now.front ≡ transaction.now.seen }
         ensures read { IfOk result (λ found. IfSome found (ReadsObject J.layout transaction.now addr held.new into.new.items)) }
@@ -507,7 +517,7 @@ impl<'b, D: BlockDisk, R: MapRule, J: Naming> LockedParts<'b, D, R, J> {
         let mut memory = self.lock_memory(rt);
         let answer = memory
             .volatile
-            .read(rt, transaction, held, addr, fetched, into);
+            .read(rt, transaction, held, known, addr, fetched, into);
         memory.volatile.touch(addr.block);
         answer
     }
@@ -520,12 +530,14 @@ impl<'b, D: BlockDisk, R: MapRule, J: Naming> LockedParts<'b, D, R, J> {
         rt: &W,
         transaction: &Transaction<'b, J, R>,
         held: &mut [Held<J>],
+        known: usize,
         addr: Addr,
         fetched: Fetched<'b, J, R>,
         into: &mut Vec<u8>,
     ) -> Result<Option<ReadResult<'b, J, R>>, JournalRefusal<'b, J, R>>
         requires valid { IsTrue (is_valid J.layout addr) }
         requires under { AreUnder J.layout held.old transaction.now.seen transaction.now.reads }
+        requires known { AgreeUpTo J.layout transaction.now.seen known held.old }
         requires size { length into.old.items ≡ size_at J.layout addr }
         ensures read { IfOk result (λ found. IfSome found (ReadsObject J.layout transaction.now addr held.new into.new.items)) }
         ensures held { held.new ≡ held.old }
@@ -533,10 +545,12 @@ impl<'b, D: BlockDisk, R: MapRule, J: Naming> LockedParts<'b, D, R, J> {
         ensures refusal { IfErr result (IsCheckRefusal transaction.now) }
     {
         let mut memory = self.lock_memory(rt);
-        memory.volatile.check_read(rt, transaction, held, addr)?;
+        memory
+            .volatile
+            .check_read(rt, transaction, held, known, addr)?;
         match memory
             .volatile
-            .read(rt, transaction, held, addr, &fetched, into)
+            .read(rt, transaction, held, known, addr, &fetched, into)
         {
             Ok(Some(found)) => {
                 memory.volatile.keep(fetched);

@@ -32,12 +32,14 @@ pub struct Txn<'j, 'b, D: BlockDisk, R: MapRule, J: Naming> {
     pub(crate) began: Front<'b, J, R>,
     pub(crate) transaction: Transaction<'b, J, R>,
     pub(crate) held: Vec<Held<J>>,
+    // How many of these agree with what it has seen, from the first on: its last read looked at them.
+    pub(crate) known: usize,
 }
 
 impl<'j, 'b, D: BlockDisk, R: MapRule, J: Naming> Model for Txn<'j, 'b, D, R, J> {
     ghost use mathlib.Core.List.{IsPrefix};
     ghost use Rattle.journal_lockmap.specs.Numbers.{slots_of};
-    ghost use Rattle.journal_twophase.specs.Transactions.{TxnState, KeepsHeld};
+    ghost use Rattle.journal_twophase.specs.Transactions.{TxnState, KeepsHeld, KnowsHeld};
 
     ghost Value = { TxnState };
 
@@ -49,7 +51,7 @@ impl<'j, 'b, D: BlockDisk, R: MapRule, J: Naming> Model for Txn<'j, 'b, D, R, J>
       held = slots_of t.held.items;
     } };
 
-    ghost invariant = { λ t. IsPrefix t.began t.transaction.seen × KeepsHeld J.layout t.held.items t.transaction };
+    ghost invariant = { λ t. IsPrefix t.began t.transaction.seen × KeepsHeld J.layout t.held.items t.transaction × KnowsHeld J.layout t.held.items t.transaction.seen t.known };
 }
 
 impl<'j, 'b, D: BlockDisk, R: MapRule, J: Naming> Txn<'j, 'b, D, R, J> {
@@ -67,6 +69,7 @@ impl<'j, 'b, D: BlockDisk, R: MapRule, J: Naming> Txn<'j, 'b, D, R, J> {
             began: session.front(),
             transaction: Transaction::begin(alloc, session),
             held: Vec::new(alloc),
+            known: 0,
         }
     }
 
@@ -149,9 +152,10 @@ impl<'j, 'b, D: BlockDisk, R: MapRule, J: Naming> Txn<'j, 'b, D, R, J> {
         let Txn {
             transaction,
             held,
+            known,
             ..
         } = self;
-        match journal.core.check_read(rt, transaction, held, addr) {
+        match journal.core.check_read(rt, transaction, held, *known, addr) {
             Ok(()) => Refusal::NoMemory,
             Err(refusal) => refusal,
         }
@@ -218,11 +222,15 @@ impl<'j, 'b, D: BlockDisk, R: MapRule, J: Naming> Txn<'j, 'b, D, R, J> {
         let Txn {
             transaction,
             held,
+            known,
             ..
         } = self;
-        let found = journal.core.read(rt, transaction, held, addr, &mut bytes)?;
+        let found = journal
+            .core
+            .read(rt, transaction, held, *known, addr, &mut bytes)?;
         let value = Value::new(bytes);
         transaction.remember(found, &value);
+        *known = held.len();
         Ok(value)
     }
 
@@ -341,6 +349,7 @@ impl<'j, 'b, D: BlockDisk, R: MapRule, J: Naming> Txn<'j, 'b, D, R, J> {
         if let Some(held) = self.held.pop() {
             journal.slots.release(rt, held);
         }
+        self.known = self.known.min(self.held.len());
     }
 
     /// Ends the transaction without a commit, and releases its slots. The call takes no memory.
@@ -351,6 +360,7 @@ impl<'j, 'b, D: BlockDisk, R: MapRule, J: Naming> Txn<'j, 'b, D, R, J> {
             began: _,
             transaction: _,
             held,
+            known: _,
         } = self;
         release_all(rt, &journal.slots, held);
     }

@@ -246,6 +246,7 @@ impl<'j, 'b, D: BlockDisk, R: MapRule, J: Naming> Txn<'j, 'b, D, R, J> {
             began: _,
             transaction,
             held,
+            known: _,
         } = self;
         let mut held = held;
         let mut spares = transaction.spares(alloc);

@@ -1,7 +1,7 @@
 use Rattle.std.proofs.Common.{◌≡◌, ◌++◌, List, length, take, drop, Option, Ok, IfSome, ap, sym, subst, ◌∙◌}
 use Rattle.journal_world.specs.Addresses.{Value}
 use Rattle.journal_lockmap.specs.Numbers.{HeldState}
-use Rattle.journal_memory.specs.SlotCounts.{AreUnder}
+use Rattle.journal_memory.specs.SlotCounts.{AgreeUpTo, AreUnder}
 use Rattle.journal_memory.specs.Transactions.{ReadResultState}
 use Rattle.journal_twophase.specs.Transactions.{ReadsObject}
 use Rattle.journal_twophase.proofs.Holding.{filled_back}
@@ -21,3 +21,7 @@ returns-in-Ok-Some-clause-read g c =
 pub read-requires-clause-under : goal.read-requires-clause-under
 read-requires-clause-under g c =
     subst (λ (l : List HeldState). AreUnder g.J.Naming.layout l c.args.transaction.now.seen c.args.transaction.now.reads) (sym c.check_read.ensures.held) c.requires.under
+
+pub read-requires-clause-known : goal.read-requires-clause-known
+read-requires-clause-known g c =
+    subst (λ (l : List HeldState). AgreeUpTo g.J.Naming.layout c.args.transaction.now.seen c.args.known l) (sym c.check_read.ensures.held) c.requires.known

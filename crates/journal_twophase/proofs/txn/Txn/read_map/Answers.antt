@@ -1,13 +1,15 @@
-use Rattle.std.proofs.Common.{◌≡◌, IsTrue, List, sym, subst, ◌∙◌, rules}
+use Rattle.std.proofs.Common.{◌≡◌, IsTrue, List, sym, ap, subst, ◌∙◌, rules}
 use Rattle.journal_world.specs.declared.refusal.Refusal.{Refusal}
 use Rattle.journal_world.specs.Addresses.{slot_of}
 use Rattle.journal_world.specs.Maps.{Agrees}
-use Rattle.journal_world.specs.Histories.{is_trusted, latest}
+use Rattle.journal_world.specs.Histories.{Entry, is_trusted, latest}
 use Rattle.journal_tail.proofs.Exits.{if_err}
 use Rattle.journal_lockmap.specs.Numbers.{HeldState, slots_of}
 use Rattle.journal_memory.specs.Causes.{CauseState}
-use Rattle.journal_memory.specs.SlotCounts.{AreUnder}
+use Rattle.journal_memory.specs.SlotCounts.{AgreeUpTo, AgreeWith, AreUnder}
+use Rattle.journal_memory.specs.Transactions.{TransactionState}
 use Rattle.journal_twophase.specs.Transactions.{TxnState, core_of, holds, Learns, IsCheckRefusal}
+use Rattle.journal_twophase.proofs.Verified.{knows_all, knows_lent}
 use Rattle.journal_twophase.proofs.Holding.{state_of, keeps_read, keeps_lent, lent_back, same_lent, on_err_so}
 use Rattle.journal_twophase.proofs.Looking.{learns, later_on, reads_stay}
 use Rattle.journal_twophase.proofs.txn.Txn.read_map.Goals as goal
@@ -16,11 +18,17 @@ pub read-requires-clause-under : goal.read-requires-clause-under
 read-requires-clause-under g c =
     subst (λ (l : List HeldState). AreUnder g.J.Naming.layout l c.self.inside.transaction.seen c.self.inside.transaction.reads) (sym c.deref_mut.ensures.value) c.self.invariant.1.reads
 
+pub read-requires-clause-known : goal.read-requires-clause-known
+read-requires-clause-known g c =
+    subst (λ (l : List HeldState). AgreeUpTo g.J.Naming.layout c.self.inside.transaction.seen c.self.inside.known l) (sym c.deref_mut.ensures.value) c.self.invariant.2.agree
+
 pub invariant_of-self : goal.invariant_of-self
 invariant_of-self g c = (
   c.self.invariant.0,
   keeps_lent g.J.Naming.layout c.self.inside.held.len c.read.new.held c.self.inside.held.items c.self.inside.transaction (c.read.ensures.held ∙ c.deref_mut.ensures.value)
       c.self.inside.held.ok.0 c.self.invariant.1,
+  knows_lent g.J.Naming.layout c.self.inside.held.len c.read.new.held c.self.inside.held.items c.self.inside.transaction.seen c.self.inside.known (c.read.ensures.held ∙ c.deref_mut.ensures.value)
+      c.self.inside.held.ok.0 c.self.invariant.2,
 )
 
 pub returns-in_err-found-clause-refusal : goal.returns-in_err-found-clause-refusal
@@ -43,6 +51,10 @@ invariant_of-self-2 g c =
       keeps_lent g.J.Naming.layout c.self.inside.held.len c.read.new.held c.self.inside.held.items c.remember.new.self same c.self.inside.held.ok.0
           (keeps_read g.J.Naming.layout c.self.inside.held.items t c.remember.new.self c.args.addr c.new-value.result _ c.in_ok-found.found c.self.invariant.1
           (rw same at c.in_ok-found.ensures.read) slot c.remember.ensures.remembered),
+      knows_lent g.J.Naming.layout c.self.inside.held.len c.read.new.held c.self.inside.held.items c.remember.new.self.seen _ same c.self.inside.held.ok.0
+          (knows_all g.J.Naming.layout c.self.inside.held.items c.remember.new.self.seen _ (search rules)
+          (subst (λ (h : List Entry). AgreeWith g.J.Naming.layout h c.self.inside.held.items) (sym (ap (λ (u : TransactionState). u.seen) c.remember.ensures.remembered.others))
+          (subst (λ (l : List HeldState). AgreeWith g.J.Naming.layout c.in_ok-found.found.seen l) same c.in_ok-found.ensures.read.agree))),
     )
 
 pub returns-clause-learns : goal.returns-clause-learns
