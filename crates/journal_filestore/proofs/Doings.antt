@@ -15,7 +15,7 @@ use Rattle.journal_inode.specs.Places.{Object, addr_of, object}
 use Rattle.journal_inode.specs.Sound.{HasSoundFiles}
 use Rattle.journal_tail.specs.declared.limits.TheConstants.{MAX_UPDATES}
 use Rattle.journal_tail.specs.Writes.{written_blocks}
-use Rattle.journal_filestore.proofs.Refusing.{written-few}
+use Rattle.journal_attempts.proofs.Few.{written-few}
 use Rattle.journal_filestore.proofs.Overwrites.{pairs_of, AreOnDisk, Overwrites, Overwrites-pairs}
 use Rattle.journal_filestore.specs.Files.{Files, files_of}
 use Rattle.journal_filestore.specs.Doing.{GivesPairs, MayBeRead, IsNotYetRead, LearnsThat, Write, WritesObject, Makes, Does}

@@ -1,20 +1,21 @@
 -- An operation in the history, from the commit of its transaction.
-use Rattle.std.proofs.Common.{ℕ, zero, suc, ◌≡◌, ◌≢◌, ◌≤◌, ◌+◌, Bool, true, false, IsTrue, Result, Ok, Err, OnOk, List, [], ◌∷◌, ◌++◌, length, take, slice_get, Some, None, refl, sym, ap, subst, ◌∙◌, arith, length-append}
-use Rattle.std.proofs.Math.Seq.{take-append_seam}
+use Rattle.std.proofs.Common.{ℕ, zero, suc, ◌≡◌, ◌≢◌, ◌≤◌, ◌+◌, Bool, true, false, IsTrue, Result, Ok, Err, OnOk, List, [], ◌∷◌, ◌++◌, take, slice_get, Some, None, refl, sym, ap, subst, ◌∙◌, arith}
 use Rattle.std.proofs.lemmas.Bool.{false≢true}
-use Rattle.std.proofs.lemmas.List.{take_all, take-append-le}
+use Rattle.std.proofs.lemmas.List.{take-append-le}
 use Rattle.std.proofs.lemmas.Option.{slice_get_past, slice_get_within}
 use Rattle.journal_world.specs.declared.refusal.Refusal.{Refusal}
 use Rattle.journal_world.specs.Addresses.{Shape}
-use Rattle.journal_world.specs.Maps.{Transaction, apply, overwritten}
-use Rattle.journal_world.specs.Histories.{Entry, is_trusted, commits_of, count, floor, at, latest}
+use Rattle.journal_world.specs.Maps.{Pair, apply}
+use Rattle.journal_world.specs.Histories.{is_trusted, commits_of, count, floor, at, latest}
 use Rattle.journal_world.specs.Histories.Entry.{commit}
-use Rattle.journal_world.proofs.Prefixes.{IsPrefix-trans, IsPrefix-length}
+use Rattle.journal_world.proofs.Prefixes.{IsPrefix-trans}
 use Rattle.journal_world.proofs.MapsOfHistories.{is_trusted-append}
 use Rattle.journal_history.specs.Tokens.{SessionState, OnlyExtends, CommitPlace, IsExact}
 use Rattle.journal_memory.specs.Causes.{CauseState}
 use Rattle.journal_twophase.specs.Transactions.{TxnState, core_of}
 use Rattle.journal_twophase.specs.Commits.{IsCommitted}
+use Rattle.journal_attempts.specs.Commits.{DoesCase, IsCommitOf}
+use Rattle.journal_attempts.proofs.Committing.{commit-of, commit-at-later}
 use Rattle.journal_inode.specs.declared.version.FormatVersion.{FormatVersion}
 use Rattle.journal_inode.specs.Sound.{HasSoundFiles}
 use Rattle.journal_file_types.specs.declared.fault.Fault.{Fault}
@@ -24,17 +25,8 @@ use Rattle.journal_file_types.specs.declared.pending_wait.PendingWait.TheVariant
 use Rattle.journal_file_types.specs.declared.pending_wait.Committed.{Committed}
 use Rattle.journal_file_types.specs.declared.status.Status.{Status}
 use Rattle.journal_filestore.specs.Files.{Files, files_of}
-use Rattle.journal_filestore.specs.Doing.{Does}
+use Rattle.journal_filestore.specs.Doing.{IsCaseOn, Does}
 use Rattle.journal_filestore.specs.Done.{IsMadeAt, IsDone, IsOperationFault, IsAnswered, IsReceiptOf, IsWaitOf, IsCommittedBy, IsAnsweredNoWait, IsWaitOver, IsWait, pending_wait_for}
-
--- an entry that is no opening says nothing of trust
-trusted_before : (found : List Entry) (t : Transaction) (rest : List Entry) → is_trusted (found ++ commit t ∷ rest) ≡ is_trusted found
-trusted_before [] t rest = refl
-trusted_before (e ∷ es) t rest = refl
-
-at_seam : {A : Type 0} (xs : List A) (y : A) (ys : List A) → slice_get (xs ++ y ∷ ys) (length xs) ≡ Some y
-at_seam [] y ys = refl
-at_seam (x ∷ xs) y ys = at_seam xs y ys
 
 pub OnlyExtends-trans : (old middle new : SessionState) → OnlyExtends old middle → OnlyExtends middle new → OnlyExtends old new
 OnlyExtends-trans old middle new first second = record {
@@ -47,51 +39,31 @@ none_true : {A E : Type 0} (r : Result A E) → OnOk r (IsTrue false) → OnOk r
 none_true (Ok x) is = false≢true is
 none_true (Err e) is = tt
 
-module _ {A : Type 0} {version : FormatVersion} (layout : Shape) (case : Files → Result A Status → Files → Type 0) (t : TxnState) (answer : Result A Status) (old new : SessionState) (receipt : CommitPlace) (c : IsCommitted (HasSoundFiles version) layout t.began (core_of t) old new receipt) where
-  -- a transaction that does what the case says is such an operation, where its commit stands
-  pub IsMadeAt-committed : Does version layout case t.reads t.writes answer → IsMadeAt version case old new answer (length c.found)
-  IsMadeAt-committed does =
-      let u : Transaction = record { session = old.number; number = length (commits_of old.number old.mine); reads = t.reads; writes = t.writes } in
-      let whole : new.seen ≡ c.found ++ commit u ∷ [] = c.committed.added in
-      let before : take (length c.found) new.seen ≡ c.found = ap (take (length c.found)) whole ∙ take-append_seam c.found _ in
-      let same_number : new.number ≡ old.number = ap (λ s. s.number) c.committed.session in
-      record {
-        made = u;
-        stands = ap (λ h. slice_get h (length c.found)) whole ∙ at_seam c.found (commit u) [];
-        later = IsPrefix-length old.seen c.found c.committed.later;
-        extends = IsPrefix-trans old.seen c.found new.seen c.committed.later (commit u ∷ [], sym whole);
-        number = same_number;
-        one_more = ap (λ h. commits_of new.number h) (ap (λ s. s.mine) c.committed.session) ∙ ap (λ n. commits_of n new.seen) same_number ∙ c.committed.one_more;
-        answers = λ trusted.
-            let trusted_found : IsTrue (is_trusted c.found) = sym (trusted_before c.found u []) ∙ ap is_trusted (sym whole) ∙ trusted in
-            subst (λ h. case (files_of version (latest h)) answer (files_of version (overwritten (latest h) t.writes))) (sym before)
-            (does.answers (latest c.found) c.on_disk (c.ruled trusted_found) (c.agrees trusted_found));
-        ruled = c.known.sound.ruled;
-      }
-
-  -- the receipt is its own
-  IsReceiptOf-committed : IsReceiptOf new.seen (length c.found) receipt
-  IsReceiptOf-committed =
-      let long : length new.seen ≡ length c.found + 1 = ap length c.committed.added ∙ length-append c.found _ in
-      record {
-        front = ap (λ r. r.front) c.receipt.told;
-        place = ap (λ r. r.place) c.receipt.told;
-        counted = ap (λ r. r.count) c.receipt.told ∙ sym (ap count (take_all (length c.found + 1) new.seen (omega (arith, long))));
-      }
-
-  -- it is owed where the transaction waits: where the operation does, and is answered Ok
-  pub IsCommittedBy-ended : (waits waited : Bool) (wait : PendingWait CommitPlace) → (IsTrue waits → OnOk answer (IsTrue waited)) → (IsTrue waited → IsTrue waits) → wait ≡ pending_wait_for waited receipt
-      → Does version layout case t.reads t.writes answer → IsCommittedBy version waits case old new (record { answer = answer; wait = wait })
-  IsCommittedBy-ended waits waited wait when only owes does = record {
-    place = length c.found;
-    made = IsMadeAt-committed does;
-    exact = c.exact;
-    wait = subst (λ o. IsWaitOf waits answer new.seen (length c.found) o) (sym owes) (owing waited when only);
+module _ {A : Type 0} {version : FormatVersion} (case : Files → Result A Status → Files → Type 0) (answer : Result A Status) where
+  -- an operation on files is one on the maps
+  DoesCase-files : (layout : Shape) (reads writes : List Pair) → Does version layout case reads writes answer → DoesCase (HasSoundFiles version) layout (HasSoundFiles version) (IsCaseOn version case answer) ⊥ reads writes
+  DoesCase-files layout reads writes does = record {
+    keeps = does.sound;
+    call_is = does.answers;
+    rules = λ m on holds. holds;
+    few = λ more. omega (arith, more, does.few);
   }
+
+  -- its receipt is owed where the transaction waits: where the operation does, and is answered Ok
+  pub IsCommittedBy-ended : (layout : Shape) (t : TxnState) (waits waited : Bool) (old new : SessionState) (receipt : CommitPlace) (wait : PendingWait CommitPlace) → (IsTrue waits → OnOk answer (IsTrue waited)) → (IsTrue waited → IsTrue waits) → wait ≡ pending_wait_for waited receipt
+      → IsCommitted (HasSoundFiles version) layout t.began (core_of t) old new receipt → Does version layout case t.reads t.writes answer → IsCommittedBy version waits case old new (record { answer = answer; wait = wait })
+  IsCommittedBy-ended layout t waits waited old new receipt wait when only owes c does =
+      let is = commit-of (HasSoundFiles version) layout _ _ _ t (DoesCase-files layout t.reads t.writes does) old new receipt c in
+      record {
+        place = receipt.place;
+        made = is.made;
+        exact = is.exact;
+        wait = subst (λ o. IsWaitOf waits answer new.seen receipt.place o) (sym owes) (owing is waited when only);
+      }
     where
-      owing : (w : Bool) → (IsTrue waits → OnOk answer (IsTrue w)) → (IsTrue w → IsTrue waits) → IsWaitOf waits answer new.seen (length c.found) (pending_wait_for w receipt)
-      owing true when only = (only refl, IsReceiptOf-committed)
-      owing false when only = λ waiting. none_true answer (when waiting)
+      owing : IsCommitOf (HasSoundFiles version) (IsCaseOn version case answer) old new receipt → (w : Bool) → (IsTrue waits → OnOk answer (IsTrue w)) → (IsTrue w → IsTrue waits) → IsWaitOf waits answer new.seen receipt.place (pending_wait_for w receipt)
+      owing is true when only = (only refl, record { front = is.front; place = refl; counted = is.counted })
+      owing is false when only = λ waiting. none_true answer (when waiting)
 
 stands_on : {A : Type 0} (xs ys : List A) (n : ℕ) (y : A) → slice_get xs n ≡ Some y → slice_get (xs ++ ys) n ≡ Some y
 stands_on [] ys n y is = let none : None ≡ Some y = sym (slice_get_past [] n (omega arith)) ∙ is in cc
@@ -115,9 +87,9 @@ module _ {A : Type 0} {version : FormatVersion} (case : Files → Result A Statu
     extends = IsPrefix-trans old.seen middle.seen new.seen is.extends more.seen;
     number = more.number ∙ is.number;
     one_more = ap (λ h. commits_of new.number h) more.mine ∙ ap (λ n. commits_of n middle.mine) more.number ∙ is.one_more;
-    answers = λ trusted.
+    call_is = λ trusted.
         let trusted_middle : IsTrue (is_trusted middle.seen) = sym (is_trusted-append middle.seen more.seen.0 (begun middle.seen place (commit is.made) is.stands)) ∙ ap is_trusted more.seen.1 ∙ trusted in
-        subst (λ h. case (files_of version (latest h)) answer (files_of version (apply is.made (latest h)))) (sym (front_is answer place is place (omega arith))) (is.answers trusted_middle);
+        subst (λ h. case (files_of version (latest h)) answer (files_of version (apply is.made (latest h)))) (sym (front_is answer place is place (omega arith))) (is.call_is trusted_middle);
     ruled = sound;
   }
 
@@ -154,27 +126,15 @@ module _ {A : Type 0} {version : FormatVersion} (case : Files → Result A Statu
       waiting (Wait receipt) owes wait = owes.0
 
 -- a session that had only seen more before
-module _ {A : Type 0} (version : FormatVersion) (case : Files → Result A Status → Files → Type 0) (old middle new : SessionState) (more : OnlyExtends old middle) where
-  IsMadeAt-later : (answer : Result A Status) (place : ℕ) → IsMadeAt version case middle new answer place → IsMadeAt version case old new answer place
-  IsMadeAt-later answer place is = record {
-    made = is.made;
-    stands = is.stands;
-    later = omega (arith, IsPrefix-length old.seen middle.seen more.seen, is.later);
-    extends = IsPrefix-trans old.seen middle.seen new.seen more.seen is.extends;
-    number = is.number ∙ more.number;
-    one_more = is.one_more ∙ ap (λ s. commits_of s middle.mine ++ is.made ∷ []) more.number ∙ ap (λ es. commits_of old.number es ++ is.made ∷ []) more.mine;
-    answers = is.answers;
-    ruled = is.ruled;
-  }
-
-  pub IsSoon-later : (waits : Bool) (r : Result (Committed A CommitPlace) (Refusal CauseState)) → IsAnsweredNoWait version waits case middle new r → IsAnsweredNoWait version waits case old new r
-  IsSoon-later waits (Ok done) is = record {
-    place = is.place;
-    made = IsMadeAt-later done.answer is.place is.made;
-    exact = is.exact;
-    wait = is.wait;
-  }
-  IsSoon-later waits (Err why) is = OnlyExtends-trans old middle new more is
+pub IsSoon-later : {A : Type 0} (version : FormatVersion) (case : Files → Result A Status → Files → Type 0) (old middle new : SessionState) (more : OnlyExtends old middle) (waits : Bool) (r : Result (Committed A CommitPlace) (Refusal CauseState))
+    → IsAnsweredNoWait version waits case middle new r → IsAnsweredNoWait version waits case old new r
+IsSoon-later version case old middle new more waits (Ok done) is = record {
+  place = is.place;
+  made = commit-at-later _ _ old middle new more is.place is.made;
+  exact = is.exact;
+  wait = is.wait;
+}
+IsSoon-later version case old middle new more waits (Err why) is = OnlyExtends-trans old middle new more is
 
 -- the same, said otherwise
 module _ {A : Type 0} (version : FormatVersion) (case other : Files → Result A Status → Files → Type 0) (like : (answer : Result A Status) (F F2 : Files) → case F answer F2 → other F answer F2) where
@@ -186,7 +146,7 @@ module _ {A : Type 0} (version : FormatVersion) (case other : Files → Result A
     extends = is.extends;
     number = is.number;
     one_more = is.one_more;
-    answers = λ trusted. like answer _ _ (is.answers trusted);
+    call_is = λ trusted. like answer _ _ (is.call_is trusted);
     ruled = is.ruled;
   }
 

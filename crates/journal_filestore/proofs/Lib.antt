@@ -15,7 +15,7 @@ pub mod Writing
 pub mod Removing
 pub mod Creating
 pub mod Ending
-pub mod Refusing
+pub mod Fitting
 pub mod Answering
 pub mod Resizing
 pub mod Setting

@@ -110,6 +110,10 @@ pub record Makes (version : FormatVersion) (layout : Shape) (old new : TxnState)
   pub now : (m : Map) → MayBeRead version layout new.reads m → P m (overwritten m new.writes)
   pub few : written_blocks new.writes ≤ MAX_UPDATES
 
+-- the answer fits the files of the maps before and after
+abbrev pub IsCaseOn : {A : Type 0} → FormatVersion → (Files → A → Files → Type 0) → A → Map → Map → Type 0
+IsCaseOn version case answer m n = case (files_of version m) answer (files_of version n)
+
 -- Wherever a sound map gives what was read, the writes leave it sound, and the answer fits the
 -- files before and after
 pub record Does {A : Type 0} (version : FormatVersion) (layout : Shape) (case : Files → A → Files → Type 0) (reads writes : List Pair) (answer : A) : Type 0 where

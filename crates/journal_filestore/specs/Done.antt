@@ -1,15 +1,13 @@
 -- An operation in the history, and the state after one that has no answer.
-use Rattle.std.specs.Prelude.{ℕ, ◌≡◌, ◌≤◌, ◌+◌, Bool, true, false, IsTrue, List, [], ◌∷◌, ◌++◌, length, take, Some, slice_get, Result, Ok, Err, OnOk}
-use mathlib.Core.List.{IsPrefix}
+use Rattle.std.specs.Prelude.{ℕ, ◌≡◌, ◌≤◌, ◌+◌, Bool, true, false, IsTrue, List, take, Result, Ok, Err, OnOk}
 use Rattle.journal_world.specs.Addresses.{Shape}
-use Rattle.journal_world.specs.Maps.{Transaction, apply}
 use Rattle.journal_world.specs.declared.refusal.Refusal.{Refusal}
-use Rattle.journal_world.specs.Histories.{Entry, commits_of, count, floor, is_trusted, at, latest}
-use Rattle.journal_world.specs.Histories.Entry.{commit}
+use Rattle.journal_world.specs.Histories.{Entry, count, floor}
 use Rattle.journal_history.specs.Tokens.{SessionState, OnlyExtends, IsExact, CommitPlace}
 use Rattle.journal_memory.specs.Causes.{CauseState}
 use Rattle.journal_twophase.specs.Transactions.{TxnState, core_of}
 use Rattle.journal_twophase.specs.Commits.{IsCommitted}
+use Rattle.journal_attempts.specs.Commits.{IsCommitAt}
 use Rattle.journal_inode.specs.declared.version.FormatVersion.{FormatVersion}
 use Rattle.journal_inode.specs.Sound.{HasSoundFiles}
 use Rattle.journal_file_types.specs.declared.fault.Fault.{Fault}
@@ -18,22 +16,14 @@ use Rattle.journal_file_types.specs.declared.pending_wait.PendingWait.{PendingWa
 use Rattle.journal_file_types.specs.declared.pending_wait.PendingWait.TheVariants.{Nothing, Wait}
 use Rattle.journal_file_types.specs.declared.pending_wait.Committed.{Committed}
 use Rattle.journal_file_types.specs.declared.status.Status.{Status}
-use Rattle.journal_filestore.specs.Files.{Files, files_of}
+use Rattle.journal_filestore.specs.Files.{Files}
+use Rattle.journal_filestore.specs.Doing.{IsCaseOn}
 
--- The session has one more commit, which is at this place in the history that it has then seen
-pub record IsMadeAt {A : Type 0} (version : FormatVersion) (case : Files → Result A Status → Files → Type 0) (old new : SessionState) (answer : Result A Status) (place : ℕ) : Type 0 where
-  pub made : Transaction
-  pub stands : slice_get new.seen place ≡ Some (commit made)
-  -- after all that the session had seen
-  pub later : length old.seen ≤ place
-  pub extends : IsPrefix old.seen new.seen
-  -- and as one more of the session's own
-  pub number : new.number ≡ old.number
-  pub one_more : commits_of new.number new.mine ≡ commits_of old.number old.mine ++ made ∷ []
-  -- where the disk was honest and settled, the answer fits the files of the maps before and after
-  -- it, and the map is sound after each number of commits
-  pub answers : IsTrue (is_trusted new.seen) → case (files_of version (latest (take place new.seen))) answer (files_of version (apply made (latest (take place new.seen))))
-  pub ruled : IsTrue (is_trusted new.seen) → (n : ℕ) → HasSoundFiles version (at new.seen n)
+-- The session has one more commit, which is at this place in the history that it has then seen.
+-- Where the disk was honest and settled, the answer fits the files of the maps before and after it,
+-- and the map is sound after each number of commits
+abbrev pub IsMadeAt : {A : Type 0} → FormatVersion → (Files → Result A Status → Files → Type 0) → SessionState → SessionState → Result A Status → ℕ → Type 0
+IsMadeAt version case old new answer place = IsCommitAt (HasSoundFiles version) (IsCaseOn version case answer) old new place
 
 -- The operation was done, and answered
 pub record IsDone {A : Type 0} (version : FormatVersion) (waits : Bool) (case : Files → Result A Status → Files → Type 0) (old new : SessionState) (answer : Result A Status) : Type 0 where

@@ -9,14 +9,15 @@ ghost use Rattle.journal_inode.specs.declared.node.Node.TheVariants.{File};
 ghost use Rattle.journal_inode.specs.Nodes.{Fits};
 ghost use Rattle.journal_inode.specs.declared.place.TheConstants.{INODES};
 ghost use Rattle.journal_inode.specs.Sound.{held};
-ghost use Rattle.journal_filestore.specs.Faults.{IsAttemptEnd};
+ghost use Rattle.journal_attempts.specs.Refusals.{IsAttemptEnd};
 ghost use Rattle.journal_filestore.specs.Changes.{extra_blocks_of, with_blocks};
 ghost use Rattle.journal_filestore.specs.Doing.{LearnsThat, WritesEach, HasReadNoBlocks, HasReadNoData, HasBit, AreClear, AreFresh, bits_written, blocks_written, file_written};
 
 use crate::block_reservation::BlockReservation;
 use crate::objects::{read_bit, read_block, write_bit, write_block, write_node};
-use crate::operation::{AttemptEnd, AttemptFault};
+use crate::operation::AttemptEnd;
 use crate::store::FileTxn;
+use journal_attempts::AttemptFault;
 use journal_disk::BlockDisk;
 use journal_history::Naming;
 use journal_inode::{FileNode, MORE_BLOCKS, Node, Time, Version};

@@ -5,10 +5,11 @@ ghost use Rattle.journal_inode.specs.declared.node.Node.TheVariants.{Free, File}
 ghost use Rattle.journal_inode.specs.Nodes.{Fits};
 ghost use Rattle.journal_inode.specs.Versions.{most_bytes};
 ghost use Rattle.journal_inode.specs.Sound.{node_at};
+ghost use Rattle.journal_attempts.specs.Refusals.{IsAttemptEnd};
 ghost use Rattle.journal_filestore.specs.Files.{is_file_number, files_of};
 ghost use Rattle.journal_filestore.specs.Doing.{HasReadNoData, Leads, Makes};
 ghost use Rattle.journal_filestore.specs.Done.{IsAnswered, IsAnsweredNoWait};
-ghost use Rattle.journal_filestore.specs.Faults.{IsFaultOf, IsAttemptEnd, IsFilesRefusal};
+ghost use Rattle.journal_filestore.specs.Faults.{IsFaultOf, IsFilesRefusal};
 ghost use Rattle.journal_filestore.specs.Handles.{time_of, data_of, asked, found_node};
 ghost use Rattle.journal_filestore.specs.Operations.{Op, file_target, create_case, create_new, create_file, is_no_time};
 ghost use Rattle.journal_filestore.specs.Operations.Call.{create};

@@ -2,8 +2,8 @@
 ghost use Rattle.std.specs.Prelude.{◌≡◌, [], IfOk, IfErr, OnOk};
 ghost use Rattle.journal_inode.specs.Places.{HasFiles};
 ghost use Rattle.journal_inode.specs.Places.Object.{inode};
+ghost use Rattle.journal_attempts.specs.Refusals.{IsAttemptEnd};
 ghost use Rattle.journal_filestore.specs.Doing.{LearnsThat, ReadsOnly, HasReadNoData};
-ghost use Rattle.journal_filestore.specs.Faults.{IsAttemptEnd};
 ghost use Rattle.journal_filestore.specs.Handles.{IsAt, IsTarget, target_of};
 
 use crate::Handle;

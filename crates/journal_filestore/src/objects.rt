@@ -1,62 +1,27 @@
 // The objects of files, read and overwritten through a transaction. An operation reads each object
 // once, and reads first and then writes.
-ghost use Rattle.std.specs.Prelude.{ℕ, ◌≡◌, ◌<◌, ◌≤◌, ◌+◌, ◌-◌, ◌↔◌, [], ◌∷◌, length, true, IsTrue, IfOk, IfErr, OnOk, if◌then◌else◌};
+ghost use Rattle.std.specs.Prelude.{◌≡◌, ◌<◌, ◌≤◌, ◌+◌, ◌-◌, ◌↔◌, [], ◌∷◌, length, true, IsTrue, IfOk, IfErr, OnOk, if◌then◌else◌};
 ghost use Rattle.journal_world.specs.declared.address.Kind.TheVariants.{Bit};
 ghost use Rattle.journal_world.specs.declared.layout.TheConstants.{FIRST_DATA, BLOCK_BITS, BLOCK_BYTES};
-ghost use Rattle.journal_world.specs.Addresses.{is_value_of, is_valid, kind_of};
-ghost use Rattle.journal_world.specs.Maps.{is_object, is_value_at};
-ghost use Rattle.journal_twophase.specs.Transactions.{holding, ReadsValue, Overwrites};
+ghost use Rattle.journal_world.specs.Addresses.{is_value_of};
 ghost use Rattle.journal_inode.specs.declared.place.TheConstants.{INODES};
 ghost use Rattle.journal_inode.specs.declared.node.TheConstants.{NODE_BYTES};
 ghost use Rattle.journal_inode.specs.Places.{object, HasFiles};
 ghost use Rattle.journal_inode.specs.Places.Object.{bit, inode, block};
 ghost use Rattle.journal_inode.specs.Nodes.{inode_bytes, Fits};
 ghost use Rattle.journal_inode.specs.Sound.{node_at};
-ghost use Rattle.journal_filestore.specs.Faults.{IsAttemptEnd};
+ghost use Rattle.journal_attempts.specs.Refusals.{IsAttemptEnd};
 ghost use Rattle.journal_filestore.specs.Handles.{IsSmall};
 ghost use Rattle.journal_filestore.specs.Doing.{LearnsThat, WritesObject, IsNotYetRead, ReadsOnly, HasReadNoData, HasBit};
 
-use crate::operation::{AttemptEnd, AttemptFault};
+use crate::operation::AttemptEnd;
 use crate::store::FileTxn;
+use journal_attempts::{AttemptFault, overwrite, read};
 use journal_disk::BlockDisk;
 use journal_history::Naming;
 use journal_inode::{FormatVersion, Node, Version, bit_addr, block_addr, inode_addr};
-use journal_world::{Addr, BLOCK_BITS, FIRST_DATA, Refusal, Value};
+use journal_world::{BLOCK_BITS, FIRST_DATA, Refusal, Value};
 use std::sync::Wait;
-
-// Reads an address, as `Txn::read` does.
-fn read<'j, 'b, D: BlockDisk, J: Naming, V: Version, W: Wait>(
-    rt: &W,
-    txn: &mut FileTxn<'j, 'b, D, J, V>,
-    addr: Addr,
-) -> Result<Value, AttemptEnd<'b, J, V>>
-    ensures reads { IfOk result (λ value. ReadsValue (holding J.layout txn.old addr) addr value txn.new) }
-    ensures object { IfOk result (λ value. IsTrue (is_object J.layout (addr, value))) }
-    ensures refusal { IfErr result IsAttemptEnd }
-{
-    match txn.read(rt, addr) {
-        Ok(value) => Ok(value),
-        Err(refusal) => Err(AttemptFault::at(addr, refusal)),
-    }
-}
-
-// Overwrites an address, as `Txn::overwrite` does.
-fn overwrite<'j, 'b, D: BlockDisk, J: Naming, V: Version, W: Wait>(
-    rt: &W,
-    txn: &mut FileTxn<'j, 'b, D, J, V>,
-    addr: Addr,
-    bytes: &[u8],
-) -> Result<(), AttemptEnd<'b, J, V>>
-    requires kind { IsTrue (is_valid J.layout addr) → is_value_at (kind_of J.layout addr.block) bytes.now ≡ true }
-    ensures overwrites { OnOk result (Overwrites (holding J.layout txn.old addr) addr bytes.now txn.new) }
-    ensures object { OnOk result (IsTrue (is_object J.layout (addr, bytes.now))) }
-    ensures refusal { IfErr result IsAttemptEnd }
-{
-    match txn.overwrite(rt, addr, bytes) {
-        Ok(()) => Ok(()),
-        Err(refusal) => Err(AttemptFault::at(addr, refusal)),
-    }
-}
 
 // Reads an inode.
 pub(crate) fn read_node<'j, 'b, D: BlockDisk, J: Naming, V: Version, W: Wait>(

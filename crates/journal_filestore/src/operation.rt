@@ -1,56 +1,23 @@
-// An operation on files, as one transaction, and why an attempt at it is undone.
+// An operation on files, as one transaction.
 ghost use Rattle.std.specs.Prelude.{◌≡◌, [], Bool, IfOk, IfErr, Result};
 ghost use Rattle.journal_inode.specs.Places.{HasFiles};
 ghost use Rattle.journal_file_types.specs.declared.status.Status.{Status};
+ghost use Rattle.journal_attempts.specs.Refusals.{IsAttemptEnd};
 ghost use Rattle.journal_filestore.specs.Files.{Files};
 ghost use Rattle.journal_filestore.specs.Doing.{Does};
-ghost use Rattle.journal_filestore.specs.Faults.{IsAttemptEnd, fault_at};
 
 use crate::Answer;
 use crate::block_reservation::BlockReservation;
 use crate::store::FileTxn;
+use journal_attempts::AttemptFault;
 use journal_disk::BlockDisk;
 use journal_history::Naming;
 use journal_inode::{SoundFiles, Version};
 use journal_memory::Cause;
-use journal_world::{Addr, Refusal};
-use std::alloc::AllocError;
 use std::sync::Wait;
-
-// Why an attempt is undone.
-#[derive(Debug, Drop)]
-pub enum AttemptFault<C> {
-    // Another transaction holds the slot of this address, below one that the attempt holds.
-    Held(Addr),
-    // The journal refuses.
-    Refused(Refusal<C>),
-}
 
 // Why an attempt at an operation on files is undone.
 pub(crate) type AttemptEnd<'b, J, V> = AttemptFault<Cause<'b, J, SoundFiles<V>>>;
-
-impl<C> AttemptFault<C> {
-    // The reason of a call that asked for the address.
-    pub(crate) fn at(addr: Addr, refusal: Refusal<C>) -> AttemptFault<C>
-        ensures { result ≡ fault_at addr refusal }
-    {
-        match refusal {
-            Refusal::Busy => AttemptFault::Held(addr),
-            refusal => AttemptFault::Refused(refusal),
-        }
-    }
-}
-
-impl<C> From<AllocError> for AttemptFault<C> {
-    ghost use Rattle.journal_world.specs.declared.refusal.Refusal.TheVariants.{NoMemory};
-    ghost use Rattle.journal_filestore.specs.declared.operation.AttemptFault.TheVariants.{Refused};
-
-    ghost from_gives = { λ _ fault. fault ≡ Refused NoMemory };
-
-    fn from(_error: AllocError) -> AttemptFault<C> {
-        AttemptFault::Refused(Refusal::NoMemory)
-    }
-}
 
 // An operation: the reads and overwrites of one attempt at it, and the case that it then answers.
 // An operation reads all that it needs first (inodes, bits, old data), and writes bits, blocks and

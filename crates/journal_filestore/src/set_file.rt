@@ -7,7 +7,7 @@ ghost use Rattle.journal_inode.specs.Nodes.{IsTime, Fits};
 ghost use Rattle.journal_inode.specs.Sound.{content};
 ghost use Rattle.journal_inode.specs.Versions.{most_bytes};
 ghost use Rattle.journal_world.specs.declared.moment.TheConstants.{MAX_NANOS};
-ghost use Rattle.journal_filestore.specs.Faults.{IsAttemptEnd};
+ghost use Rattle.journal_attempts.specs.Refusals.{IsAttemptEnd};
 ghost use Rattle.journal_filestore.specs.Doing.{HasReadNoData};
 ghost use Rattle.journal_filestore.specs.Changes.{ChangesFile, HasChanged};
 ghost use Rattle.journal_filestore.specs.Handles.{time_of};

@@ -19,9 +19,10 @@ ghost use Rattle.journal_filestore.specs.Done.{IsAnswered, IsAnsweredNoWait, IsW
 ghost use Rattle.journal_filestore.specs.Faults.{IsFilesRefusal, IsFaultOf};
 
 use crate::block_reservation::BlockReservation;
-use crate::operation::{AttemptFault, Operation};
+use crate::operation::Operation;
 use crate::{Answer, Committed, Fault, PendingWait};
 use journal_alloc::Alloc;
+use journal_attempts::{AttemptFault, RETRIES};
 use journal_disk::BlockDisk;
 use journal_history::{Book, Naming, Receipt, Session};
 use journal_inode::{FormatVersion, SoundFiles, Version, VersionOne};
@@ -48,9 +49,6 @@ pub(crate) type FileRefusal<'b, J, V> = Refusal<Cause<'b, J, SoundFiles<V>>>;
 
 /// A transaction on files.
 pub(crate) type FileTxn<'j, 'b, D, J, V> = Txn<'j, 'b, D, SoundFiles<V>, J>;
-
-// How often an attempt is made again after J5.
-const RETRIES: u32 = 8;
 
 /// The files of a disk, which threads share by `&`. Contracts see the history at the opening of its
 /// journal.

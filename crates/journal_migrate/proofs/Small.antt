@@ -4,7 +4,7 @@ use Rattle.journal_world.specs.Maps.{Pair, SamePairs}
 use Rattle.journal_block.specs.declared.update.Update.{Update}
 use Rattle.journal_memlog.specs.Logs.{absorbed}
 use Rattle.journal_tail.specs.Writes.{writes_block, written_blocks, fresh_among}
-use Rattle.journal_filestore.proofs.Refusing.{written-few}
+use Rattle.journal_attempts.proofs.Few.{written-few}
 
 or-false : (b : Bool) → (b || false) ≡ b
 or-false true = refl

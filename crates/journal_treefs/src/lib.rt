@@ -12,7 +12,7 @@ mod law;
 mod store;
 mod transaction;
 
-pub use fault::AttemptFault;
+pub use journal_attempts::AttemptFault;
 pub use journal_treerule::TreeRule;
 pub use law::a_transfer_fits_a_transaction;
 pub use store::{Committed, TreeStore};

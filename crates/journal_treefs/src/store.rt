@@ -13,10 +13,12 @@ ghost use Rattle.journal_twophase.specs.declared.journal.TheConstants.{MAX_CACHE
 ghost use Rattle.journal_tree.specs.Times.{IsTime};
 ghost use Rattle.journal_treestore.specs.Places.{shape_of, IsCut};
 ghost use Rattle.journal_treeobjects.specs.Maps.{IsWhole};
-ghost use Rattle.journal_treefs.specs.declared.fault.AttemptFault.TheVariants.{Refused as RefusedSo};
-ghost use Rattle.journal_treefs.specs.Calls.{IsCommittedCall, IsTreeRefusal, IsAttemptEnd};
+ghost use Rattle.journal_attempts.specs.declared.fault.AttemptFault.TheVariants.{Refused as RefusedSo};
+ghost use Rattle.journal_treefs.specs.Calls.{IsCommittedCall, IsTreeRefusal, IsCallEnd};
 
-use crate::{AttemptFault, JournalTransaction, TreeRule};
+use crate::fault::fault_of;
+use crate::{JournalTransaction, TreeRule};
+use journal_attempts::{AttemptFault, RETRIES};
 use journal_disk::BlockDisk;
 use journal_history::{Book, Naming, Receipt, Session};
 use journal_lockmap::SlotCell;
@@ -28,9 +30,6 @@ use journal_world::{Addr, Objects, Refusal, Refused};
 use std::alloc::{AllocError, Global};
 use std::marker::Model;
 use std::sync::Wait;
-
-// How often an attempt is made again after J5.
-const RETRIES: u32 = 8;
 
 /// A tree of files on a disk, which threads share by `&`. Contracts see the history at the opening
 /// of its journal, and how the disk is cut.
@@ -188,7 +187,7 @@ impl<'b, D: BlockDisk, R: TreeRule, J: Naming> TreeStore<'b, D, R, J> {
         ensures committed { IfOk result (λ done. IsCommittedCall self.now.cut (O.call operation.now) asking.caller asking.now
             session.old session.new (O.told done.reply) done.receipt) }
         ensures session { OnErr result (OnlyExtends session.old session.new) }
-        ensures refusal { IfErr result (IsAttemptEnd (O.most operation.now)) }
+        ensures refusal { IfErr result (IsCallEnd (O.most operation.now)) }
     {
         let txn = self.journal.begin(self.alloc, session);
         let mut transaction = JournalTransaction { rt, txn };
@@ -206,7 +205,7 @@ impl<'b, D: BlockDisk, R: TreeRule, J: Naming> TreeStore<'b, D, R, J> {
                     read,
                 } = disk.give_up();
                 transaction.abort();
-                return Err(self.undone(AttemptFault::of(fault, refused), &read, first));
+                return Err(self.undone(fault_of(fault, refused), &read, first));
             }
         };
         let Finished {

@@ -5,9 +5,10 @@ ghost use Rattle.journal_tail.specs.Writes.{written_blocks};
 ghost use Rattle.journal_history.specs.Tokens.{OnlyExtends};
 ghost use Rattle.journal_twophase.specs.Transactions.{core_of};
 ghost use Rattle.journal_twophase.specs.Commits.{IsCommitted};
-ghost use Rattle.journal_treefs.specs.Calls.{IsTreeRefusal, IsAttemptEnd};
+ghost use Rattle.journal_attempts.specs.Refusals.{IsAttemptEnd};
+ghost use Rattle.journal_treefs.specs.Calls.{IsTreeRefusal};
 
-use crate::AttemptFault;
+use journal_attempts::{AttemptFault, overwrite, read};
 use journal_disk::BlockDisk;
 use journal_history::{Naming, Receipt, Session};
 use journal_memory::Cause;
@@ -28,11 +29,11 @@ pub struct JournalTransaction<'t, 'j, 'b, D: BlockDisk, R: MapRule, J: Naming, W
 
 impl<'t, 'j, 'b, D: BlockDisk, R: MapRule, J: Naming, W: Wait> ObjectTransaction
     for JournalTransaction<'t, 'j, 'b, D, R, J, W> {
-    ghost use Rattle.journal_treefs.specs.Calls.{IsAttemptEnd};
+    ghost use Rattle.journal_attempts.specs.Refusals.{IsAttemptEnd};
 
     type Fault = AttemptFault<Cause<'b, J, R>>;
 
-    ghost is_fault = { IsAttemptEnd 0 };
+    ghost is_fault = { IsAttemptEnd };
 
     ghost layout = { λ t. J.layout };
 
@@ -42,18 +43,12 @@ impl<'t, 'j, 'b, D: BlockDisk, R: MapRule, J: Naming, W: Wait> ObjectTransaction
 
     fn read(&mut self, addr: Addr) -> Result<Value, AttemptFault<Cause<'b, J, R>>> {
         let rt = self.rt;
-        match self.txn.read(rt, addr) {
-            Ok(value) => Ok(value),
-            Err(refusal) => Err(AttemptFault::at(addr, refusal)),
-        }
+        read(rt, &mut self.txn, addr)
     }
 
     fn overwrite(&mut self, addr: Addr, bytes: &[u8]) -> Result<(), AttemptFault<Cause<'b, J, R>>> {
         let rt = self.rt;
-        match self.txn.overwrite(rt, addr, bytes) {
-            Ok(()) => Ok(()),
-            Err(refusal) => Err(AttemptFault::at(addr, refusal)),
-        }
+        overwrite(rt, &mut self.txn, addr, bytes)
     }
 }
 
@@ -70,7 +65,7 @@ impl<'t, 'j, 'b, D: BlockDisk, R: MapRule, J: Naming, W: Wait> JournalTransactio
     pub(crate) fn read_all(&mut self, addrs: &[Addr]) -> Result<(), AttemptFault<Cause<'b, J, R>>>
         requires unwritten { self.old.txn.writes ≡ [] }
         ensures unwritten { self.new.txn.writes ≡ [] }
-        ensures fault { IfErr result (IsAttemptEnd 0) }
+        ensures fault { IfErr result IsAttemptEnd }
     {
         for addr in addrs {
             self.read(*addr)?;

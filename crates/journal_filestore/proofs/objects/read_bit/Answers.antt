@@ -3,7 +3,7 @@ use Rattle.journal_world.specs.declared.address.Kind.TheVariants.{Bit}
 use Rattle.journal_world.specs.declared.layout.TheConstants.{FIRST_DATA}
 use Rattle.journal_world.specs.Addresses.{is_value_of}
 use Rattle.journal_inode.specs.Places.Object.{bit}
-use Rattle.journal_filestore.proofs.Refusing.{bit_whole}
+use Rattle.journal_filestore.proofs.Fitting.{bit_whole}
 use Rattle.journal_filestore.proofs.Doings.{Tells-object, Tells-like}
 use Rattle.journal_filestore.proofs.objects.read_bit.Goals as goal
 

@@ -1,5 +1,5 @@
 use Rattle.journal_inode.specs.Places.Object.{block}
-use Rattle.journal_filestore.proofs.Refusing.{block_whole}
+use Rattle.journal_filestore.proofs.Fitting.{block_whole}
 use Rattle.journal_filestore.proofs.Doings.{IfOk-like, Tells-object}
 use Rattle.journal_filestore.proofs.objects.read_block.Goals as goal
 

@@ -1,7 +1,7 @@
 use Rattle.std.proofs.Common.{length, sym, ap, ◌∙◌}
 use Rattle.journal_inode.specs.Places.Object.{inode}
 use Rattle.journal_inode.specs.Nodes.{node_of}
-use Rattle.journal_filestore.proofs.Refusing.{inode_whole}
+use Rattle.journal_filestore.proofs.Fitting.{inode_whole}
 use Rattle.journal_filestore.proofs.Doings.{Tells-object, Tells-like}
 use Rattle.journal_filestore.proofs.objects.read_node.Goals as goal
 

@@ -1,5 +1,5 @@
 use Rattle.std.proofs.Common.{rules}
-use Rattle.journal_filestore.proofs.Refusing.{bit_fits}
+use Rattle.journal_filestore.proofs.Fitting.{bit_fits}
 use Rattle.journal_filestore.proofs.objects.write_bit.Goals as goal
 
 pub overwrite-requires : goal.overwrite-requires

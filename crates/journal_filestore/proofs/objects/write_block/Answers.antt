@@ -1,4 +1,4 @@
-use Rattle.journal_filestore.proofs.Refusing.{block_fits}
+use Rattle.journal_filestore.proofs.Fitting.{block_fits}
 use Rattle.journal_filestore.proofs.objects.write_block.Goals as goal
 
 pub overwrite-requires : goal.overwrite-requires

@@ -1,4 +1,4 @@
-use Rattle.journal_filestore.proofs.Refusing.{inode_fits}
+use Rattle.journal_filestore.proofs.Fitting.{inode_fits}
 use Rattle.journal_filestore.proofs.objects.write_inode.Goals as goal
 
 pub overwrite-requires : goal.overwrite-requires

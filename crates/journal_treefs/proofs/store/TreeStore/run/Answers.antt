@@ -1,8 +1,8 @@
-use Rattle.journal_treefs.proofs.Committing.{committed-later}
+use Rattle.journal_attempts.proofs.Committing.{commit-later}
 use Rattle.journal_treefs.proofs.store.TreeStore.run.Goals as goal
 
 pub returns-in-Ok-clause-committed : goal.returns-in-Ok-clause-committed
-returns-in-Ok-clause-committed g c = committed-later _ _ _ _ _ _ _ _ _ c.loop.invariant c.in-Ok.ensures.committed
+returns-in-Ok-clause-committed g c = commit-later _ _ _ _ _ c.loop.invariant _ c.in-Ok.ensures.committed
 
 pub returns-in-Ok-once-clause-committed : goal.returns-in-Ok-once-clause-committed
-returns-in-Ok-once-clause-committed g c = committed-later _ _ _ _ _ _ _ _ _ c.loop.invariant c.in-Ok-once.ensures.committed
+returns-in-Ok-once-clause-committed g c = commit-later _ _ _ _ _ c.loop.invariant _ c.in-Ok-once.ensures.committed

@@ -1,7 +1,5 @@
-use Rattle.std.proofs.Common.{sym, subst}
-use Rattle.journal_treefs.specs.Calls.{IsAttemptEnd}
-use Rattle.journal_treefs.proofs.Refusing.{overwrite-refused}
+use Rattle.std.proofs.lemmas.Bool.{and_parts}
 use Rattle.journal_treefs.proofs.transaction.JournalTransactionObjectTransaction.overwrite.Goals as goal
 
-pub returns-in-Err-clause-fault : goal.returns-in-Err-clause-fault
-returns-in-Err-clause-fault g c = subst (IsAttemptEnd 0) (sym c.at.ensures) (overwrite-refused g.J.Naming.layout c.args.self.now.txn c.args.addr c.args.bytes.now c.in-Err.refusal c.requires.object c.in-Err.ensures.refusal)
+pub overwrite-requires : goal.overwrite-requires
+overwrite-requires g c = record { kind = λ valid. (and_parts _ _ c.requires.object).1 }

@@ -1,0 +1,3 @@
+pub mod Committing
+pub mod Few
+pub mod Refusing
