@@ -97,8 +97,8 @@ def jnl_rows(sealed, plain):
     ]
 
 
-def jnlfs_rows(new, old, tree):
-    """The runs of jnlfs, over a new disk of version 2, over one of version 1, and over a new tree."""
+def jnlfs_rows(new, old, tree, grown):
+    """The runs of jnlfs, over a new disk of version 2, over one of version 1, over a new tree, and over one that grew."""
     # The room of the log, the folder, the files, and the form of the log.
     makes = [(NOTHING, CANNOT_USE), (NOTHING, CANNOT_USE), (NOTHING, FAILED), (NOTHING, FAILED)]
     # The opening, the log block, block 0, and the end.
@@ -110,6 +110,10 @@ def jnlfs_rows(new, old, tree):
         Row(How.READS, "check {disk}", tree, r"sound version 3 nodes 1\n", [(NOTHING, CANNOT_USE)]),
         Row(How.OPENS, "migrate {disk}", new, r"version 2\n", [(NOTHING, CANNOT_USE)] * 2),
         Row(How.OPENS, "migrate {disk}", old, r"version 2\n", migrates),
+        # The opening, the longer file, and the label.
+        Row(How.OPENS, "grow {disk} --blocks 700", tree, r"blocks 700\n", [(NOTHING, CANNOT_USE)] * 3),
+        # The same and a second opening. Then the log's other form, its form, the records that are copied, and the label.
+        Row(How.OPENS, "grow {disk} --blocks 900", grown, r"blocks 900\n", [(NOTHING, CANNOT_USE)] * 4 + [(NOTHING, FAILED)] * 4),
     ]
 
 
@@ -210,7 +214,8 @@ class JnlfsRuns(Runs):
     def try_all(self):
         self.lay(None)
         tree = self.made(["make", self.disk, "--blocks", str(TREE_BLOCKS)])
-        for row in jnlfs_rows(disk_of_files(2), disk_of_files(1), tree):
+        grown = self.made(["grow", self.disk, "--blocks", str(TREE_BLOCKS + 2)])
+        for row in jnlfs_rows(disk_of_files(2), disk_of_files(1), tree, grown):
             self.try_row(row)
         self.mount_files(disk_of_files(2), put_flat_file)
         self.mount_files(tree, put_in_tree)

@@ -13,6 +13,7 @@ import time
 from pathlib import Path
 
 import tree_exclusive
+import tree_growth
 import tree_large
 import tree_links
 import tree_renames
@@ -1055,6 +1056,7 @@ DISKS = (
     *tree_links.DISKS,
     *tree_exclusive.DISKS,
     *tree_large.DISKS,
+    *tree_growth.DISKS,
 )
 
 

@@ -288,3 +288,22 @@ def a_large_write_has_all_its_blocks_or_none(room):
 
 def a_large_file_is_there_in_another_run(room):
     ask(room, "large_files_in_another_run")
+
+
+# Of `jnlfs::growing::grow`.
+def a_tree_grows_and_keeps_its_files(room):
+    ask(room, "a_tree_that_grows")
+
+
+# Of `jnlfs::growing::grow`.
+def growths_that_are_none_are_refused(room):
+    ask(room, "growths_that_are_refused")
+
+
+# Of `jnlfs::growing::grow`: wherever it is killed, or the power fails.
+def a_growth_that_is_stopped_leaves_a_sound_tree(room):
+    ask(room, "a_first_growth_that_is_stopped")
+
+
+def a_further_growth_that_is_stopped_leaves_a_sound_tree(room):
+    ask(room, "a_further_growth_that_is_stopped")

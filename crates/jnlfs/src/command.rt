@@ -22,10 +22,13 @@ const SERVE_NOTES: &str =
     "A client mounts /files, or /, by version 3 of NFS and of MOUNT, which are both on this port:\n  mount -t nfs -o vers=3,nolock,proto=tcp,port=P,mountproto=tcp,mountport=P HOST:/files DIRECTORY\n\nOf a disk of version 3 a call has the rights of the user and the groups that it names, as the modes of files and directories say. Nothing proves who calls: a program may name any user, also root, which has no more rights than nobody with --squash. Of a disk of version 1 or 2 the service looks at no user. So whoever reaches the address reads and writes all files: each program on this machine, and with another address than 127.0.0.1 each machine of the network too.\n\nWith --allow only clients are served whose addresses are in a range. The connection of any other client is closed at once: nothing of it is read, and nothing is sent to it. Each word is a range: 10.0.0.0/8 has the addresses that begin with 10, 10.0.0.5/32 that one alone, and fd00::/8 those of version 6 of IP that begin with fd. One with bits set after the first BITS, as 10.0.0.5/8, is refused, because it may be meant as either. A client of version 4 that comes to an address of version 6, as to ::, has its address of version 4. A line on standard error says at the start whose connections are taken. Before the line stopped the output has the line refused N, where N other connections came. An address proves little: a machine of the same network can take another one's, and all users of a machine have its address.\n\nThe first line of the output says at which port it listens. jnlfs stop ends it once all is stable, where --control names a socket. Only the owner of that socket can open it. A socket whose program is gone is replaced, and anything else at PATH is refused. A signal ends the service as a crash does: all that was answered as stable stands, and a client sends its other writes again once the disk is served anew. Where the device fails, standard error has the reason, and the status is 1.\n\nWith --read-only nothing is written to FILE, which need not be writable then, and others may read it too. A client mounts it with the option ro.\n\njnlfs make makes a disk of files. Any other is refused.";
 
 const MAKE_NOTES: &str =
-    "Refused where FILE is there. Where it is refused later, as for want of room, no FILE is left. When it is done, FILE's name and the room of the log are stable, and its owner alone may use it. The other blocks take room once they are written, where there may be none, or at once with --allocate. The disk cannot grow later.\n\nA disk of version 3 has a tree of directories, files and symbolic links. Each of these takes an inode, a name has at most 255 bytes, a file at most 4295163904 (4 GiB), and the text of a link 4095. The root directory belongs to root, and is there at once. Nothing has two names.\n\nA disk of version 2 has files of the names f002 to f511 in one directory, of at most 49152 bytes each, and N - 531 blocks for them.";
+    "Refused where FILE is there. Where it is refused later, as for want of room, no FILE is left. When it is done, FILE's name and the room of the log are stable, and its owner alone may use it. The other blocks take room once they are written, where there may be none, or at once with --allocate. A disk of version 3 can grow later: see jnlfs grow.\n\nA disk of version 3 has a tree of directories, files and symbolic links. Each of these takes an inode, a name has at most 255 bytes, a file at most 4295163904 (4 GiB), and the text of a link 4095. The root directory belongs to root, and is there at once. Nothing has two names.\n\nA disk of version 2 has files of the names f002 to f511 in one directory, of at most 49152 bytes each, and N - 531 blocks for them.";
 
 const MIGRATE_NOTES: &str =
     "Without NEW: to a disk of version 2 nothing is done, and one of version 3 is refused. All files stay, also where the program is killed or the power fails: the disk is then of either version.\n\nWith NEW: nothing is written to FILE, and until it ends no program can write it. The files of FILE come into the root directory of a tree, under their names, with their bytes and their times; they belong to root and have the mode 644. NEW is made as jnlfs make makes it, at NEW.part. Once all is stable and reads as it was written, it gets its name, and the number of files is printed. So a NEW that was made is whole. Where it is refused, as where NEW is there, no NEW is made. Where the program is killed, NEW.part may be left: remove it, and call it again.";
+
+const GROW_NOTES: &str =
+    "All files stay, with their handles and the numbers of their inodes, and the number of inodes stays too. The disk may be grown as often as is wanted. It is not served meanwhile: a disk that is served is refused.\n\nOne of 513 new blocks has the records that say who has the others. These records lie at the end of the disk, so a later growth moves them to the new end, 8 bytes for each block that came after the disk was made. So a growth has room for a copy of them: a block for each 512 that came since the disk was made, rounded up, is enough. The first growth takes 2 blocks at least.\n\nThe new blocks take room in the file system once they are written, where there may be none. On a block device they are written with zeros, and N is at most what the device has.\n\nWhere a growth fails, or is stopped by a kill or a loss of power, the disk has the same files, and its old number of blocks or the new one: call it again with the same N.";
 
 const FIXED_INODES: &str = "a disk of version 2 has 512 inodes, and --inodes is of version 3 alone";
 
@@ -77,6 +80,11 @@ pub enum Subcommand<'w> {
     },
     /// Write the flat files of a disk to a new one with a tree.
     MigrateToTree(Migration<'w>),
+    /// Give the disk with a tree in a file more blocks.
+    Grow {
+        path: &'w str,
+        blocks: u64,
+    },
     /// Serve the files of the disk in a file so that clients mount them.
     Serve {
         service: Service<'w>,
@@ -108,6 +116,7 @@ impl<'w> Subcommand<'w> {
                 path: word(given, FILE)?,
             }),
             "migrate" => parse_migrate(given),
+            "grow" => parse_grow(given),
             "serve" => Ok(Subcommand::Serve {
                 service: parse_service(given)?,
                 allowed: allowed_addresses(alloc, given.get_strs(ALLOW))?,
@@ -161,6 +170,16 @@ fn parse_migrate<'w>(given: &ArgMatches<'w>) -> Result<Subcommand<'w>, Fault<'w>
     }
 }
 
+fn parse_grow<'w>(given: &ArgMatches<'w>) -> Result<Subcommand<'w>, Fault<'w>> {
+    let Some(blocks) = given.get_one::<u64>(BLOCKS) else {
+        return Err(Fault::NoCommand);
+    };
+    Ok(Subcommand::Grow {
+        path: word(given, FILE)?,
+        blocks,
+    })
+}
+
 fn parse_service<'w>(given: &ArgMatches<'w>) -> Result<Service<'w>, Fault<'w>> {
     let text = word(given, ADDRESS)?;
     let Ok(address) = text.parse::<IpAddr>() else {
@@ -190,6 +209,7 @@ fn command<'w>(alloc: Global) -> Result<Command<'w>, AllocError> {
         .subcommand(make_command(alloc)?)?
         .subcommand(check_command(alloc)?)?
         .subcommand(migrate_command(alloc)?)?
+        .subcommand(grow_command(alloc)?)?
         .subcommand(serve_command(alloc)?)?
         .subcommand(stop_command(alloc)?)
 }
@@ -237,6 +257,17 @@ fn migrate_command<'w>(alloc: Global) -> Result<Command<'w>, AllocError> {
     .arg(new)?
     .arg(new_blocks_arg(alloc)?)?
     .arg(inodes_arg(alloc).requires_arg(NEW)?)
+}
+
+fn grow_command<'w>(alloc: Global) -> Result<Command<'w>, AllocError> {
+    subcommand(
+        alloc,
+        "grow",
+        "Gives a disk of version 3 more blocks, and prints their number",
+        GROW_NOTES,
+    )
+    .arg(file_arg(alloc, "The file of the disk"))?
+    .arg(grown_blocks_arg(alloc))
 }
 
 fn serve_command<'w>(alloc: Global) -> Result<Command<'w>, AllocError> {
@@ -308,6 +339,18 @@ fn new_blocks_arg<'w>(alloc: Global) -> Result<Arg<'w>, AllocError> {
     )
     .value_parser(value_parser!(u64).range(645..=4294967296))
     .requires_arg(NEW)
+}
+
+// The number of blocks of a disk that grows.
+fn grown_blocks_arg<'w>(alloc: Global) -> Arg<'w> {
+    option_arg(
+        alloc,
+        BLOCKS,
+        "N",
+        "How many blocks of 4096 bytes the disk has then, all in all, at most 4294967296",
+    )
+    .required(true)
+    .value_parser(value_parser!(u64).range(645..=4294967296))
 }
 
 // The number of inodes of a disk with a tree.

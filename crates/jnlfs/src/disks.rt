@@ -128,7 +128,7 @@ pub fn share<'w, R: Files<File = File>>(
 /// - `HasNoFiles`: it is no disk of files, by its block 513.
 /// - `OtherRegions`: it has flat files, and its label names other regions than theirs.
 /// - `NotCut`: it has a tree, and no label that says how it is cut.
-fn files_of<'w>(path: &'w str, facts: &DiskFacts) -> Result<HeldFiles, Fault<'w>> {
+pub fn files_of<'w>(path: &'w str, facts: &DiskFacts) -> Result<HeldFiles, Fault<'w>> {
     match facts.files {
         None => Err(Fault::HasNoFiles { path }),
         Some(FileFormat::Flat) => {

@@ -1,6 +1,7 @@
 //! The files of a disk at the command line. `jnlfs make` makes a disk without files, with a tree or
 //! with flat files. `jnlfs check` prints whether the files of a disk are sound, and `jnlfs migrate`
 //! makes a disk of version 1 one of version 2, or writes flat files to a new disk with a tree.
+//! `jnlfs grow` gives a disk with a tree more blocks.
 //! `jnlfs serve` serves the files so that a Linux machine mounts them, and `jnlfs stop` ends such a
 //! service. The version of a disk says which protocol it is served by: 1 and 2 have flat files, and
 //! 3 a tree. `jnlfs --help` is the manual. The program `jnl` looks at such a disk too, and seals
@@ -12,6 +13,7 @@ ghost use Rattle.std.specs.Prelude.{◌≤◌};
 mod allowing;
 mod command;
 mod disks;
+mod growing;
 mod making;
 mod migrating;
 mod serving;
@@ -78,6 +80,9 @@ fn obey<
         Subcommand::Migrate { path } => disks::migrate(rt, alloc, path, output),
         Subcommand::MigrateToTree(migration) => {
             migrating::migrate_to_tree(rt, alloc, migration, output)
+        }
+        Subcommand::Grow { path, blocks } => {
+            growing::grow(rt, alloc, path, blocks, output, faults)
         }
         Subcommand::Serve { service, allowed } => {
             serving::serve(rt, alloc, service, &allowed, output, faults)

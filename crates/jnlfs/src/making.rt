@@ -43,7 +43,8 @@ const FEWEST_TREE_BLOCKS: u64 = 645;
 // Why there is no such disk.
 const FLAT_BLOCKS: &str = "a disk of version 2 has 532 to 33299 blocks";
 
-const TREE_BLOCKS: &str = "a disk of version 3 has 645 to 4294967296 blocks";
+/// Why no tree has as many blocks.
+pub const TREE_BLOCKS: &str = "a disk of version 3 has 645 to 4294967296 blocks";
 
 const TREE_INODES: &str = "a disk of version 3 has 1024 to 134217728 inodes, a multiple of 8";
 

@@ -106,7 +106,8 @@ pub enum Fault<'w> {
         path: &'w str,
         blocks: u64,
     },
-    /// The disk in the file at the path is one of the file service, which tells its size itself.
+    /// The disk in the file at the path is one of the file service, which this command does not
+    /// make larger.
     CannotGrow {
         path: &'w str,
     },
@@ -377,7 +378,7 @@ impl<'w> Fault<'w> {
             ),
             Fault::CannotGrow { path } => writeln!(
                 faults,
-                "{program}: {path} is a disk of the file service, which cannot grow"
+                "{program}: {path} is a disk of the file service: a tree grows by jnlfs grow, and flat files move to a larger tree by jnlfs migrate"
             ),
             Fault::Refused { path, why } => {
                 writeln!(faults, "{program}: {path} is refused: {}", why.name())

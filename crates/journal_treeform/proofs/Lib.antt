@@ -4,3 +4,6 @@ pub mod Sounding
 pub mod Reading
 pub mod Making
 pub mod TwoWrites
+pub mod AfterEnd
+pub mod Copied
+pub mod Outgrown

@@ -38,10 +38,10 @@ module _ (t : NewTree) (p : IsPossible t) (content : ℕ → Bytes) (m : Map) (n
   -- ── the blocks ──
 
   described : content 513 ≡ description_bytes (description_of t.cut t.disk)
-  described = new 513 (omega (arith, p.cut.enough))
+  described = new 513 (omega (arith, p.cut.enough, p.cut.room.later))
 
   root-block : content (first_inodes t.cut) ≡ root_block t
-  root-block = new (first_inodes t.cut) (omega (arith, p.cut.some_data)) ∙ new-root t
+  root-block = new (first_inodes t.cut) (omega (arith, p.cut.some_data, p.cut.room.later)) ∙ new-root t
 
   zeros-at : (b : ℕ) → b < t.cut.blocks → b ≢ 513 → b ≢ first_inodes t.cut → content b ≡ zeros_of Block
   zeros-at b low other apart = new b low ∙ new-zeros t b other apart
@@ -67,7 +67,7 @@ module _ (t : NewTree) (p : IsPossible t) (content : ℕ → Bytes) (m : Map) (n
           ∙ others-here t (n % 8) (omega arith) (omega (arith, first, other))
       by (inr later) =
           ap (λ v. slice_range v (n % 8 * 512) (n % 8 * 512 + 512))
-          (zeros-at (first_inodes t.cut + n / 8) (omega (arith, low, p.cut.some_data)) (omega arith) (omega (arith, later)))
+          (zeros-at (first_inodes t.cut + n / 8) (omega (arith, low, p.cut.some_data, p.cut.room.later)) (omega arith) (omega (arith, later)))
           ∙ zero-part 512 (n % 8 * 512) (omega arith)
 
   inode-is : (n : ℕ) → inode_at t.cut m n ≡ new_inode t n
@@ -82,6 +82,10 @@ module _ (t : NewTree) (p : IsPossible t) (content : ℕ → Bytes) (m : Map) (n
 
   -- ── the records of who has a block ──
 
+  -- no block came later
+  from-start : (b : ℕ) → b < t.cut.blocks → b < t.cut.base
+  from-start b low = omega (arith, low, p.cut.room.records, p.new)
+
   owner-is : (b : ℕ) → owner_at t.cut m b ≡ no_owner
   owner-is b = by (nat_lt b t.cut.blocks) refl
     where
@@ -90,8 +94,8 @@ module _ (t : NewTree) (p : IsPossible t) (content : ℕ → Bytes) (m : Map) (n
       by true here =
           let low = ltb-true b t.cut.blocks here in
           ap owner_from
-          (owner-read t.cut p.cut m content layout is b low
-          ∙ ap (λ v. slice_range v (b % 512 * 8) (b % 512 * 8 + 8)) (zeros-at (514 + b / 512) (omega (arith, low, p.cut.some_data)) (omega arith) (omega (arith, low)))
+          (owner-read t.cut p.cut m content layout is b (from-start b low) low
+          ∙ ap (λ v. slice_range v (b % 512 * 8) (b % 512 * 8 + 8)) (zeros-at (514 + b / 512) (omega (arith, low, p.cut.some_data, p.cut.room.later)) (omega arith) (let first = from-start b low in omega (arith, first)))
           ∙ zero-part 8 (b % 512 * 8) (omega arith))
           ∙ zero-owner
 

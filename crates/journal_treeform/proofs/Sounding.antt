@@ -136,7 +136,7 @@ module _ (t : NewTree) (p : IsPossible t) where
     pub is-sound : IsSoundView V
     is-sound = record {
       few_numbers = p.cut.few_numbers;
-      few_blocks = omega (arith, p.cut.few, p.cut.some_data);
+      few_blocks = omega (arith, p.cut.few, p.cut.some_data, p.cut.room.later, p.cut.room.records);
       no_data = omega arith;
       tree = subst HasTree (sym tree-is) is-tree;
       fit = subst HasFit (sym tree-is) is-fit;

@@ -1,3 +1,4 @@
 pub mod NewCuts
 pub mod NewDisks
 pub mod Formats
+pub mod GrownDisks

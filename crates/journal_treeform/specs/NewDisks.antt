@@ -78,6 +78,7 @@ pub record IsNewMap (t : NewTree) (m : Map) : Type 0 where
 pub record IsPossible (t : NewTree) : Type 0 where
   pub cut : IsCut t.cut
   pub whole : IsWhole t.cut
+  pub new : t.cut.size ≡ t.cut.base
   pub disk : t.disk < 2 ^ 64
   pub mode : t.mode < MODES
   pub owner : IsWord t.owner

@@ -1,5 +1,6 @@
 // How a new disk with a tree may be cut.
 ghost use Rattle.std.specs.Prelude.{◌≡◌, IfOk, IfErr};
+ghost use Rattle.journal_treestore.specs.Places.{made_cut};
 ghost use Rattle.journal_treeform.specs.NewCuts.{default_inodes, IsNewCut, IsNoCut};
 
 use journal_treestore::{BLOCK_INODES, Cut, FEWEST_BLOCKS, MOST_DISK_BLOCKS, MOST_NUMBERS};
@@ -37,7 +38,7 @@ pub fn default_inodes(blocks: u64) -> u64
 /// - `Blocks`, `Inodes`: the number is out of its bounds.
 /// - `NoData`: no block is left for data. This is so of fewer than 645 blocks.
 pub fn new_cut(blocks: u64, inodes: u64) -> Result<Cut, NoCut>
-    ensures cut { IfOk result (λ cut. cut ≡ record { blocks = blocks; numbers = inodes }) }
+    ensures cut { IfOk result (λ cut. cut ≡ made_cut blocks inodes) }
     ensures new { IfOk result IsNewCut }
     ensures refusal { IfErr result (IsNoCut blocks inodes) }
 {
@@ -47,10 +48,7 @@ pub fn new_cut(blocks: u64, inodes: u64) -> Result<Cut, NoCut>
     if inodes < FEWEST_INODES || MOST_NUMBERS < inodes || inodes % BLOCK_INODES != 0 {
         return Err(NoCut::Inodes);
     }
-    let cut = Cut {
-        blocks,
-        numbers: inodes,
-    };
+    let cut = Cut::new(blocks, inodes);
     if cut.is_possible() {
         Ok(cut)
     } else {

@@ -28,6 +28,7 @@ use std::alloc::Global;
 pub fn format<D: BlockDisk>(alloc: Global, disk: D, tree: NewTree) -> Result<D, Refused<D, ()>>
     requires cut { IsCut tree.cut }
     requires whole { IsWhole tree.cut }
+    requires new { tree.cut.size ≡ tree.cut.base }
     requires mode { tree.mode < MODES }
     requires made { IsTime tree.made }
     requires size { (D.state disk).past.size ≡ tree.cut.blocks }

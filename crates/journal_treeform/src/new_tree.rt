@@ -56,7 +56,7 @@ impl NewTree {
         ensures refusal { IsOkUnless result NoMemory }
     {
         let described = Description {
-            blocks: self.cut.blocks,
+            blocks: self.cut.base,
             numbers: self.cut.numbers,
             disk: self.disk,
         };

@@ -1,6 +1,7 @@
 pub mod ObjectKinds
 pub mod Viewing
 pub mod Ruling
+pub mod Wider
 pub mod Overwriting
 pub mod Carrying
 pub mod Keeping

@@ -1,8 +1,7 @@
 -- The kinds of the objects of a disk, and their bytes.
-use Rattle.std.proofs.Common.{ℕ, ◌≡◌, ◌<◌, ◌≤◌, ◌+◌, ◌/◌, ◌&&◌, IsTrue, List, length, get_or, Some, Fits, w8, refl, sym, ap, subst, ◌∙◌, arith}
+use Rattle.std.proofs.Common.{ℕ, ◌≡◌, ◌&&◌, IsTrue, List, length, get_or, Fits, w8, refl, sym, ap, subst, ◌∙◌}
 use Rattle.std.specs.Prelude.{Option}
 use Rattle.std.proofs.lemmas.Bool.{and_from, eq-eqb}
-use Rattle.std.proofs.lemmas.Bool.Decides.{nat_tests}
 use Rattle.journal_world.specs.declared.address.Addr.{Addr}
 use Rattle.journal_world.specs.declared.address.Kind.{Kind}
 use Rattle.journal_world.specs.declared.address.Kind.TheVariants.{Record, Block}
@@ -11,7 +10,8 @@ use Rattle.journal_world.specs.Addresses.{Value, Shape, kind_of, is_valid}
 use Rattle.journal_world.specs.Maps.{is_object, is_value_at}
 use Rattle.journal_world.proofs.Bytes.{is_value_of-bytes}
 use Rattle.journal_treestore.specs.declared.place.Cut.{Cut}
-use Rattle.journal_treestore.specs.Places.{first_inodes, first_data, shape_of, IsCut, addr_of, IsOnDisk}
+use Rattle.journal_treestore.specs.Places.{shape_of, IsCut, addr_of, IsOnDisk}
+use Rattle.journal_treestore.proofs.Shaping.{kind-owner, kind-inode, kind-data}
 use Rattle.journal_treestore.proofs.Placing.{on_disk-valid}
 use Rattle.journal_treecalls.specs.Disks.{Write}
 use Rattle.journal_treecalls.specs.Disks.Write.{inode_write, owner_write, block_write}
@@ -19,23 +19,11 @@ use Rattle.journal_treeobjects.specs.Effects.{object_of, value_of}
 use Rattle.journal_treeobjects.specs.States.{IsSized, AreBytesAt}
 
 module _ (c : Cut) (cut : IsCut c) where
-  pub kind-description : kind_of (shape_of c) 513 ≡ Some Block
-  kind-description = grind (arith, nat_tests, cut.some_data, cut.few)
-
-  pub kind-owner : (b : ℕ) → b < c.blocks → kind_of (shape_of c) (514 + b / 512) ≡ Some (Record Bytes8)
-  kind-owner b low = grind (arith, nat_tests, cut.some_data, cut.few)
-
-  pub kind-inode : (n : ℕ) → n < c.numbers → kind_of (shape_of c) (first_inodes c + n / 8) ≡ Some (Record Bytes512)
-  kind-inode n low = grind (arith, nat_tests, cut.some_data, cut.few)
-
-  pub kind-data : (b : ℕ) → first_data c ≤ b → b < c.blocks → kind_of (shape_of c) b ≡ Some Block
-  kind-data b from low = grind (arith, nat_tests, cut.some_data, cut.few)
-
   -- what is written is as many bytes as its object has
   written-bytes : (w : Write) → IsOnDisk c (object_of w) → IsSized w → AreBytesAt (shape_of c) (addr_of c (object_of w)) (length (value_of w))
-  written-bytes (inode_write n v) here sized = record { kind = Record Bytes512; is = kind-inode n here; valid = on_disk-valid c (object_of (inode_write n v)) cut here; any = refl; whole = sized }
-  written-bytes (owner_write b v) here sized = record { kind = Record Bytes8; is = kind-owner b here; valid = on_disk-valid c (object_of (owner_write b v)) cut here; any = refl; whole = sized }
-  written-bytes (block_write b v) here sized = record { kind = Block; is = kind-data b here.0 here.1; valid = on_disk-valid c (object_of (block_write b v)) cut here; any = refl; whole = sized }
+  written-bytes (inode_write n v) here sized = record { kind = Record Bytes512; is = kind-inode c cut n here; valid = on_disk-valid c (object_of (inode_write n v)) cut here; any = refl; whole = sized }
+  written-bytes (owner_write b v) here sized = record { kind = Record Bytes8; is = kind-owner c cut b here; valid = on_disk-valid c (object_of (owner_write b v)) cut here; any = refl; whole = sized }
+  written-bytes (block_write b v) here sized = record { kind = Block; is = kind-data c cut b here.0 here.1; valid = on_disk-valid c (object_of (block_write b v)) cut here; any = refl; whole = sized }
 
   pub bytes-at : (layout : Shape) (a : Addr) (w : Write) → layout ≡ shape_of c → a ≡ addr_of c (object_of w) → IsOnDisk c (object_of w) → IsSized w → AreBytesAt layout a (length (value_of w))
   bytes-at layout a w of_cut at here sized =

@@ -1,3 +1,4 @@
 pub mod Maps
+pub mod GrownMaps
 pub mod Effects
 pub mod States

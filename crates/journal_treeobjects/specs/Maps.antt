@@ -49,7 +49,7 @@ tree_at c m = tree_of (view_of c m)
 
 -- the description of a disk that is cut so, with its own 8 bytes
 abbrev pub description_of : Cut → ℕ → Description
-description_of c disk = record { blocks = c.blocks; numbers = c.numbers; disk = disk }
+description_of c disk = record { blocks = c.base; numbers = c.numbers; disk = disk }
 
 -- Inodes fill the last of their blocks too. So the layout of a disk says how it is cut
 abbrev pub IsWhole : Cut → Type 0

@@ -22,7 +22,8 @@ mod tree_transaction;
 
 pub use fault::TreeFault;
 pub use law::{
-    one_layout_is_cut_in_one_way, the_rule_is_of_values, writes_show_the_disk_after_them,
+    grown_maps_keep_the_tree, one_layout_is_cut_in_one_way, the_rule_is_of_values,
+    writes_show_the_disk_after_them,
 };
 pub use object_transaction::ObjectTransaction;
 pub use operation::{Asking, TreeOperation};

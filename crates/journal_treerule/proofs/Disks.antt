@@ -1,10 +1,14 @@
 -- What holds of the disk of each map whose pairs are objects.
-use Rattle.std.proofs.Common.{ℕ, ◌≡◌, ◌<◌, ◌≤◌, ◌+◌, ◌-◌, cond, nat_lt, nat_le, ◌&&◌, IsTrue, List, [], length, sym, ap, subst, ◌∙◌, arith}
-use Rattle.std.proofs.lemmas.Bool.{le-ltb, lt-ltb, le-leb, and_from}
-use Rattle.std.proofs.lemmas.Bool.Decides.{nat_tests}
+use Rattle.std.proofs.Common.{ℕ, ◌≡◌, ◌<◌, ◌≤◌, ◌+◌, ◌-◌, ◌==◌, cond, nat_lt, nat_le, ◌&&◌, IsTrue, List, [], length, Some, sym, ap, subst, ◌∙◌, arith}
+use Rattle.std.specs.Prelude.{Option}
+use Rattle.std.specs.List.{list_all}
+use Rattle.std.proofs.lemmas.Bool.{le-ltb, lt-ltb, le-leb, eqb-true, and_from, and_parts}
 use Rattle.journal_world.specs.declared.address.Addr.{Addr}
-use Rattle.journal_world.specs.Addresses.{Shape, Value, is_valid}
-use Rattle.journal_world.specs.Maps.{Map, value_at, is_object, are_objects}
+use Rattle.journal_world.specs.declared.address.Kind.{Kind}
+use Rattle.journal_world.specs.declared.address.Kind.TheVariants.{Record, Block}
+use Rattle.journal_world.specs.declared.address.RecordSize.TheVariants.{Bytes8, Bytes512}
+use Rattle.journal_world.specs.Addresses.{Shape, Value, kind_of, is_valid, is_value_of, bytes_of, limit_of}
+use Rattle.journal_world.specs.Maps.{Map, value_at, is_value_at, is_object, are_objects}
 use Rattle.journal_world.proofs.ObjectsOfMaps.{value_at-object}
 use Rattle.journal_tree.specs.declared.limits.TheConstants.{ROOT}
 use Rattle.journal_treestore.specs.declared.place.TheConstants.{MOST_DISK_BLOCKS, MOST_NUMBERS}
@@ -15,6 +19,7 @@ use Rattle.journal_treestore.specs.Places.{Object, first_data, shape_of, IsCut, 
 use Rattle.journal_treestore.specs.Places.Object.{the_description, owner_of, inode_of, data_block}
 use Rattle.journal_treestore.specs.Views.{View}
 use Rattle.journal_treestore.specs.Views.Seen.{free}
+use Rattle.journal_treestore.proofs.Shaping.{has_data, few_blocks, kind-description, kind-owner, kind-inode, kind-data}
 use Rattle.journal_treestore.proofs.Placing.{on_disk-valid}
 use Rattle.journal_treecalls.specs.Disks.{inode_seen}
 use Rattle.journal_treeobjects.specs.Maps.{object, view_of}
@@ -39,18 +44,25 @@ below_all f b i low inside = omega (arith, low, inside)
 pub valid-on : (c : Cut) (m : Map) (o : Object) → IsCut c → m.layout ≡ shape_of c → IsOnDisk c o → IsTrue (is_valid m.layout (addr_of c o))
 valid-on c m o cut layout here = subst (λ (s : Shape). IsTrue (is_valid s (addr_of c o))) (sym layout) (on_disk-valid c o cut here)
 
+-- a value of an object has as many bytes as its kind
+long-of : (layout : Shape) (a : Addr) (v : Value) (kind : Kind) → kind_of layout a.block ≡ Some kind → IsTrue (is_object layout (a, v)) → length v ≡ bytes_of kind
+long-of layout a v kind is object =
+    let parts : IsTrue (is_valid layout a) × IsTrue (is_value_at (kind_of layout a.block) v) = and_parts (is_valid layout a) (is_value_at (kind_of layout a.block) v) object in
+    let value : IsTrue (is_value_of kind v) = subst (λ (k : Option Kind). IsTrue (is_value_at k v)) is parts.1 in
+    eqb-true (length v) (bytes_of kind) (and_parts (length v == bytes_of kind) (list_all (λ byte. nat_lt byte (limit_of kind)) v) value).0
+
 -- a value of a block of data, of an inode and of a record has its bytes
 pub block-long : (c : Cut) (b : ℕ) (v : Value) → IsCut c → IsOnDisk c (data_block b) → IsTrue (is_object (shape_of c) (addr_of c (data_block b), v)) → length v ≡ 4096
-block-long c b v cut here is = let low = here.0 in let high = here.1 in grind (arith, nat_tests, cut.some_data, cut.few)
+block-long c b v cut here is = long-of (shape_of c) (addr_of c (data_block b)) v Block (kind-data c cut b here.0 here.1) is
 
 pub inode-long : (c : Cut) (n : ℕ) (v : Value) → IsCut c → n < c.numbers → IsTrue (is_object (shape_of c) (addr_of c (inode_of n), v)) → length v ≡ 512
-inode-long c n v cut here is = grind (arith, nat_tests, cut.some_data, cut.few)
+inode-long c n v cut here is = long-of (shape_of c) (addr_of c (inode_of n)) v (Record Bytes512) (kind-inode c cut n here) is
 
 pub owner-long : (c : Cut) (b : ℕ) (v : Value) → IsCut c → b < c.blocks → IsTrue (is_object (shape_of c) (addr_of c (owner_of b), v)) → length v ≡ 8
-owner-long c b v cut here is = grind (arith, nat_tests, cut.some_data, cut.few)
+owner-long c b v cut here is = long-of (shape_of c) (addr_of c (owner_of b)) v (Record Bytes8) (kind-owner c cut b here) is
 
 pub description-long : (c : Cut) (v : Value) → IsCut c → IsTrue (is_object (shape_of c) (addr_of c the_description, v)) → length v ≡ 4096
-description-long c v cut is = grind (arith, nat_tests, cut.some_data, cut.few)
+description-long c v cut is = long-of (shape_of c) (addr_of c the_description) v Block (kind-description c cut) is
 
 module _ (c : Cut) (m : Map) where
   pub block-is : (b : ℕ) → IsOnDisk c (data_block b) → (view_of c m).block b ≡ object c m (data_block b)
@@ -63,10 +75,10 @@ module _ (c : Cut) (m : Map) where
   disk-of-map cut layout objects = record {
     numbers = cut.few_numbers;
     rooted = cut.rooted;
-    blocks = all_blocks (first_data c) c.blocks MOST_DISK_BLOCKS cut.some_data cut.few;
+    blocks = all_blocks (first_data c) c.blocks MOST_DISK_BLOCKS (has_data c cut) (few_blocks c cut);
     first = omega arith;
     beyond = λ n high. ap (λ t. cond t (inode_seen (object c m (inode_of n))) (free 0)) (le-ltb n c.numbers high);
-    sized = λ b low high. sized b (low, below_all (first_data c) c.blocks b cut.some_data high);
+    sized = λ b low high. sized b (low, below_all (first_data c) c.blocks b (has_data c cut) high);
   }
     where
       sized : (b : ℕ) → IsOnDisk c (data_block b) → length ((view_of c m).block b) ≡ 4096

@@ -15,6 +15,7 @@ use Rattle.journal_tree.specs.Trees.{Home}
 use Rattle.journal_treestore.specs.Views.{Held, Seen, View, held_of, entry_at, homes, home_in}
 use Rattle.journal_treestore.specs.Views.Seen.{free, used}
 use Rattle.journal_treestore.specs.Sound.{IsEntryOf}
+use Rattle.journal_treestore.proofs.Shaping.{has_data}
 use Rattle.journal_treeobjects.specs.Maps.{view_of}
 use Rattle.journal_treerule.specs.declared.children.Child.{Child}
 use Rattle.journal_treerule.specs.declared.children.Children.{Children}
@@ -124,7 +125,7 @@ pub block-elsewhere : (c : Cut) (m : Map) (d from block : ℕ) (old new : Childr
     → ListsMore (view_of c m) d from (from + 512) old new false
 block-elsewhere c m d from block old new b cut test fails some has listed sound =
     let there = has.there some in
-    false≢true (sym fails ∙ test.1 (there.0, all_below (first_data c) c.blocks block cut.some_data there.1))
+    false≢true (sym fails ∙ test.1 (there.0, all_below (first_data c) c.blocks block (has_data c cut) there.1))
 
 module _ (c : Cut) (before now : Map) (trusted still : Bool) (same_map : now ≡ before) (same_trust : still ≡ trusted) (d j p block : ℕ) (blocks : List ℕ) (mid new : Children) (b : Bool)
     (answer : IsTrue still → HasBlockAt (view_of c now) d p block → ListsMore (view_of c now) d p (p + 512) mid new b) (place : p ≡ 512 * j) (is : block ≡ get_or blocks j 0) (low : j < 48)

@@ -16,6 +16,7 @@ use Rattle.journal_treestore.specs.Inodes.{inode_from, name_from}
 use Rattle.journal_treestore.specs.Places.{first_data, IsCut}
 use Rattle.journal_treestore.specs.Views.{Held, Seen, View, begin_at, held_of, seen}
 use Rattle.journal_treestore.specs.Views.Seen.{free, used}
+use Rattle.journal_treestore.proofs.Shaping.{has_data, few_base}
 use Rattle.journal_treecalls.specs.Disks.{inode_seen}
 use Rattle.journal_treeobjects.specs.Maps.{description_of, view_of}
 use Rattle.journal_treerule.specs.Parts.{IsDescriptionOf, IsInPlace, IsWithinBounds, IsSoundBlock, IsNode, IsRightInode, AreInodesRight, is_used, AreInUse, IsFirstSound, IsNumberSound, IsSoundIndexBlock, IsIndexBlockSound, IsSoundIndex, AreAllSound, IsScanned, ArePassed}
@@ -69,7 +70,7 @@ described-decides c v found wanted b cut small is read_back decides = (
     numbers_fit n few = omega (arith, few)
 
     same : (d : IsDescriptionOf c v) → found.disk ≡ d.disk
-    same d = ap (λ (x : Description). x.disk) (read_back (description_of c d.disk) (blocks_fit c.blocks cut.few) (numbers_fit c.numbers cut.few_numbers) d.small d.written)
+    same d = ap (λ (x : Description). x.disk) (read_back (description_of c d.disk) (blocks_fit c.base (few_base c cut)) (numbers_fit c.numbers cut.few_numbers) d.small d.written)
 
 -- ── what the bytes of an inode show ──
 
@@ -246,7 +247,7 @@ below_all f b k low below = omega (arith, low, below)
 module _ (c : Cut) (m : Map) (size : ℕ) (o : Owner) (block : ℕ) (cut : IsCut c) where
   -- it lies in the data
   pub sound-in-data : block ≢ 0 → IsSoundBlock (view_of c m) size o block → (first_data c ≤ block) × (block < c.blocks)
-  sound-in-data some sound = (sound.first, below_all (first_data c) c.blocks block cut.some_data sound.last)
+  sound-in-data some sound = (sound.first, below_all (first_data c) c.blocks block (has_data c cut) sound.last)
 
   pub no-block-passes : block ≡ 0 → IsTrue true ↔ (block ≢ 0 → IsSoundBlock (view_of c m) size o block)
   no-block-passes none = ((λ _ some. absurd (some none)), (λ _. refl))
@@ -255,7 +256,7 @@ module _ (c : Cut) (m : Map) (size : ℕ) (o : Owner) (block : ℕ) (cut : IsCut
   behind-fails b test fails some = refuses b test fails (λ sound. (sound some).inside)
 
   pub elsewhere-fails : (b : Bool) → (IsTrue b ↔ ((first_data c ≤ block) × (block < c.blocks))) → b ≡ false → block ≢ 0 → IsTrue false ↔ (block ≢ 0 → IsSoundBlock (view_of c m) size o block)
-  elsewhere-fails b test fails some = refuses b test fails (λ sound. ((sound some).first, below_all (first_data c) c.blocks block cut.some_data (sound some).last))
+  elsewhere-fails b test fails some = refuses b test fails (λ sound. ((sound some).first, below_all (first_data c) c.blocks block (has_data c cut) (sound some).last))
 
   pub block-passes : (b : Bool) → (IsTrue b ↔ (block ≢ 0 → IsSoundBlock (view_of c m) size o block)) → b ≡ true → block ≢ 0 → IsSoundBlock (view_of c m) size o block
   block-passes b test is some = test.0 is some
@@ -265,6 +266,6 @@ module _ (c : Cut) (m : Map) (size : ℕ) (o : Owner) (block : ℕ) (cut : IsCut
 
   pub record-decides : (found : Owner) (b : Bool) → begin_at o.place < size → (first_data c ≤ block) × (block < c.blocks) → block ≢ 0 → (view_of c m).owner block ≡ found → (IsTrue b ↔ (found ≡ o)) → IsTrue b ↔ (block ≢ 0 → IsSoundBlock (view_of c m) size o block)
   record-decides found b inside there some is test = (
-    (λ yes _. record { inside = inside; first = there.0; last = all_below (first_data c) c.blocks block cut.some_data there.1; owned = is ∙ test.0 yes }),
+    (λ yes _. record { inside = inside; first = there.0; last = all_below (first_data c) c.blocks block (has_data c cut) there.1; owned = is ∙ test.0 yes }),
     (λ sound. test.1 (sym is ∙ (sound some).owned)),
   )

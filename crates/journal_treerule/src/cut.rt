@@ -8,12 +8,17 @@ ghost use Rattle.journal_treeobjects.specs.Maps.{IsWhole};
 ghost use Rattle.journal_treerule.specs.Cuts.{first_at};
 
 use journal_treestore::{BLOCK_INODES, Cut};
-use journal_world::{Layout, REGIONS, Region};
+use journal_world::{Layout, REGIONS, Region, UNUSED};
 
-// The places of the inodes and of the data among the regions of a layout.
+// The places of the inodes and of the data among the regions of a layout, and once the disk grew
+// those of the later blocks and of their records.
 const INODES: usize = 2;
 
 const DATA: usize = 3;
+
+const LATER: usize = 4;
+
+const LATER_OWNERS: usize = 5;
 
 /// How a disk of this layout is cut, if it is one with a tree whose inodes fill their blocks.
 pub fn cut_of_layout(layout: &Layout) -> Option<Cut>
@@ -38,9 +43,16 @@ fn guess(layout: &Layout) -> Cut
     let inodes = region_first(&layout.regions, INODES);
     let data = region_first(&layout.regions, DATA);
     let numbers = numbers_between(inodes, data);
+    let base = region_first(&layout.regions, LATER);
+    if base == UNUSED {
+        return Cut::new(layout.blocks, numbers);
+    }
+    let blocks = region_first(&layout.regions, LATER_OWNERS);
     Cut {
-        blocks: layout.blocks,
+        size: layout.blocks,
+        blocks,
         numbers,
+        base,
     }
 }
 

@@ -48,7 +48,7 @@ fn description_with(cut: Cut, disk: u64) -> Description
     ensures fits { disk < 2 ^ 64 }
 {
     Description {
-        blocks: cut.blocks,
+        blocks: cut.base,
         numbers: cut.numbers,
         disk,
     }

@@ -42,7 +42,7 @@ pub fn make<R: Files<File = File> + Clock>(
 ) -> Result<(), ServiceFault>
     requires { IsNewCut cut }
 {
-    let Some(label) = Label::new(cut.blocks, cut.layout().regions) else {
+    let Some(label) = Label::new(cut.size, cut.layout().regions) else {
         return Err(ServiceFault::Refused(Refusal::BadSuper));
     };
     let disk = match create_labeled_disk(rt, alloc, path, &label, room) {

@@ -4,6 +4,7 @@ pub mod Fields
 pub mod Whole
 pub mod Describing
 pub mod Recording
+pub mod Shaping
 pub mod Placing
 pub mod Viewing
 pub mod Numbering
@@ -24,3 +25,4 @@ pub mod Moving
 pub mod Following
 pub mod Merging
 pub mod Keeping
+pub mod Staying

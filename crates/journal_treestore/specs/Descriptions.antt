@@ -9,7 +9,8 @@ abbrev pub MAGIC : List ℕ
 MAGIC = 71 ∷ 74 ∷ 78 ∷ 76 ∷ 68 ∷ 83 ∷ 75 ∷ 49 ∷ []
 
 -- the bytes of a description that are not always zero: the name of the format, its version 3, how
--- many blocks and inodes the disk has, and its own 8 bytes, little-endian
+-- many blocks the disk had when it was made, how many inodes it has, and its own 8 bytes,
+-- little-endian
 unfoldable pub description_front : Description → List ℕ
 description_front d = MAGIC ++ to_le_bytes w64 3 ++ to_le_bytes w64 d.blocks ++ to_le_bytes w64 d.numbers ++ to_le_bytes w64 d.disk
 

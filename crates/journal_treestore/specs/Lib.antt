@@ -6,6 +6,7 @@ pub mod Descriptions
 pub mod Places
 pub mod Views
 pub mod Sound
+pub mod Growths
 pub mod Lookups
 pub mod Steps
 pub mod Moves

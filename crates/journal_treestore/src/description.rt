@@ -28,7 +28,7 @@ const DISK_AT: usize = 32;
 /// The description of a disk with a tree, in the first block after its log.
 #[derive(Clone, Copy, Debug, PartialEq, Eq)]
 pub struct Description {
-    /// How many blocks it has.
+    /// How many blocks it had when it was made. It may have more.
     pub blocks: u64,
     /// How many inodes.
     pub numbers: u64,

@@ -2,6 +2,7 @@
 ghost use Rattle.journal_treestore.specs.Places.{PlacesAreObjects, PlacesAreApart};
 ghost use Rattle.journal_treestore.specs.Lookups.{BlocksAreHadOnce, LookupFinds, LookupMisses};
 ghost use Rattle.journal_treestore.specs.Steps.{PlantingShows, FillingShows, CuttingShows, GrowingShows, GrowingStaysSound, CallsStaySound};
+ghost use Rattle.journal_treestore.specs.Growths.{GrowthKeepsTheTree};
 ghost use Rattle.journal_treestore.specs.Moves.{DroppingShows, DroppingStaysSound, RenamingShows, MovingShows};
 
 /// Each object of a disk has an address that its layout knows, and no two have one address.
@@ -42,6 +43,12 @@ pub fn renames_show_the_tree_after_them()
     ensures sound { DroppingStaysSound }
     ensures renamed { RenamingShows }
     ensures moved { MovingShows }
+{}
+
+/// A sound disk that gets more blocks, and keeps its inodes, its blocks and the records of these,
+/// is sound, and has the same nodes. The new blocks and their records may have any bytes.
+pub fn growth_keeps_the_tree()
+    ensures { GrowthKeepsTheTree }
 {}
 
 /// A call that leads to the tree that is shown by such steps leaves a sound disk.

@@ -14,13 +14,15 @@
 //! Contracts see bytes as lists, and a value is read back as it was written. A `View` is all the
 //! objects of a disk (`specs/Views.antt`), `tree_of` their tree, and `IsSoundView` the rule
 //! (`specs/Sound.antt`). `specs/Steps.antt` has the tree that a view shows once some of its objects
-//! are overwritten, and `specs/Moves.antt` has it for the writes of RENAME. The functions of `law`
+//! are overwritten, and `specs/Moves.antt` has it for the writes of RENAME. `specs/Growths.antt` says
+//! how a disk gets more blocks. The functions of `law`
 //! do nothing: their contracts hold for all disks.
 #![tactic(auto)]
 
 mod bytes;
 mod description;
 mod entry;
+mod growth;
 mod inode;
 mod law;
 mod number;
@@ -29,12 +31,14 @@ mod place;
 
 pub use description::{DESCRIPTION_BYTES, Description};
 pub use entry::{ENTRY_BYTES, Entry, PLACES, find_tag, tag_of};
+pub use growth::{NoGrowth, fewest_size, grown};
 pub use inode::{
     DIRECT_BLOCKS, FIRST_INDEX_PLACE, Head, INDEX_NUMBERS, INDEX_PLACE, INODE_BYTES, Inode, name_in,
 };
 pub use law::{
-    blocks_are_had_once, calls_leave_a_sound_disk, lookups_answer_by_what_they_read,
-    places_never_overlap, renames_show_the_tree_after_them, writes_show_the_tree_after_them,
+    blocks_are_had_once, calls_leave_a_sound_disk, growth_keeps_the_tree,
+    lookups_answer_by_what_they_read, places_never_overlap, renames_show_the_tree_after_them,
+    writes_show_the_tree_after_them,
 };
 pub use number::number_at;
 pub use owner::{OWNER_BYTES, Owner};

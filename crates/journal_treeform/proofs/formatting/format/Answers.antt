@@ -9,6 +9,7 @@ returns-in-Ok-clause-sound g c = λ honest m layout is.
     let possible : IsPossible c.args.tree = record {
       cut = c.requires.cut;
       whole = c.requires.whole;
+      new = c.requires.new;
       disk = search rules;
       mode = c.requires.mode;
       owner = search rules;

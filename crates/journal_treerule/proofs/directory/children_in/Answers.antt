@@ -21,14 +21,14 @@ loop-j-init g c = record {
 }
 
 pub returns-then-not-is_sound-clause-sound : goal.returns-then-not-is_sound-clause-sound
-returns-then-not-is_sound-clause-sound g c = λ trusted has. blocks-unsound _ _ _ _ _ c.loop-j.invariant.same_map c.loop-j.invariant.same_trust _ _ _ _ _ _ _ _ c.in_ok-is_sound.ensures.lists (omega arith) refl (omega arith) c.loop-j.invariant.lists c.if-not-is_sound.true trusted has
+returns-then-not-is_sound-clause-sound g c = λ trusted has. blocks-unsound c.args.cut _ _ _ _ c.loop-j.invariant.same_map c.loop-j.invariant.same_trust _ _ _ _ _ _ _ _ c.in_ok-is_sound.ensures.lists (omega arith) refl (omega arith) c.loop-j.invariant.lists c.if-not-is_sound.true trusted has
 
 pub loop-j-preserved : goal.loop-j-preserved
 loop-j-preserved g c = record {
   same_map = c.list_block.ensures.same_map ∙ c.loop-j.invariant.same_map;
   same_trust = c.list_block.ensures.same_trust ∙ c.loop-j.invariant.same_trust;
   stays_failed = λ f. c.list_block.ensures.stays_failed (c.loop-j.invariant.stays_failed f);
-  lists = blocks-listed _ _ _ _ _ c.loop-j.invariant.same_map c.loop-j.invariant.same_trust _ _ _ _ _ _ _ _ c.in_ok-is_sound.ensures.lists (omega arith) refl (omega arith) c.loop-j.invariant.lists c.if-not-is_sound.false;
+  lists = blocks-listed c.args.cut _ _ _ _ c.loop-j.invariant.same_map c.loop-j.invariant.same_trust _ _ _ _ _ _ _ _ c.in_ok-is_sound.ensures.lists (omega arith) refl (omega arith) c.loop-j.invariant.lists c.if-not-is_sound.false;
   in_range = c.in_ok-is_sound.ensures.in_range c.loop-j.invariant.in_range;
 }
 

@@ -18,14 +18,14 @@ loop-at-init g c = record {
 }
 
 pub returns-then-not-branch-clause-lists : goal.returns-then-not-branch-clause-lists
-returns-then-not-branch-clause-lists g c = λ trusted has. entries-fail _ _ _ _ _ c.loop-at.invariant.same_map c.loop-at.invariant.same_trust _ _ _ _ _ _ _ _ _ _ c.in_ok-list_entry.ensures.lists (omega arith) c.read.ensures (omega arith) c.loop-at.invariant.lists c.if-not-branch.true trusted has
+returns-then-not-branch-clause-lists g c = λ trusted has. entries-fail c.args.cut _ _ _ _ c.loop-at.invariant.same_map c.loop-at.invariant.same_trust _ _ _ _ _ _ _ _ _ _ c.in_ok-list_entry.ensures.lists (omega arith) c.read.ensures (omega arith) c.loop-at.invariant.lists c.if-not-branch.true trusted has
 
 pub loop-at-preserved : goal.loop-at-preserved
 loop-at-preserved g c = record {
   same_map = c.list_entry.ensures.same_map ∙ c.loop-at.invariant.same_map;
   same_trust = c.list_entry.ensures.same_trust ∙ c.loop-at.invariant.same_trust;
   stays_failed = λ f. c.list_entry.ensures.stays_failed (c.loop-at.invariant.stays_failed f);
-  lists = entries-more _ _ _ _ _ c.loop-at.invariant.same_map c.loop-at.invariant.same_trust _ _ _ _ _ _ _ _ _ _ c.in_ok-list_entry.ensures.lists (omega arith) c.read.ensures (omega arith) c.loop-at.invariant.lists c.if-not-branch.false;
+  lists = entries-more c.args.cut _ _ _ _ c.loop-at.invariant.same_map c.loop-at.invariant.same_trust _ _ _ _ _ _ _ _ _ _ c.in_ok-list_entry.ensures.lists (omega arith) c.read.ensures (omega arith) c.loop-at.invariant.lists c.if-not-branch.false;
   in_range = λ below. c.in_ok-list_entry.ensures.in_range (c.loop-at.invariant.in_range below);
 }
 
