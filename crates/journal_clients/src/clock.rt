@@ -19,6 +19,8 @@ impl<'r, R: Clock> Drop for WallClock<'r, R> {
 }
 
 impl<'r, R: Clock> journal_protocol::Clock for WallClock<'r, R> {
+    ghost some_moment = { λ c. (record { secs = 0; nanos = 0 }, tt) };
+
     fn now(&self) -> Moment {
         now(self.0)
     }

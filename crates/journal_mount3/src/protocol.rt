@@ -6,11 +6,12 @@ use journal_disk::BlockDisk;
 use journal_filestore::FileStore;
 use journal_history::{Naming, Receipt, Session};
 use journal_inode::{SoundFiles, Version};
-use journal_nfs3::PendingReply;
+use journal_nfs3::ReplyWait;
 use journal_nfs3_wire::{Procedure, Verifier};
 use journal_rpc::Call;
 use journal_server::{FileProtocol, Programs};
 use journal_world::{Layout, Moment, Refusal};
+use journal_xdr::Writer;
 use std::alloc::{AllocError, Global};
 use std::sync::Wait;
 
@@ -22,6 +23,11 @@ impl<V: Version> FileProtocol<V> for Exported {
 
     ghost lawful = { λ p. both_lawful V.VERSION p.layout.blocks p.verifier.0 };
 
+    // The root has the moment as its times.
+    fn uses_moment(&self, _call: &Call<'_>) -> bool {
+        true
+    }
+
     fn answer_no_wait<'b, D: BlockDisk, J: Naming, W: Wait>(
         &self,
         rt: &W,
@@ -30,19 +36,20 @@ impl<V: Version> FileProtocol<V> for Exported {
         call: &Call<'_>,
         files: &FileStore<'b, D, J, V>,
         moment: Moment,
-    ) -> Result<PendingReply<Receipt<'b, J, SoundFiles<V>>>, AllocError> {
-        answer_no_wait(rt, alloc, session, call, files, self, moment)
+        writer: &mut Writer,
+    ) -> Result<Option<ReplyWait<Receipt<'b, J, SoundFiles<V>>>>, AllocError> {
+        answer_no_wait(rt, alloc, session, call, files, self, moment, writer)
     }
 
     fn refused_reply<E>(
         &self,
-        alloc: Global,
+        writer: &mut Writer,
         xid: u32,
         procedure: Procedure,
         why: &Refusal<E>,
-    ) -> Result<Vec<u8>, AllocError> {
-        match journal_nfs3::refused_reply::<E, ()>(alloc, xid, procedure, why) {
-            Ok(reply) => Ok(reply),
+    ) -> Result<(), AllocError> {
+        match journal_nfs3::refused_reply::<E, ()>(writer, xid, procedure, why) {
+            Ok(()) => Ok(()),
             Err(_) => Err(AllocError),
         }
     }

@@ -15,7 +15,7 @@ use journal_disk::BlockDisk;
 use journal_filestore::FileStore;
 use journal_history::{Naming, Receipt, Session};
 use journal_inode::{SoundFiles, Time, Version};
-use journal_nfs3::PendingReply;
+use journal_nfs3::ReplyWait;
 use journal_nfs3_wire::{NfsError, Operation, Procedure, Query, Verifier};
 use journal_rpc::{Call, CallRefused, Results, write_reply};
 use journal_server::{FileProtocol, Programs};
@@ -26,9 +26,6 @@ use std::sync::Wait;
 
 // The rights of ACCESS that change nothing: READ 1 and LOOKUP 2 (RFC 1813, section 3.3.4).
 const READING: u32 = 0x03;
-
-// Room for a reply without bytes of a file and without a listing.
-const REPLY_BYTES: usize = 256;
 
 /// NFS and MOUNT on a disk whose files are only read. SETATTR, WRITE, CREATE and REMOVE are
 /// answered by NFS3ERR_ROFS, with nothing done, and ACCESS grants no right to change anything. Each
@@ -70,6 +67,11 @@ impl<V: Version> FileProtocol<V> for ExportedToRead {
 
     ghost lawful = { λ p. reader_lawful V.VERSION p.exported.layout.blocks p.exported.verifier.0 };
 
+    // The root has the moment as its times.
+    fn uses_moment(&self, _call: &Call<'_>) -> bool {
+        true
+    }
+
     fn answer_no_wait<'b, D: BlockDisk, J: Naming, W: Wait>(
         &self,
         rt: &W,
@@ -78,38 +80,34 @@ impl<V: Version> FileProtocol<V> for ExportedToRead {
         call: &Call<'_>,
         files: &FileStore<'b, D, J, V>,
         moment: Moment,
-    ) -> Result<PendingReply<Receipt<'b, J, SoundFiles<V>>>, AllocError> {
+        writer: &mut Writer,
+    ) -> Result<Option<ReplyWait<Receipt<'b, J, SoundFiles<V>>>>, AllocError> {
         let exported = &self.exported;
         let requested = decide(call);
         if is_denied(&requested) {
-            let denial = deny(alloc, call.xid)?;
-            return Ok(PendingReply {
-                reply: denial,
-                wait: None,
-            });
+            deny(writer, call.xid)?;
+            return Ok(None);
         }
         match rights_asked(&requested) {
             Some(asked) => {
                 let now = Time::at(moment);
-                let granted = grant(rt, alloc, session, files, exported, call.xid, asked, now)?;
-                Ok(PendingReply {
-                    reply: granted,
-                    wait: None,
-                })
+                let xid = call.xid;
+                grant(rt, alloc, session, files, exported, xid, asked, now, writer)?;
+                Ok(None)
             }
-            None => answer_no_wait(rt, alloc, session, call, files, exported, moment),
+            None => answer_no_wait(rt, alloc, session, call, files, exported, moment, writer),
         }
     }
 
     fn refused_reply<E>(
         &self,
-        alloc: Global,
+        writer: &mut Writer,
         xid: u32,
         procedure: Procedure,
         why: &Refusal<E>,
-    ) -> Result<Vec<u8>, AllocError> {
-        match journal_nfs3::refused_reply::<E, ()>(alloc, xid, procedure, why) {
-            Ok(reply) => Ok(reply),
+    ) -> Result<(), AllocError> {
+        match journal_nfs3::refused_reply::<E, ()>(writer, xid, procedure, why) {
+            Ok(()) => Ok(()),
             Err(_) => Err(AllocError),
         }
     }
@@ -175,16 +173,16 @@ fn rights_asked<'a>(requested: &Result<Requested<'a>, CallRefused>) -> Option<Ri
     }
 }
 
-// The reply that the files are only read.
-fn deny(alloc: Global, xid: u32) -> Result<Vec<u8>, AllocError>
-    ensures { IfOk result (λ reply. reply.items ≡ sent_text xid (Ok denied_text)) }
+// Writes the reply that the files are only read.
+fn deny(writer: &mut Writer, xid: u32) -> Result<(), AllocError>
+    ensures { OnOk result (writer.new ≡ writer.old ++ sent_text xid (Ok denied_text)) }
 {
     let outcome: Result<Denied, CallRefused> = Ok(Denied);
-    write_reply(alloc, xid, &outcome, REPLY_BYTES)
+    write_reply(writer, xid, &outcome)
 }
 
-// The reply to ACCESS. Refused where memory for the reply is, and then the attributes were read all
-// the same.
+// Writes the reply to ACCESS. Refused where memory for the reply is, and then the attributes were
+// read all the same.
 fn grant<'b, D: BlockDisk, J: Naming, V: Version, W: Wait>(
     rt: &W,
     alloc: Global,
@@ -194,14 +192,15 @@ fn grant<'b, D: BlockDisk, J: Naming, V: Version, W: Wait>(
     xid: u32,
     asked: RightsAsked<'_>,
     now: Time,
-) -> Result<Vec<u8>, AllocError>
-    ensures granted { IfOk result (λ reply. (text : List ℕ) × GrantsReader V.VERSION exported.now.layout.blocks now asked.entry.handle.now asked.entry.rights session.old text session.new
-        × (reply.items ≡ sent_text xid (Ok text))) }
+    writer: &mut Writer,
+) -> Result<(), AllocError>
+    ensures granted { OnOk result ((text : List ℕ) × GrantsReader V.VERSION exported.now.layout.blocks now asked.entry.handle.now asked.entry.rights session.old text session.new
+        × (writer.new ≡ writer.old ++ sent_text xid (Ok text))) }
     ensures lost { OnErr result ((text : List ℕ) × GrantsReader V.VERSION exported.now.layout.blocks now asked.entry.handle.now asked.entry.rights session.old text session.new) }
 {
     let RightsAsked { handle, rights } = asked;
     let query = Query::Access(handle, rights & READING);
     let results = serve_query(rt, alloc, session, files, exported.layout, &query, now);
     let outcome: Result<Told, CallRefused> = Ok(Told::Query(files.version(), results));
-    write_reply(alloc, xid, &outcome, REPLY_BYTES)
+    write_reply(writer, xid, &outcome)
 }

@@ -22,15 +22,13 @@ use journal_disk::BlockDisk;
 use journal_filestore::{FileStore, PendingWait};
 use journal_history::{Naming, Receipt, Session};
 use journal_inode::{SoundFiles, Time, Version};
-use journal_nfs3::{Pending, PendingReply, ReplyWait, serve_no_wait};
+use journal_nfs3::{Pending, ReplyWait, serve_no_wait};
 use journal_nfs3_wire::{FormatResults, Operation, Procedure, Results, Verifier};
 use journal_rpc::{Call, CallRefused, write_reply};
 use journal_world::{Layout, Moment};
+use journal_xdr::Writer;
 use std::alloc::{AllocError, Global};
 use std::sync::Wait;
-
-// Room for a reply, beside the bytes that are read and the entries that are listed.
-const REPLY_BYTES: usize = 256;
 
 /// Both programs: what is told with each WRITE and COMMIT, and the layout of the disk that the
 /// files are on.
@@ -42,7 +40,7 @@ pub struct Exported {
     pub layout: Layout,
 }
 
-// The reply to a call up to its commit, and the wait before it may be sent.
+// Writes the reply to a call up to its commit, and says which wait comes before it may be sent.
 pub(crate) fn answer_no_wait<'b, D: BlockDisk, J: Naming, V: Version, W: Wait>(
     rt: &W,
     alloc: Global,
@@ -51,18 +49,17 @@ pub(crate) fn answer_no_wait<'b, D: BlockDisk, J: Naming, V: Version, W: Wait>(
     files: &FileStore<'b, D, J, V>,
     exported: &Exported,
     moment: Moment,
-) -> Result<PendingReply<Receipt<'b, J, SoundFiles<V>>>, AllocError>
-    ensures answered { IfOk result (λ soon. AnswersBoth V.VERSION exported.now.layout.blocks exported.now.verifier.0 (awaiting (pending_wait_for soon.wait))
-        (time_of moment) (message_of call.now) session.old session.new soon.reply.items) }
-    ensures awaited { IfOk result (λ soon. IfSome soon.wait (λ awaited. IsAwaitedCall awaited.procedure (message_of call.now))) }
+    writer: &mut Writer,
+) -> Result<Option<ReplyWait<Receipt<'b, J, SoundFiles<V>>>>, AllocError>
+    ensures answered { IfOk result (λ wait. (text : List ℕ) × (writer.new ≡ writer.old ++ text) × AnswersBoth V.VERSION exported.now.layout.blocks exported.now.verifier.0 (awaiting (pending_wait_for wait))
+        (time_of moment) (message_of call.now) session.old session.new text) }
+    ensures awaited { IfOk result (λ wait. IfSome wait (λ awaited. IsAwaitedCall awaited.procedure (message_of call.now))) }
     ensures lost { OnErr result ((history : List Entry) → (reply : List ℕ) × AnswersBoth V.VERSION exported.now.layout.blocks exported.now.verifier.0
         (marked history) (time_of moment) (message_of call.now) session.old session.new reply) }
 {
     let Pending { value, wait } = run_no_wait(rt, alloc, session, call, files, exported, moment);
-    let reply = write_reply(alloc, call.xid, &value, room_for(&value))?;
-    let procedure = procedure_of(&value);
-    let wait = awaited(procedure, wait);
-    Ok(PendingReply { reply, wait })
+    write_reply(writer, call.xid, &value)?;
+    Ok(awaited(procedure_of(&value), wait))
 }
 
 // The outcome of a call that is not waited for.
@@ -143,21 +140,5 @@ fn awaited<P: Drop>(procedure: Option<Procedure>, wait: PendingWait<P>) -> Optio
     match (procedure, wait) {
         (Some(procedure), PendingWait::Wait(receipt)) => Some(ReplyWait { procedure, receipt }),
         _ => None,
-    }
-}
-
-// The room that is reserved for a reply.
-fn room_for(outcome: &Result<Told, CallRefused>) -> usize {
-    match outcome {
-        Ok(
-            Told::Nine(
-                FormatResults {
-                    results: Results::Read(Ok(portion)),
-                    ..
-                },
-            ),
-        ) => REPLY_BYTES + portion.bytes().len(),
-        Ok(Told::Query(_, results)) => REPLY_BYTES + results.room(),
-        _ => REPLY_BYTES,
     }
 }

@@ -2,3 +2,4 @@ pub mod Marked
 pub mod Standings
 pub mod Pendings
 pub mod Using
+pub mod Timeless

@@ -1,5 +1,5 @@
 -- Replies for which a wait is owed, and what is told in place of them.
-use Rattle.std.proofs.Common.{◌≡◌, ℕ, ◌≤◌, IsTrue, List, Option, Some, None, Result, Ok, Err, OnErr, IfSome, IfOk, arith, refl, sym, ap, subst, ◌∙◌}
+use Rattle.std.proofs.Common.{◌≡◌, ℕ, ◌≤◌, IsTrue, List, [], ◌++◌, Option, Some, None, Result, Ok, Err, OnErr, IfSome, arith, refl, sym, ap, subst, ◌∙◌}
 use Rattle.journal_world.specs.declared.refusal.Refusal.{Refusal}
 use Rattle.journal_world.specs.declared.refusal.Refusal.TheVariants.{NoMemory, BadAddress, BadSize, TooLarge, Busy, DeviceFailed, BadLog, BadSuper, Stale, Stranger, Worn, Full, Closed, Fenced}
 use Rattle.journal_world.specs.Histories.{Entry, floor, is_trusted, at}
@@ -19,7 +19,6 @@ use Rattle.journal_nfs3_wire.specs.declared.procedure.Procedure.TheVariants as p
 use Rattle.journal_nfs3_wire.specs.declared.results.NfsError.{NfsError}
 use Rattle.journal_nfs3_wire.specs.declared.results.NfsError.TheVariants.{ServerFault}
 use Rattle.journal_nfs3.specs.declared.pending.ReplyWait.{ReplyWait}
-use Rattle.journal_nfs3.specs.declared.pending.PendingReply.{PendingReply}
 use Rattle.journal_nfs3_wire.specs.Arguments.{Operation}
 use Rattle.journal_nfs3_wire.specs.Results.{Results, results_text, procedure_of_results, IsResult}
 use Rattle.journal_nfs3_wire.specs.declared.results.FormatResults.{FormatResults}
@@ -110,10 +109,6 @@ takes_place xid p why =
     (λ version verifier now asked old new receipt soon history is a.
     record { outcome = Ok (refused_results p (refusal_error alike.0)); comes = call_takes_place version verifier now asked old new receipt history p alike.0 a.outcome is a.comes; is_sent = refl })
 
--- the same of a text that is known
-pub takes_place_so : {C : Type 0} (xid : ℕ) (p : Procedure) (why : Refusal C) (text : List ℕ) → text ≡ sent xid (Ok (refused_results p (refusal_error why))) → TakesPlace xid p text
-takes_place_so xid p why text is = subst (TakesPlace xid p) (sym is) (takes_place xid p why)
-
 -- ---- a session that waited for what is owed
 
 -- a session's history has sound files after each number of commits
@@ -184,15 +179,17 @@ module _ (version : FormatVersion) (verifier : List ℕ) (now : Time) (xid : ℕ
       same Nothing = tt
       same (Wait receipt) = h.3
 
-  pub answers_no_wait : (asked : Result Operation CallRefused) (outcome : Result Results CallRefused) (wait : PendingWait CommitPlace) (soon : PendingReply CommitPlace) → ServesCall version (awaiting wait) verifier now asked old outcome new
-      → soon.reply.items ≡ sent xid outcome → soon.wait ≡ awaited_of outcome wait → AnswersNoWait version verifier now xid asked old new soon
-  answers_no_wait asked outcome wait soon h text is = record {
+  pub answers_no_wait : (asked : Result Operation CallRefused) (outcome : Result Results CallRefused) (owed : PendingWait CommitPlace) (wrote writes : List ℕ) (wait : Option (ReplyWait CommitPlace)) → ServesCall version (awaiting owed) verifier now asked old outcome new
+      → writes ≡ wrote ++ sent xid outcome → wait ≡ awaited_of outcome owed → AnswersNoWait version verifier now xid asked old new wrote writes wait
+  answers_no_wait asked outcome owed wrote writes wait h text is = record {
+    text = sent xid outcome;
+    written = text;
     answers = record {
       outcome = outcome;
-      comes = subst (λ (o : PendingWait CommitPlace). ServesCall version (awaiting o) verifier now asked old outcome new) (sym (ap pending_wait_for is ∙ wait_kept asked outcome wait h)) h;
-      is_sent = text;
+      comes = subst (λ (o : PendingWait CommitPlace). ServesCall version (awaiting o) verifier now asked old outcome new) (sym (ap pending_wait_for is ∙ wait_kept asked outcome owed h)) h;
+      is_sent = refl;
     };
-    procedure = subst (λ (a : Option (ReplyWait CommitPlace)). IfSome a (λ (b : ReplyWait CommitPlace). IsCallOf b.procedure asked)) (sym is) (of_call asked outcome wait h);
+    procedure = subst (λ (a : Option (ReplyWait CommitPlace)). IfSome a (λ (b : ReplyWait CommitPlace). IsCallOf b.procedure asked)) (sym is) (of_call asked outcome owed h);
   }
 
   -- a reply that was lost, of which nothing is known to be stable
@@ -213,32 +210,38 @@ sent_seen xid (Err why) = refl
 
 -- ---- the reply that is told in the end
 
-module _ (version : FormatVersion) (verifier : List ℕ) (now : Time) (xid : ℕ) (asked : Result Operation CallRefused) (old middle : SessionState) (soon : PendingReply CommitPlace) (a : AnswersNoWait version verifier now xid asked old middle soon) where
-  -- nothing is owed
-  pub settled_no_wait : soon.wait ≡ None → Answers version verifier now xid asked old middle soon.reply.items
-  settled_no_wait e =
-      answers_paid version verifier now xid asked old middle middle Nothing soon.reply.items
-      (subst (λ (o : Option (ReplyWait CommitPlace)). AnswersAs version (awaiting (pending_wait_for o)) verifier now xid asked old middle soon.reply.items) e a.answers) tt
+module _ (version : FormatVersion) (verifier : List ℕ) (now : Time) (xid : ℕ) (asked : Result Operation CallRefused) (old middle : SessionState) (wrote writes : List ℕ) (wait : Option (ReplyWait CommitPlace)) (a : AnswersNoWait version verifier now xid asked old middle wrote writes wait) where
+  -- all that is written is the reply
+  all_written : (items : List ℕ) → wrote ≡ [] → items ≡ writes → items ≡ a.text
+  all_written items none told = told ∙ a.written ∙ ap (λ (w : List ℕ). w ++ a.text) none
 
-  module _ (new : SessionState) (awaited : ReplyWait CommitPlace) (e : soon.wait ≡ Some awaited) (more : OnlyExtends middle new) (sound : IsRuled version new) where
-    owing_it : AnswersAs version (awaiting (Wait awaited.receipt)) verifier now xid asked old middle soon.reply.items
-    owing_it = subst (λ (o : Option (ReplyWait CommitPlace)). AnswersAs version (awaiting (pending_wait_for o)) verifier now xid asked old middle soon.reply.items) e a.answers
+  -- nothing is owed
+  pub settled_no_wait : (items : List ℕ) → wrote ≡ [] → items ≡ writes → wait ≡ None → Answers version verifier now xid asked old middle items
+  settled_no_wait items none told e =
+      subst (Answers version verifier now xid asked old middle) (sym (all_written items none told))
+      (answers_paid version verifier now xid asked old middle middle Nothing a.text
+      (subst (λ (o : Option (ReplyWait CommitPlace)). AnswersAs version (awaiting (pending_wait_for o)) verifier now xid asked old middle a.text) e a.answers) tt)
+
+  module _ (new : SessionState) (awaited : ReplyWait CommitPlace) (e : wait ≡ Some awaited) (more : OnlyExtends middle new) (sound : IsRuled version new) where
+    owing_it : AnswersAs version (awaiting (Wait awaited.receipt)) verifier now xid asked old middle a.text
+    owing_it = subst (λ (o : Option (ReplyWait CommitPlace)). AnswersAs version (awaiting (pending_wait_for o)) verifier now xid asked old middle a.text) e a.answers
 
     -- a mark covers the receipt
-    pub waited_no_wait : (stable : ℕ) → awaited.receipt.count ≤ stable → stable ≤ floor new.seen → IsExact new → Answers version verifier now xid asked old new soon.reply.items
-    waited_no_wait stable covers marks exact = answers_waited version verifier now xid asked old middle new awaited.receipt soon.reply.items more sound (omega (arith, covers, marks)) exact owing_it
+    pub waited_no_wait : (items : List ℕ) → wrote ≡ [] → items ≡ writes → (stable : ℕ) → awaited.receipt.count ≤ stable → stable ≤ floor new.seen → IsExact new → Answers version verifier now xid asked old new items
+    waited_no_wait items none told stable covers marks exact =
+        subst (Answers version verifier now xid asked old new) (sym (all_written items none told))
+        (answers_waited version verifier now xid asked old middle new awaited.receipt a.text more sound (omega (arith, covers, marks)) exact owing_it)
 
     -- the wait was refused
     pub unsure_no_wait : {C : Type 0} (why : Refusal C) → Answers version verifier now xid asked old new (sent xid (Ok (refused_results awaited.procedure (refusal_error why))))
     unsure_no_wait why =
-        answers_unsure version verifier now xid asked old middle new awaited.receipt awaited.procedure why soon.reply.items more sound
+        answers_unsure version verifier now xid asked old middle new awaited.receipt awaited.procedure why a.text more sound
         (subst (λ (o : Option (ReplyWait CommitPlace)). IfSome o (λ (b : ReplyWait CommitPlace). IsCallOf b.procedure asked)) e a.procedure) owing_it
 
     -- told by a reply, if memory is there for it
-    pub unsure_ok : {C T E : Type 0} (why : Refusal C) (items : T → List ℕ) (r : Result T E) → IfOk r (λ v. items v ≡ sent xid (Ok (refused_results awaited.procedure (refusal_error why))))
-        → IfOk r (λ v. Answers version verifier now xid asked old new (items v))
-    unsure_ok why items (Ok v) is = subst (Answers version verifier now xid asked old new) (sym is) (unsure_no_wait why)
-    unsure_ok why items (Err x) is = tt
+    pub unsure_told : {C : Type 0} (why : Refusal C) (items before after : List ℕ) → before ≡ [] → after ≡ before ++ sent xid (Ok (refused_results awaited.procedure (refusal_error why))) → items ≡ after → Answers version verifier now xid asked old new items
+    unsure_told why items before after none is told =
+        subst (Answers version verifier now xid asked old new) (sym (told ∙ is ∙ ap (λ (w : List ℕ). w ++ sent xid (Ok (refused_results awaited.procedure (refusal_error why)))) none)) (unsure_no_wait why)
 
     -- that reply is lost
     pub unsure_lost : {C T E : Type 0} (why : Refusal C) (r : Result T E) → OnErr r ((reply : List ℕ) × Answers version verifier now xid asked old new reply)

@@ -1,5 +1,5 @@
 -- Which reply belongs to a call (RFC 5531, section 9; RFC 1813, section 3.3).
-use Rattle.std.specs.Prelude.{ℕ, ◌≡◌, List, Option, Some, None, Result, Ok, Err, IfSome}
+use Rattle.std.specs.Prelude.{ℕ, ◌≡◌, List, ◌++◌, Option, Some, None, Result, Ok, Err, IfSome}
 use Rattle.journal_world.specs.Histories.{Entry}
 use Rattle.journal_history.specs.Tokens.{SessionState, CommitPlace}
 use Rattle.journal_inode.specs.declared.node.Time.{Time}
@@ -11,7 +11,6 @@ use Rattle.journal_file_types.specs.declared.pending_wait.PendingWait.TheVariant
 use Rattle.journal_nfs3_wire.specs.declared.procedure.Procedure.{Procedure}
 use Rattle.journal_nfs3_wire.specs.declared.procedure.Procedure.TheVariants as procedure
 use Rattle.journal_nfs3.specs.declared.pending.ReplyWait.{ReplyWait}
-use Rattle.journal_nfs3.specs.declared.pending.PendingReply.{PendingReply}
 use Rattle.journal_nfs3_wire.specs.Arguments.{Operation, Null, GetAttributes, SetAttributes, Lookup, Read, Write, Create, Remove, Commit}
 use Rattle.journal_nfs3_wire.specs.declared.results.FormatResults.{FormatResults}
 use Rattle.journal_nfs3_wire.specs.Results.{Results, results_text, procedure_of_results, IsResult}
@@ -64,10 +63,19 @@ abbrev pub IsCallOf : Procedure → Result Operation CallRefused → Type 0
 IsCallOf p (Ok operation) = p ≡ procedure_for operation
 IsCallOf p (Err why) = ⊥
 
--- The reply to a call that is committed, and its pending wait
-pub record AnswersNoWait (version : FormatVersion) (verifier : List ℕ) (now : Time) (xid : ℕ) (asked : Result Operation CallRefused) (old new : SessionState) (soon : PendingReply CommitPlace) : Type 0 where
-  pub answers : AnswersAs version (awaiting (pending_wait_for soon.wait)) verifier now xid asked old new soon.reply.items
-  pub procedure : IfSome soon.wait (λ awaited. IsCallOf awaited.procedure asked)
+-- The reply to a call that is committed was written after what was written before, and its pending
+-- wait
+pub record AnswersNoWait (version : FormatVersion) (verifier : List ℕ) (now : Time) (xid : ℕ) (asked : Result Operation CallRefused) (old new : SessionState) (wrote writes : List ℕ) (wait : Option (ReplyWait CommitPlace)) : Type 0 where
+  pub text : List ℕ
+  pub written : writes ≡ wrote ++ text
+  pub answers : AnswersAs version (awaiting (pending_wait_for wait)) verifier now xid asked old new text
+  pub procedure : IfSome wait (λ awaited. IsCallOf awaited.procedure asked)
+
+-- the reply to a call depends on no moment: none that names no procedure with times of its own does
+abbrev pub IsTimeless : Result Operation CallRefused → Type 0
+IsTimeless asked =
+    (version : FormatVersion) (standing : Standing) (verifier : List ℕ) (one other : Time) (xid : ℕ) (old new : SessionState) (text : List ℕ)
+    → AnswersAs version standing verifier one xid asked old new text → AnswersAs version standing verifier other xid asked old new text
 
 -- The text may replace a reply with a pending wait, to a call with this number and of this
 -- procedure: it says that it is not known to be stable

@@ -22,6 +22,6 @@ pub use journal_nfs3_wire::{DirectoryEntry, NfsError, Operation, Procedure, Resu
 pub use laws::{
     answers_that_wait_are_stable, files_use_their_blocks, pending_replies_hold_once_stable,
 };
-pub use pending::{Pending, PendingReply, ReplyWait};
-pub use replying::{answer, answer_no_wait, refused_reply};
+pub use pending::{Pending, ReplyWait};
+pub use replying::{answer, answer_no_wait, refused_reply, uses_moment};
 pub use serving::{PendingReceipt, get_attributes, look_up, serve_no_wait};

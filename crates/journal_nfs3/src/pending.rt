@@ -33,13 +33,3 @@ pub struct ReplyWait<P> {
     /// The receipt, for `Journal::wait_stable`.
     pub receipt: P,
 }
-
-/// The reply to a call that is committed, as a record of one fragment, and the wait before it may
-/// be sent.
-#[derive(Debug, Drop)]
-pub struct PendingReply<P> {
-    /// The reply.
-    pub reply: Vec<u8>,
-    /// The wait, or `None` if the reply may be sent at once.
-    pub wait: Option<ReplyWait<P>>,
-}

@@ -1,5 +1,5 @@
 // The reply to a call.
-ghost use Rattle.std.specs.Prelude.{◌≡◌, ◌<◌, ◌^◌, ℕ, List, length, Ok, IfOk, OnErr, IsOkUnless};
+ghost use Rattle.std.specs.Prelude.{◌≡◌, ◌<◌, ◌^◌, ℕ, List, length, ◌++◌, Ok, false, IfOk, OnOk, OnErr, IsOkUnless};
 ghost use Rattle.std.specs.Result.{ForOk};
 ghost use Rattle.journal_world.specs.Histories.{Entry};
 ghost use Rattle.journal_rpc.specs.CallViews.{asked_of};
@@ -8,23 +8,21 @@ ghost use Rattle.journal_nfs3_wire.specs.Calls.{asks};
 ghost use Rattle.journal_nfs3_wire.specs.Results.{results_text};
 ghost use Rattle.journal_nfs3_wire.specs.Profile.{results_of, refused_results};
 ghost use Rattle.journal_nfs3.specs.Served.{marked, awaiting, refusal_error};
-ghost use Rattle.journal_nfs3.specs.Answers.{sent, ServesCall, Answers, AnswersAs, AnswersNoWait, awaited_of, TakesPlace, outcome_seen};
+ghost use Rattle.journal_nfs3.specs.Answers.{sent, ServesCall, Answers, AnswersAs, AnswersNoWait, IsTimeless, awaited_of, TakesPlace, outcome_seen};
 
 use crate::convert::refusal_error;
-use crate::pending::{Pending, PendingReply, ReplyWait};
+use crate::pending::{Pending, ReplyWait};
 use crate::serving::serve_no_wait;
 use journal_disk::BlockDisk;
 use journal_filestore::{FileStore, PendingWait};
 use journal_history::{Naming, Receipt, Session};
 use journal_inode::{FormatVersion, SoundFiles, Version};
 use journal_nfs3_wire::{FormatResults, Procedure, Results, Verifier, decide};
-use journal_rpc::{Call, CallRefused, write_reply};
+use journal_rpc::{Asked, Call, CallRefused, write_reply};
 use journal_world::{Moment, Refusal};
+use journal_xdr::{Enumeration, Writer};
 use std::alloc::Global;
 use std::sync::Wait;
-
-// Room for a reply, beside the bytes that are read.
-const REPLY_BYTES: usize = 256;
 
 /// The reply to a call, as a record of one fragment. The first case that holds is answered: the
 /// call is in another version of RPC, it asks for another program, another version of this one or a
@@ -60,23 +58,26 @@ pub fn answer<'b, D: BlockDisk, J: Naming, V: Version, W: Wait, C>(
         (asks (asked_of call.now.asked)) session.old session.new reply) }
     ensures refusal { IsOkUnless result Refusal.NoMemory }
 {
-    let PendingReply { reply, wait } = answer_no_wait(
-        rt, alloc, session, call, files, moment, verifier,
-    )?;
+    let mut reply = Writer::new(alloc);
+    let wait = answer_no_wait(rt, &mut reply, session, call, files, moment, verifier)?;
     let awaited = match wait {
-        None => return Ok(reply),
+        None => return Ok(reply.into_bytes()),
         Some(awaited) => awaited,
     };
     let waited = files.journal().wait_stable(rt, session, &awaited.receipt);
     // Called for its contract: the history that the session has then seen.
     let _seen = session.seen();
     match waited {
-        Ok(_note) => Ok(reply),
-        Err(why) => refused_reply(alloc, call.xid, awaited.procedure, &why),
+        Ok(_note) => Ok(reply.into_bytes()),
+        Err(why) => {
+            reply.clear();
+            refused_reply(&mut reply, call.xid, awaited.procedure, &why)?;
+            Ok(reply.into_bytes())
+        }
     }
 }
 
-/// The reply to a call up to its commit: as `answer` does the call, and before it waits. If
+/// Writes the reply to a call up to its commit: as `answer` does the call, and before it waits. If
 /// `answer` would wait, the wait for its receipt is pending (`Journal::wait_stable`): the history
 /// has the operation, and a crash before the mark may lose it. A mark that covers the receipt makes
 /// the reply the one of `answer`. If the wait is refused, the reply of `refused_reply` has to be
@@ -87,39 +88,38 @@ pub fn answer<'b, D: BlockDisk, J: Naming, V: Version, W: Wait, C>(
 ///   its reply is lost.
 pub fn answer_no_wait<'b, D: BlockDisk, J: Naming, V: Version, W: Wait, C>(
     rt: &W,
-    alloc: Global,
+    writer: &mut Writer,
     session: &mut Session<'b, J, SoundFiles<V>>,
     call: &Call<'_>,
     files: &FileStore<'b, D, J, V>,
     moment: Moment,
     verifier: Verifier,
-) -> Result<PendingReply<Receipt<'b, J, SoundFiles<V>>>, Refusal<C>>
+) -> Result<Option<ReplyWait<Receipt<'b, J, SoundFiles<V>>>>, Refusal<C>>
     ensures answered { IfOk result (AnswersNoWait V.VERSION verifier.0 (time_of moment) call.now.xid
-        (asks (asked_of call.now.asked)) session.old session.new) }
+        (asks (asked_of call.now.asked)) session.old session.new writer.old writer.new) }
     ensures lost { OnErr result ((history : List Entry) → (reply : List ℕ) × AnswersAs V.VERSION (marked history) verifier.0
         (time_of moment) call.now.xid (asks (asked_of call.now.asked)) session.old session.new reply) }
     ensures refusal { IsOkUnless result Refusal.NoMemory }
 {
     let Pending { value, wait } = run_no_wait(rt, session, call, files, moment, verifier);
-    let reply = write_reply(alloc, call.xid, &value, room_for(&value))?;
-    let wait = awaited(&value, wait);
-    Ok(PendingReply { reply, wait })
+    write_reply(writer, call.xid, &value)?;
+    Ok(awaited(&value, wait))
 }
 
-/// The reply in place of one whose wait is refused, to a call of this number and procedure: JUKEBOX
-/// for J5, IO for J6 and SERVERFAULT for any other refusal. The history has the operation, and it
-/// is not known to be stable.
+/// Writes the reply in place of one whose wait is refused, to a call of this number and procedure:
+/// JUKEBOX for J5, IO for J6 and SERVERFAULT for any other refusal. The history has the operation,
+/// and it is not known to be stable.
 ///
 /// # Errors
-/// - `J1 NoMemory`: the memory for the reply is refused. Nothing changed.
+/// - `J1 NoMemory`: the memory for the reply is refused. Some of its bytes may be written.
 pub fn refused_reply<C, E>(
-    alloc: Global,
+    writer: &mut Writer,
     xid: u32,
     procedure: Procedure,
     why: &Refusal<C>,
-) -> Result<Vec<u8>, Refusal<E>>
-    ensures text { IfOk result (λ reply. reply.items ≡ sent xid (Ok (refused_results procedure (refusal_error why.now)))) }
-    ensures takes_place { IfOk result (λ reply. TakesPlace xid procedure reply.items) }
+) -> Result<(), Refusal<E>>
+    ensures text { OnOk result (writer.new ≡ writer.old ++ sent xid (Ok (refused_results procedure (refusal_error why.now)))) }
+    ensures takes_place { TakesPlace xid procedure (sent xid (Ok (refused_results procedure (refusal_error why.now)))) }
     ensures refusal { IsOkUnless result Refusal.NoMemory }
 {
     let results = Results::refused(procedure, refusal_error(why));
@@ -130,7 +130,7 @@ pub fn refused_reply<C, E>(
     };
     results.prove_grammar();
     let outcome = Ok(results);
-    Ok(write_reply(alloc, xid, &outcome, REPLY_BYTES)?)
+    Ok(write_reply(writer, xid, &outcome)?)
 }
 
 // The outcome of a call that is not waited for: why it is refused, or the results of its operation,
@@ -181,15 +181,15 @@ fn awaited<P: Drop>(
     }
 }
 
-// The room that is reserved for a reply.
-fn room_for(outcome: &Result<FormatResults, CallRefused>) -> usize {
-    match outcome {
-        Ok(
-            FormatResults {
-                results: Results::Read(Ok(portion)),
-                ..
-            },
-        ) => REPLY_BYTES + portion.bytes().len(),
-        _ => REPLY_BYTES,
+/// True if the reply to a call depends on the moment: the call is SETATTR, WRITE or CREATE.
+pub fn uses_moment(call: &Call<'_>) -> bool
+    ensures timeless { result ≡ false → IsTimeless (asks (asked_of call.now.asked)) }
+{
+    match call.asked {
+        Asked::OtherVersion => false,
+        Asked::Procedure { procedure, .. } => matches!(
+            Procedure::from_number(procedure),
+            Some(Procedure::SetAttributes | Procedure::Write | Procedure::Create)
+        ),
     }
 }

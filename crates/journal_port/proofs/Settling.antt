@@ -1,5 +1,5 @@
 -- Answers that are held until their commits are stable.
-use Rattle.std.proofs.Common.{ℕ, ◌≡◌, ◌≤◌, Bool, true, false, Option, Some, None, Result, Ok, Err, List, [], refl, sym, subst, ◌∙◌, arith}
+use Rattle.std.proofs.Common.{ℕ, ◌≡◌, ◌≤◌, Bool, true, false, Option, Some, None, Result, Ok, Err, List, [], refl, sym, ap, subst, ◌∙◌, arith}
 use Rattle.std.specs.Prelude.{IsTrue, IfSome}
 use Rattle.std.proofs.lemmas.Bool.{false≢true}
 use Rattle.journal_world.specs.Addresses.{Shape}
@@ -12,6 +12,8 @@ use Rattle.journal_records.specs.declared.request.Request.TheVariants as asked
 use Rattle.journal_records.specs.declared.answer.Answer.{Answer}
 use Rattle.journal_records.specs.declared.answer.Answer.TheVariants.{Committed, Refused, Unsure, Values, Hello, Opening, Flushed, Stat, Stopping, Counters, Bits}
 use Rattle.journal_records.specs.declared.refused.Refused.TheVariants.{ReadOnly}
+use Rattle.journal_records.specs.Answers.{answer, told_of}
+use Rattle.journal_records.specs.Frames.{framed}
 use Rattle.journal_protocol.specs.declared.held_reply.HeldWait.{HeldWait}
 use Rattle.journal_protocol.specs.declared.held_reply.HeldReply.{HeldReply}
 use Rattle.journal_protocol.specs.Protocols.{IsPaid, IsHeldReply}
@@ -60,22 +62,26 @@ by_any layout offer later bytes old new told is = reply_later layout offer [] la
 abbrev pub commits_of : AwaitedCommits → ℕ
 commits_of awaited = awaited.commits
 
-module _ (layout : Shape) (offer : Offer) (moment : Time) (bytes : List ℕ) (old new : SessionState) (soon : HeldReply UnsureAnswer AwaitedCommits) where
+module _ (layout : Shape) (offer : Offer) (moment : Time) (bytes : List ℕ) (old new : SessionState) (soon : HeldReply UnsureAnswer AwaitedCommits) (text : List ℕ) where
   -- an answer that has no wait is the same by the marks of each history that has greater ones
-  free : (told : Answer) → IsReplyTo layout offer [] bytes old new told → HoldsAnswer told soon → IsHeldReply (service layout offer) replaces commits_of moment bytes old new soon
+  free : (told : Answer) → IsReplyTo layout offer [] bytes old new told → HoldsAnswer told soon text → IsHeldReply (service layout offer) replaces commits_of moment bytes old new soon text
   free told is h = record {
     paid = λ history p. (told, by_any layout offer history bytes old new told is, h.held);
-    replaced = subst (λ (o : Option (HeldWait UnsureAnswer AwaitedCommits)). IfSome o (λ (wait : HeldWait UnsureAnswer AwaitedCommits). (history : List Entry) (text : List ℕ) → replaces wait.call text → (service layout offer).answers history moment bytes old new text)) (sym h.free) tt;
-    ends = λ e. (h.free, subst (λ (a : Answer). IsText a soon.reply.items) (h.ends e) h.held);
+    replaced = subst (λ (o : Option (HeldWait UnsureAnswer AwaitedCommits)). IfSome o (λ (wait : HeldWait UnsureAnswer AwaitedCommits). (history : List Entry) (other : List ℕ) → replaces wait.call other → (service layout offer).answers history moment bytes old new other)) (sym h.free) tt;
+    ends = λ e. (h.free, subst (λ (a : Answer). IsText a text) (h.ends e) h.held);
   }
 
-  pub holds_found : (told : Answer) → IsReplyTo layout offer [] bytes old new told → IsHeldFor told soon → IsHeldReply (service layout offer) replaces commits_of moment bytes old new soon
+  pub holds_found : (told : Answer) → IsReplyTo layout offer [] bytes old new told → IsHeldFor told soon text → IsHeldReply (service layout offer) replaces commits_of moment bytes old new soon text
   holds_found (Unsure place count) is (wait, h) = record {
     paid = λ history p.
         let enough : wait.receipt.commits ≤ floor history = subst (IsPaid commits_of (floor history)) h.waits p in
         (Committed place count, (reply_settled layout offer [] history bytes old new place count is).1 (omega (arith, enough, h.enough)), h.held);
-    replaced = subst (λ (o : Option (HeldWait UnsureAnswer AwaitedCommits)). IfSome o (λ (w : HeldWait UnsureAnswer AwaitedCommits). (history : List Entry) (text : List ℕ) → replaces w.call text → (service layout offer).answers history moment bytes old new text)) (sym h.waits)
-        (λ history text same. (Unsure place count, (reply_settled layout offer [] history bytes old new place count is).0, subst (IsText (Unsure place count)) (sym same) h.replaced));
+    replaced = subst (λ (o : Option (HeldWait UnsureAnswer AwaitedCommits)). IfSome o (λ (w : HeldWait UnsureAnswer AwaitedCommits). (history : List Entry) (other : List ℕ) → replaces w.call other → (service layout offer).answers history moment bytes old new other)) (sym h.waits)
+        (λ history other same. (
+          Unsure place count,
+          (reply_settled layout offer [] history bytes old new place count is).0,
+          record { fits = h.fits; text = same ∙ ap (λ (u : UnsureAnswer). framed (answer.spelling (told_of (Unsure u.place u.commits)))) h.replaced },
+        ));
     ends = λ e. absurd (false≢true (sym h.goes_on ∙ e));
   }
   holds_found (Committed place count) is h = free (Committed place count) is h

@@ -15,7 +15,7 @@ use Rattle.journal_records.specs.declared.request.Request.{Request}
 use Rattle.journal_records.specs.declared.answer.Answer.{Answer}
 use Rattle.journal_records.specs.declared.answer.Answer.TheVariants.{Committed, Refused, Stopping, Unsure}
 use Rattle.journal_records.specs.Answers.{answer, told_of}
-use Rattle.journal_records.specs.Frames.{framed, IsRecordOf}
+use Rattle.journal_records.specs.Frames.{framed, IsRecordOf, FitsRecord}
 use Rattle.journal_records.specs.Readings.{ReadsRequest}
 use Rattle.journal_protocol.specs.declared.connection.End.{End}
 use Rattle.journal_protocol.specs.declared.connection.End.TheVariants.{BadRecord}
@@ -68,27 +68,28 @@ service layout offer = record { marking = whole_records RECORD_BYTES; reads = λ
 
 -- of a commit that is not known to be stable, that it is not known to be
 abbrev pub replaces : Replacing UnsureAnswer
-replaces awaited text = text ≡ awaited.record.items
+replaces awaited text = text ≡ framed (answer.spelling (told_of (Unsure awaited.place awaited.commits)))
 
--- A commit that is to wait is held so: its record as one that is known to be stable, and as
--- one that is not
-pub record HoldsCommit (place count : ℕ) (soon : HeldReply UnsureAnswer AwaitedCommits) (wait : HeldWait UnsureAnswer AwaitedCommits) : Type 0 where
+-- A commit that is to wait is held so: its record as one that is known to be stable, and its place
+-- and count for the record of one that is not, which a record can hold
+pub record HoldsCommit (place count : ℕ) (soon : HeldReply UnsureAnswer AwaitedCommits) (text : List ℕ) (wait : HeldWait UnsureAnswer AwaitedCommits) : Type 0 where
   pub waits : soon.wait ≡ Some wait
-  pub held : IsText (Committed place count) soon.reply.items
-  pub replaced : IsText (Unsure place count) wait.call.record.items
+  pub held : IsText (Committed place count) text
+  pub replaced : wait.call ≡ record { place = place; commits = count }
+  pub fits : FitsRecord answer (told_of (Unsure place count))
   pub enough : wait.receipt.commits ≡ count
   pub goes_on : soon.ends ≡ false
 
 -- any other answer is held so: its record, which ends the connection only where it says so
-pub record HoldsAnswer (told : Answer) (soon : HeldReply UnsureAnswer AwaitedCommits) : Type 0 where
+pub record HoldsAnswer (told : Answer) (soon : HeldReply UnsureAnswer AwaitedCommits) (text : List ℕ) : Type 0 where
   pub free : soon.wait ≡ None
-  pub held : IsText told soon.reply.items
+  pub held : IsText told text
   pub ends : IsTrue soon.ends → told ≡ Stopping
 
--- what is held for an answer
-abbrev pub IsHeldFor : Answer → HeldReply UnsureAnswer AwaitedCommits → Type 0
-IsHeldFor (Unsure place count) soon = (wait : HeldWait UnsureAnswer AwaitedCommits) × HoldsCommit place count soon wait
-IsHeldFor told soon = HoldsAnswer told soon
+-- what is held for an answer, with this text
+abbrev pub IsHeldFor : Answer → HeldReply UnsureAnswer AwaitedCommits → List ℕ → Type 0
+IsHeldFor (Unsure place count) soon text = (wait : HeldWait UnsureAnswer AwaitedCommits) × HoldsCommit place count soon text wait
+IsHeldFor told soon text = HoldsAnswer told soon text
 
 -- ---- a connection
 

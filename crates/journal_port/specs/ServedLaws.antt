@@ -2,6 +2,9 @@
 use Rattle.std.proofs.Common.{ℕ, List, refl}
 use Rattle.journal_world.specs.Addresses.{Shape}
 use Rattle.journal_protocol.specs.Protocols.{IsLawful, IsRefusable}
+use Rattle.journal_records.specs.declared.answer.Answer.TheVariants.{Unsure}
+use Rattle.journal_records.specs.Answers.{answer, told_of}
+use Rattle.journal_records.specs.Frames.{framed}
 use Rattle.journal_port.specs.Answers.{Offer}
 use Rattle.journal_port.specs.Served.{service, replaces}
 use Rattle.journal_port.specs.Growing.{reply_grows}
@@ -15,4 +18,4 @@ lawful_answers layout offer = record {
 }
 
 pub refusable_answers : IsRefusable replaces
-refusable_answers = λ awaited. (awaited.record.items, refl)
+refusable_answers = λ awaited. (framed (answer.spelling (told_of (Unsure awaited.place awaited.commits))), refl)

@@ -1,5 +1,5 @@
 // The answers of the port, as a protocol over connections.
-ghost use Rattle.std.specs.Prelude.{◌≡◌, [], IsTrue, IfOk};
+ghost use Rattle.std.specs.Prelude.{◌≡◌, ◌++◌, ℕ, List, [], IsTrue, IfOk};
 ghost use Rattle.journal_records.specs.declared.answer.Answer.TheVariants.{Stopping, Unsure};
 ghost use Rattle.journal_port.specs.Answers.{offer};
 ghost use Rattle.journal_port.specs.Served.{IsFoundAnswer, HoldsAnswer, IsHeldFor, refused_for};
@@ -8,12 +8,14 @@ use crate::counting::Counting;
 use crate::respond::{Port, answer_no_wait};
 use journal_disk::BlockDisk;
 use journal_history::{Naming, Session};
-use journal_protocol::{ConnFault, Counted, HeldReply, HeldWait, Protocol};
+use journal_protocol::{Clock, ConnFault, Counted, HeldReply, HeldWait, Protocol};
 use journal_records::{
-    Answer, RECORD_BYTES, ReadFault, Refused, Request, WriteFault, read_request, write_answer,
+    Answer, RECORD_BYTES, ReadFault, Refused, Request, WriteFault, answers_are_spellings,
+    read_request, write_answer,
 };
 use journal_rpc::Marking;
-use journal_world::{AnyMap, CommitCount, Moment, Refusal};
+use journal_world::{AnyMap, CommitCount, Refusal};
+use journal_xdr::Writer;
 use std::alloc::{AllocError, Global};
 use std::sync::Wait;
 
@@ -33,10 +35,12 @@ impl Counted for AwaitedCommits {
 }
 
 /// The answer to a commit that waits, where it is not known to be stable.
-#[derive(Debug, Drop)]
+#[derive(Clone, Copy, Debug, Drop)]
 pub struct UnsureAnswer {
-    /// The answer's record.
-    pub record: Vec<u8>,
+    /// The commit's place.
+    pub place: u64,
+    /// How many commits are to be stable.
+    pub commits: u64,
 }
 
 impl<'s, 'b, D: BlockDisk, J: Naming, C: Counting> Protocol for Port<'s, 'b, D, J, C> {
@@ -67,17 +71,18 @@ impl<'s, 'b, D: BlockDisk, J: Naming, C: Counting> Protocol for Port<'s, 'b, D, 
         Marking::by_length(RECORD_BYTES)
     }
 
-    fn answer_no_wait<W: Wait>(
+    fn answer_no_wait<W: Wait, K: Clock>(
         &self,
         rt: &W,
         alloc: Global,
         session: &mut Session<'b, J, AnyMap>,
         bytes: &[u8],
-        _moment: Moment,
+        writer: &mut Writer,
+        _clock: &K,
     ) -> Result<Option<HeldReply<UnsureAnswer, AwaitedCommits>>, ConnFault> {
         let told = reply(rt, self, session, read_request(alloc, bytes));
         self.counting.note(&told);
-        match held(alloc, &told) {
+        match held(writer, &told) {
             Ok(soon) => Ok(Some(soon)),
             Err(WriteFault::NoMemory) => Err(ConnFault::NoMemory),
             Err(WriteFault::TooLong) => Err(ConnFault::NoRecord),
@@ -86,13 +91,15 @@ impl<'s, 'b, D: BlockDisk, J: Naming, C: Counting> Protocol for Port<'s, 'b, D, 
 
     fn refused_reply(
         &self,
-        alloc: Global,
+        writer: &mut Writer,
         call: &UnsureAnswer,
         _why: &Refusal<()>,
-    ) -> Result<Vec<u8>, AllocError> {
-        let mut record = Vec::with_capacity(alloc, call.record.len())?;
-        record.extend_from_slice(&call.record)?;
-        Ok(record)
+    ) -> Result<(), AllocError> {
+        let UnsureAnswer { place, commits } = *call;
+        match write_answer(writer, &Answer::Unsure { place, commits }) {
+            Ok(()) => Ok(()),
+            Err(_) => Err(AllocError),
+        }
     }
 
     fn wait_stable<W: Wait>(
@@ -148,12 +155,15 @@ fn refused_for(fault: ReadFault) -> Refused
     }
 }
 
-// The record of an answer, and its wait.
-fn held(alloc: Global, told: &Answer) -> Result<HeldReply<UnsureAnswer, AwaitedCommits>, WriteFault>
-    ensures { IfOk result (IsHeldFor told.now) }
+// Writes the record of an answer, and says which wait comes before it is sent.
+fn held(
+    writer: &mut Writer,
+    told: &Answer,
+) -> Result<HeldReply<UnsureAnswer, AwaitedCommits>, WriteFault>
+    ensures { IfOk result (λ soon. (text : List ℕ) × (writer.new ≡ writer.old ++ text) × IsHeldFor told.now soon text) }
 {
     match told {
-        Answer::Unsure { place, commits } => held_commit(alloc, *place, *commits),
+        Answer::Unsure { place, commits } => held_commit(writer, *place, *commits),
         Answer::Hello { .. }
         | Answer::Opening(_)
         | Answer::Committed { .. }
@@ -163,40 +173,40 @@ fn held(alloc: Global, told: &Answer) -> Result<HeldReply<UnsureAnswer, AwaitedC
         | Answer::Stopping
         | Answer::Counters(_)
         | Answer::Bits(_)
-        | Answer::Refused(_) => held_answer(alloc, told),
+        | Answer::Refused(_) => held_answer(writer, told),
     }
 }
 
-// The records of a commit that is to wait, as one that is known to be stable, and as one that is
-// not.
+// Writes the record of a commit that is to wait, as one that is known to be stable, and remembers
+// its place and count for the record of one that is not.
 fn held_commit(
-    alloc: Global,
+    writer: &mut Writer,
     place: u64,
     commits: u64,
 ) -> Result<HeldReply<UnsureAnswer, AwaitedCommits>, WriteFault>
-    ensures { IfOk result (IsHeldFor (Unsure place commits)) }
+    ensures { IfOk result (λ soon. (text : List ℕ) × (writer.new ≡ writer.old ++ text) × IsHeldFor (Unsure place commits) soon text) }
 {
-    let reply = write_answer(alloc, &Answer::Committed { place, commits })?;
-    let record = write_answer(alloc, &Answer::Unsure { place, commits })?;
+    // Called for its contract: a record can hold the other answer too.
+    answers_are_spellings();
+    write_answer(writer, &Answer::Committed { place, commits })?;
     Ok(HeldReply {
-        reply,
         wait: Some(HeldWait {
-            call: UnsureAnswer { record },
+            call: UnsureAnswer { place, commits },
             receipt: AwaitedCommits { commits },
         }),
         ends: false,
     })
 }
 
-// The record of an answer that has no wait.
+// Writes the record of an answer that has no wait.
 fn held_answer(
-    alloc: Global,
+    writer: &mut Writer,
     told: &Answer,
 ) -> Result<HeldReply<UnsureAnswer, AwaitedCommits>, WriteFault>
-    ensures { IfOk result (HoldsAnswer told.now) }
+    ensures { IfOk result (λ soon. (text : List ℕ) × (writer.new ≡ writer.old ++ text) × HoldsAnswer told.now soon text) }
 {
+    write_answer(writer, told)?;
     Ok(HeldReply {
-        reply: write_answer(alloc, told)?,
         wait: None,
         ends: is_stopping(told),
     })

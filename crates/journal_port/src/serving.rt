@@ -15,6 +15,7 @@ use journal_history::{Naming, Session};
 use journal_protocol::{Answerer, Clock, ConnFault, End, Pace, Progress, write_whole};
 use journal_records::{Answer, Refused, WriteFault, write_answer};
 use journal_world::{AnyMap, Moment};
+use journal_xdr::Writer;
 use std::alloc::Global;
 use std::io::{Read, Write};
 use std::sync::Wait;
@@ -24,6 +25,8 @@ use std::sync::Wait;
 struct NoClock;
 
 impl Clock for NoClock {
+    ghost some_moment = { λ c. (record { secs = 0; nanos = 0 }, tt) };
+
     fn now(&self) -> Moment {
         Moment { secs: 0, nanos: 0 }
     }
@@ -119,12 +122,13 @@ fn refuse_long<W: Write>(alloc: Global, writer: &mut W) -> Result<(), ConnFault>
     ensures whole { OnOk result (Appends (W.contents writer.old) (W.contents writer.new) long_text) }
     ensures in_part { OnErr result (AppendsFront (W.contents writer.old) (W.contents writer.new) long_text) }
 {
-    let text = match write_answer(alloc, &Answer::Refused(Refused::TooLong)) {
-        Ok(text) => text,
+    let mut text = Writer::new(alloc);
+    match write_answer(&mut text, &Answer::Refused(Refused::TooLong)) {
+        Ok(()) => {}
         Err(WriteFault::NoMemory) => return Err(ConnFault::NoMemory),
         Err(WriteFault::TooLong) => return Err(ConnFault::NoRecord),
-    };
-    match write_whole(writer, &text) {
+    }
+    match write_whole(writer, text.as_bytes()) {
         Ok(()) => Ok(()),
         Err(_) => Err(ConnFault::WriteFailed),
     }

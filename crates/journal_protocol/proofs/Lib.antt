@@ -5,3 +5,4 @@ pub mod Sends
 pub mod Serving
 pub mod Settling
 pub mod Staying
+pub mod Turning

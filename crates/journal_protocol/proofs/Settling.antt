@@ -1,6 +1,6 @@
 -- What is told of replies that were held back.
-use Rattle.std.proofs.Common.{◌≡◌, Bool, false, ℕ, ◌+◌, ◌≤◌, List, [], ◌∷◌, ◌++◌, Option, Some, None, Result, Ok, Err, OnOk, length, take, drop, refl, sym, ap, subst, ◌∙◌, append_assoc, inl, inr, arith, take-append-drop, length-append}
-use Rattle.std.specs.Prelude.{IsTrue, IfSome, is_ok, if◌then◌else◌, ◌⊎◌}
+use Rattle.std.proofs.Common.{◌≡◌, Bool, ℕ, ◌+◌, ◌≤◌, List, [], ◌∷◌, ◌++◌, Option, Some, None, Result, Ok, Err, OnOk, length, take, drop, refl, sym, ap, subst, ◌∙◌, append_assoc, inl, inr, arith, take-append-drop, length-append}
+use Rattle.std.specs.Prelude.{IsTrue, IfSome, ◌⊎◌}
 use Rattle.std.proofs.lemmas.List.{append-nil, append_cancel_left, length-take-le}
 use Rattle.std.proofs.Math.Seq.{take-append_seam}
 use Rattle.journal_world.specs.Histories.{Entry, floor}
@@ -12,9 +12,9 @@ use Rattle.journal_protocol.specs.declared.held_reply.HeldWait.{HeldWait}
 use Rattle.journal_protocol.specs.declared.held_reply.HeldReply.{HeldReply}
 use Rattle.journal_protocol.specs.declared.reply_batch.BatchWait.{BatchWait}
 use Rattle.journal_protocol.specs.declared.reply_batch.BatchEntry.{BatchEntry}
-use Rattle.journal_protocol.specs.Protocols.{Service, Replacing, IsPaid, IsLawful, IsRefusable}
+use Rattle.journal_protocol.specs.Protocols.{Service, Replacing, IsPaid, IsNoWaitReply, IsLawful, IsRefusable}
 use Rattle.journal_protocol.specs.Output.{IsReplyBy, AllReplies, Talk, talk, IsTold}
-use Rattle.journal_protocol.specs.ReplyBatches.{wait_of, held_of, IsNoWaitReply, Doing, doing, IsHeld, total, AreFree, IsCovered, AreCovered, SettlesOne, Settles}
+use Rattle.journal_protocol.specs.ReplyBatches.{wait_of, held_of, Doing, doing, IsHeld, total, AreFree, IsCovered, AreCovered, SettlesOne, Settles}
 use Rattle.journal_protocol.proofs.Answering.{all_so}
 use Rattle.journal_protocol.proofs.Staying.{all_grow}
 
@@ -95,35 +95,35 @@ module _ {C A R : Type 0} (s : Service C) (replaces : Replacing A) (commits : R 
   one_behind e rs old new bytes h = all_so s.reads (IsHeld s replaces commits tells) (IsHeld s replaces commits tells) (λ (d : Doing A). with_behind d e) one rs old new bytes h
     where
       one : (call : C) (before after : Doing A) (reply : List ℕ) → IsHeld s replaces commits tells call before after reply → IsHeld s replaces commits tells call (with_behind before e) (with_behind after e) reply
-      one call before after reply k = record { goes = k.goes; soon = k.soon; done = k.done; ends = k.ends; known = ap (λ (b : List (BatchEntry A)). b ++ e ∷ []) k.known; is = k.is }
+      one call before after reply k = record { goes = k.goes; soon = k.soon; done = k.done; ends = k.ends; known = ap (λ (b : List (BatchEntry A)). b ++ e ∷ []) k.known }
 
   -- a reply that is told
-  reply_told : (history : List Entry) (call : C) (old new : SessionState) (soon : HeldReply A R) (text : List ℕ) → IsNoWaitReply s replaces commits tells call old new soon
-      → SettlesOne replaces history (wait_of commits soon.wait) soon.reply.items text → IsReplyBy s.answers tells history call old new text
-  reply_told history call old new soon text h settles =
+  reply_told : (history : List Entry) (call : C) (old new : SessionState) (soon : HeldReply A R) (bytes text : List ℕ) → IsNoWaitReply s replaces commits tells call old new soon bytes
+      → SettlesOne replaces history (wait_of commits soon.wait) bytes text → IsReplyBy s.answers tells history call old new text
+  reply_told history call old new soon bytes text h settles =
       record { moment = h.moment; told = h.told; done = new; answers = of soon.wait refl settles; later = record { number = refl; mine = refl; seen = ([], append-nil new.seen) } }
     where
-      same : IsPaid commits (floor history) soon.wait → text ≡ soon.reply.items → s.answers history h.moment call old new text
+      same : IsPaid commits (floor history) soon.wait → text ≡ bytes → s.answers history h.moment call old new text
       same paid is = subst (s.answers history h.moment call old new) (sym is) (h.held.paid history paid)
 
-      waited : (w : HeldWait A R) → soon.wait ≡ Some w → ((commits w.receipt ≤ floor history) × (text ≡ soon.reply.items)) ⊎ replaces w.call text → s.answers history h.moment call old new text
+      waited : (w : HeldWait A R) → soon.wait ≡ Some w → ((commits w.receipt ≤ floor history) × (text ≡ bytes)) ⊎ replaces w.call text → s.answers history h.moment call old new text
       waited w e (inl s) = same (subst (IsPaid commits (floor history)) (sym e) s.0) s.1
       waited w e (inr place) =
           subst (λ (o : Option (HeldWait A R)). IfSome o (λ (v : HeldWait A R). (marks : List Entry) (other : List ℕ) → replaces v.call other → s.answers marks h.moment call old new other)) e h.held.replaced history text place
 
-      of : (o : Option (HeldWait A R)) → soon.wait ≡ o → SettlesOne replaces history (wait_of commits o) soon.reply.items text → s.answers history h.moment call old new text
+      of : (o : Option (HeldWait A R)) → soon.wait ≡ o → SettlesOne replaces history (wait_of commits o) bytes text → s.answers history h.moment call old new text
       of None e s = same (subst (IsPaid commits (floor history)) (sym e) tt) s
       of (Some w) e s = waited w e s
 
   -- and one that ends the connection is told as it is held
   talk_told : (history : List Entry) (call : C) (old new : Doing A) (bytes text : List ℕ) (k : IsHeld s replaces commits tells call old new bytes)
-      → SettlesOne replaces history (wait_of commits k.soon.wait) k.soon.reply.items text → IsTold s tells history call old.talk new.talk text
+      → SettlesOne replaces history (wait_of commits k.soon.wait) bytes text → IsTold s tells history call old.talk new.talk text
   talk_told history call old new bytes text k settles = record {
     goes = k.goes;
-    reply = reply_told history call old.talk.session new.talk.session k.soon text k.done settles;
+    reply = reply_told history call old.talk.session new.talk.session k.soon bytes text k.done settles;
     ends = λ over.
         let free = k.done.held.ends (subst IsTrue k.ends over) in
-        let same : text ≡ k.soon.reply.items = subst (λ (o : Option (HeldWait A R)). SettlesOne replaces history (wait_of commits o) k.soon.reply.items text) free.0 settles in
+        let same : text ≡ bytes = subst (λ (o : Option (HeldWait A R)). SettlesOne replaces history (wait_of commits o) bytes text) free.0 settles in
         subst s.stops (sym same) free.1;
   }
 
@@ -137,10 +137,9 @@ module _ {C A R : Type 0} (s : Service C) (replaces : Replacing A) (commits : R 
   replies_told history (r ∷ rs) old new bytes text h none settles =
       let k = h.2 in
       let held = k.3 in
-      let t : Settles replaces history (held_of commits held.soon ∷ k.0.behind) bytes text = subst (λ (hs : List (BatchEntry A)). Settles replaces history hs bytes text) held.known settles in
-      let cut = same_cut t.0 t.1 k.1 k.2 (sym t.4 ∙ k.5) (t.5 ∙ ap length (sym held.is)) in
-      let one : SettlesOne replaces history (wait_of commits held.soon.wait) held.soon.reply.items t.2 =
-      subst (λ (u : List ℕ). SettlesOne replaces history (wait_of commits held.soon.wait) u t.2) (cut.0 ∙ held.is) t.6 in
+      let t : Settles replaces history (held_of commits held.soon k.1 ∷ k.0.behind) bytes text = subst (λ (hs : List (BatchEntry A)). Settles replaces history hs bytes text) held.known settles in
+      let cut = same_cut t.0 t.1 k.1 k.2 (sym t.4 ∙ k.5) t.5 in
+      let one : SettlesOne replaces history (wait_of commits held.soon.wait) k.1 t.2 = subst (λ (u : List ℕ). SettlesOne replaces history (wait_of commits held.soon.wait) u t.2) cut.0 t.6 in
       let rest : Settles replaces history k.0.behind k.2 t.3 = subst (λ (u : List ℕ). Settles replaces history k.0.behind u t.3) cut.1 t.7 in
       (h.0, h.1, (k.0.talk, t.2, t.3, talk_told history h.0 old k.0 k.1 t.2 held one, replies_told history rs k.0 new k.2 t.3 k.4 none rest, t.8))
 
@@ -232,11 +231,6 @@ settles_one_stays replaces history longer (Some wait) reply text grows (inr plac
 
 -- ---- one reply that is told
 
--- bytes that were added where there was memory
-pub grown : {T E : Type 0} (r : Result T E) (old more text new : List ℕ) → more ≡ text → new ≡ (if is_ok r then old ++ more else old) → OnOk r (new ≡ old ++ text)
-grown (Ok x) old more text new same is = is ∙ ap (λ (t : List ℕ). old ++ t) same
-grown (Err x) old more text new same is = tt
-
 -- it is told as it is held
 pub told_same : {T E A : Type 0} (replaces : Replacing A) (r : Result T E) (history : List Entry) (wait : Option (BatchWait A)) (o : BatchWait A) (reply old new : List ℕ) → wait ≡ Some o → o.commits ≤ floor history → OnOk r (new ≡ old ++ reply)
     → OnOk r ((text : List ℕ) × SettlesOne replaces history wait reply text × (new ≡ old ++ text))
@@ -244,10 +238,11 @@ told_same {A = A} replaces (Ok x) history wait o reply old new e low is = (reply
 told_same replaces (Err x) history wait o reply old new e low is = tt
 
 -- its refusal is told
-pub told_refusal : {T E A : Type 0} (replaces : Replacing A) (r : Result T E) (history : List Entry) (wait : Option (BatchWait A)) (o : BatchWait A) (reply text old new : List ℕ) → wait ≡ Some o → replaces o.call text → OnOk r (new ≡ old ++ text)
-    → OnOk r ((told : List ℕ) × SettlesOne replaces history wait reply told × (new ≡ old ++ told))
-told_refusal {A = A} replaces (Ok x) history wait o reply text old new e place is = (text, subst (λ (q : Option (BatchWait A)). SettlesOne replaces history q reply text) (sym e) (inr place), is)
-told_refusal replaces (Err x) history wait o reply text old new e place is = tt
+pub told_refusal : {T E A : Type 0} (replaces : Replacing A) (r : Result T E) (history : List Entry) (wait : Option (BatchWait A)) (o : BatchWait A) (reply old new : List ℕ) → wait ≡ Some o
+    → OnOk r ((text : List ℕ) × replaces o.call text × (new ≡ old ++ text)) → OnOk r ((told : List ℕ) × SettlesOne replaces history wait reply told × (new ≡ old ++ told))
+told_refusal {A = A} replaces (Ok x) history wait o reply old new e place =
+    (place.0, subst (λ (q : Option (BatchWait A)). SettlesOne replaces history q reply place.0) (sym e) (inr place.1), place.2)
+told_refusal replaces (Err x) history wait o reply old new e place = tt
 
 -- ---- the replies that are told, one after another
 

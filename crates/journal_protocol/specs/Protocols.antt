@@ -1,5 +1,5 @@
 -- The answers of a protocol, whatever the protocol and its store.
-use Rattle.std.specs.Prelude.{◌≡◌, ◌≤◌, ℕ, IsTrue, List, Option, Some, None, IfSome}
+use Rattle.std.specs.Prelude.{◌≡◌, ◌≤◌, ℕ, IsTrue, List, ◌++◌, Option, Some, None, IfSome}
 use mathlib.Core.List.{IsPrefix}
 use Rattle.journal_rpc.specs.declared.marking.Marking.{Marking}
 use Rattle.journal_world.specs.Histories.{Entry, floor}
@@ -32,23 +32,32 @@ abbrev pub IsPaid : {A R : Type 0} → (R → ℕ) → ℕ → Option (HeldWait 
 IsPaid commits n None = Unit {0}
 IsPaid commits n (Some wait) = commits wait.receipt ≤ n
 
--- A reply to a call that is done up to its commit
-pub record IsHeldReply {C A R : Type 0} (s : Service C) (replaces : Replacing A) (commits : R → ℕ) (moment : Time) (call : C) (old new : SessionState) (soon : HeldReply A R) : Type 0 where
+-- The text is a reply to a call that is done up to its commit
+pub record IsHeldReply {C A R : Type 0} (s : Service C) (replaces : Replacing A) (commits : R → ℕ) (moment : Time) (call : C) (old new : SessionState) (soon : HeldReply A R) (text : List ℕ) : Type 0 where
   -- it is the call's reply by the marks of each history whose mark covers what it waits for
-  pub paid : (history : List Entry) → IsPaid commits (floor history) soon.wait → s.answers history moment call old new soon.reply.items
+  pub paid : (history : List Entry) → IsPaid commits (floor history) soon.wait → s.answers history moment call old new text
   -- and by any marks, that which is sent in its place
-  pub replaced : IfSome soon.wait (λ wait. (history : List Entry) (text : List ℕ) → replaces wait.call text → s.answers history moment call old new text)
+  pub replaced : IfSome soon.wait (λ wait. (history : List Entry) (other : List ℕ) → replaces wait.call other → s.answers history moment call old new other)
   -- one that ends the connection has no wait
-  pub ends : IsTrue soon.ends → (soon.wait ≡ None) × s.stops soon.reply.items
+  pub ends : IsTrue soon.ends → (soon.wait ≡ None) × s.stops text
 
--- A record was answered so, or is no call, which changes nothing
-abbrev pub IsAnswered : {C A R : Type 0} → Service C → Replacing A → (R → ℕ) → Time → List ℕ → SessionState → SessionState → Option (HeldReply A R) → Type 0
-IsAnswered s replaces commits moment bytes old new None = (s.reads bytes ≡ None) × (new ≡ old)
-IsAnswered {C} s replaces commits moment bytes old new (Some soon) = (call : C) × (s.reads bytes ≡ Some call) × IsHeldReply s replaces commits moment call old new soon
+-- the same at some moment that the clock may tell
+pub record IsNoWaitReply {C A R : Type 0} (s : Service C) (replaces : Replacing A) (commits : R → ℕ) (tells : Time → Type 0) (call : C) (old new : SessionState) (soon : HeldReply A R) (text : List ℕ) : Type 0 where
+  pub moment : Time
+  pub told : tells moment
+  pub held : IsHeldReply s replaces commits moment call old new soon text
 
--- A record's call was done, by each history with some text as its reply, and it was lost
-abbrev pub IsLost : {C : Type 0} → Service C → Time → List ℕ → SessionState → SessionState → Type 0
-IsLost {C} s moment bytes old new = (call : C) × (s.reads bytes ≡ Some call) × ((history : List Entry) → (reply : List ℕ) × s.does history moment call old new reply)
+-- A record was answered so, and the reply was written after what was written before, or it is no
+-- call, which changes nothing
+abbrev pub IsAnswered : {C A R : Type 0} → Service C → Replacing A → (R → ℕ) → (Time → Type 0) → List ℕ → SessionState → SessionState → List ℕ → List ℕ → Option (HeldReply A R) → Type 0
+IsAnswered s replaces commits tells bytes old new wrote writes None = (s.reads bytes ≡ None) × (new ≡ old) × (writes ≡ wrote)
+IsAnswered {C} s replaces commits tells bytes old new wrote writes (Some soon) =
+    (call : C) × (text : List ℕ) × (s.reads bytes ≡ Some call) × (writes ≡ wrote ++ text) × IsNoWaitReply s replaces commits tells call old new soon text
+
+-- A record's call was done at some moment of the clock, by each history with some text as its
+-- reply, and it was lost
+abbrev pub IsLost : {C : Type 0} → Service C → (Time → Type 0) → List ℕ → SessionState → SessionState → Type 0
+IsLost {C} s tells bytes old new = (call : C) × (moment : Time) × (s.reads bytes ≡ Some call) × tells moment × ((history : List Entry) → (reply : List ℕ) × s.does history moment call old new reply)
 
 -- The laws of the replies of each protocol, and of those that were lost
 pub record IsLawful {C : Type 0} (s : Service C) : Type 0 where

@@ -1,17 +1,22 @@
 -- Replies that are held back, and what is told of them.
-use Rattle.std.specs.Prelude.{◌≡◌, ◌≢◌, ◌≤◌, ℕ, ◌+◌, false, List, [], ◌∷◌, ◌++◌, length, drop, Option, Some, None, ◌⊎◌}
+use Rattle.std.specs.Prelude.{◌≡◌, ◌≢◌, ◌≤◌, ℕ, ◌+◌, Bool, true, false, List, [], ◌∷◌, ◌++◌, length, drop, Option, Some, None, ◌⊎◌}
 use Rattle.std.specs.Io.KnownBytes.{Appends}
 use Rattle.journal_world.specs.Histories.{Entry, floor}
 use Rattle.journal_history.specs.Tokens.{SessionState}
 use Rattle.journal_inode.specs.declared.node.Time.{Time}
-use Rattle.journal_protocol.specs.Protocols.{Service, Replacing, IsHeldReply}
+use Rattle.journal_protocol.specs.Protocols.{Service, Replacing, IsNoWaitReply}
 use Rattle.journal_protocol.specs.declared.held_reply.HeldWait.{HeldWait}
 use Rattle.journal_protocol.specs.declared.held_reply.HeldReply.{HeldReply}
 use Rattle.journal_protocol.specs.declared.reply_batch.BatchWait.{BatchWait}
 use Rattle.journal_protocol.specs.declared.reply_batch.BatchEntry.{BatchEntry}
 use Rattle.journal_protocol.specs.declared.reply_batch.ReplyBatch.{ReplyBatch}
+use Rattle.journal_rpc.specs.declared.part.Part.{Part}
+use Rattle.journal_rpc.specs.declared.part.Part.TheVariants.{TooLong}
+use Rattle.journal_rpc.specs.Stream.{Stream, after}
+use Rattle.journal_protocol.specs.declared.replying.Outcome.{Outcome}
+use Rattle.journal_protocol.specs.declared.replying.Outcome.TheVariants.{GoesOn, Bad, Ended}
 use Rattle.journal_protocol.specs.Output.{Talk}
-use Rattle.journal_protocol.specs.Sending.{AppendsFront}
+use Rattle.journal_protocol.specs.Sending.{AppendsFront, GrowsBy}
 
 -- ---- what is held
 
@@ -21,14 +26,8 @@ wait_of commits None = None
 wait_of commits (Some wait) = Some (record { call = wait.call; commits = commits wait.receipt })
 
 -- what is known of a reply
-abbrev pub held_of : {A R : Type 0} → (R → ℕ) → HeldReply A R → BatchEntry A
-held_of commits soon = record { length = length soon.reply.items; wait = wait_of commits soon.wait }
-
--- the call was done at a moment that the clock may tell, up to its commit
-pub record IsNoWaitReply {C A R : Type 0} (s : Service C) (replaces : Replacing A) (commits : R → ℕ) (tells : Time → Type 0) (call : C) (old new : SessionState) (soon : HeldReply A R) : Type 0 where
-  pub moment : Time
-  pub told : tells moment
-  pub held : IsHeldReply s replaces commits moment call old new soon
+abbrev pub held_of : {A R : Type 0} → (R → ℕ) → HeldReply A R → List ℕ → BatchEntry A
+held_of commits soon text = record { length = length text; wait = wait_of commits soon.wait }
 
 -- how far the talk is, and what is known of the replies that are held from there on
 pub record Doing (A : Type 0) : Type 0 where
@@ -43,10 +42,50 @@ doing talk behind = record { talk = talk; behind = behind }
 pub record IsHeld {C A R : Type 0} (s : Service C) (replaces : Replacing A) (commits : R → ℕ) (tells : Time → Type 0) (call : C) (old new : Doing A) (text : List ℕ) : Type 0 where
   pub goes : old.talk.over ≡ false
   pub soon : HeldReply A R
-  pub done : IsNoWaitReply s replaces commits tells call old.talk.session new.talk.session soon
+  pub done : IsNoWaitReply s replaces commits tells call old.talk.session new.talk.session soon text
   pub ends : new.talk.over ≡ soon.ends
-  pub known : old.behind ≡ held_of commits soon ∷ new.behind
-  pub is : text ≡ soon.reply.items
+  pub known : old.behind ≡ held_of commits soon text ∷ new.behind
+
+-- A record's call was done, its reply was written behind those that were held, and it was counted
+pub record IsAdded {C A R : Type 0} (s : Service C) (replaces : Replacing A) (commits : R → ℕ) (tells : Time → Type 0) (over : Bool) (bytes : List ℕ) (old new : SessionState) (before now : ReplyBatch A R) (count counted : ℕ) : Type 0 where
+  pub call : C
+  pub reads : s.reads bytes ≡ Some call
+  pub soon : HeldReply A R
+  pub text : List ℕ
+  pub done : IsNoWaitReply s replaces commits tells call old new soon text
+  pub ends : over ≡ soon.ends
+  pub written : now.bytes ≡ before.bytes ++ text
+  pub known : now.replies.items ≡ before.replies.items ++ held_of commits soon text ∷ []
+  pub counts : GrowsBy count 1 counted
+
+-- nothing was done, held or counted
+pub record IsIdle {A R : Type 0} (old new : SessionState) (before now : ReplyBatch A R) (count counted : ℕ) : Type 0 where
+  pub session : new ≡ old
+  pub written : now.bytes ≡ before.bytes
+  pub known : now.replies.items ≡ before.replies.items
+  pub counts : counted ≡ count
+
+-- a record was answered so: one that is no call is bad, and after the last one it goes on no more
+abbrev pub HeldOne : {C A R : Type 0} → Service C → Replacing A → (R → ℕ) → (Time → Type 0) → Outcome → List ℕ → SessionState → SessionState → ReplyBatch A R → ReplyBatch A R → ℕ → ℕ → Type 0
+HeldOne s replaces commits tells GoesOn bytes old new before now count counted = IsAdded s replaces commits tells false bytes old new before now count counted
+HeldOne s replaces commits tells Bad bytes old new before now count counted = (s.reads bytes ≡ None) × IsIdle old new before now count counted
+HeldOne s replaces commits tells Ended bytes old new before now count counted = IsAdded s replaces commits tells true bytes old new before now count counted
+
+-- of these records, one at most, each was; where there is none it goes on, or one is too long
+abbrev pub HeldEach : {C A R : Type 0} → Service C → Replacing A → (R → ℕ) → (Time → Type 0) → Outcome → List (List ℕ) → Part → SessionState → SessionState → ReplyBatch A R → ReplyBatch A R → ℕ → ℕ → Type 0
+HeldEach s replaces commits tells GoesOn [] part old new before now count counted = IsIdle old new before now count counted
+HeldEach s replaces commits tells Bad [] part old new before now count counted = (part ≡ TooLong) × IsIdle old new before now count counted
+HeldEach s replaces commits tells Ended [] part old new before now count counted = ⊥
+HeldEach s replaces commits tells outcome (bytes ∷ []) part old new before now count counted = HeldOne s replaces commits tells outcome bytes old new before now count counted
+HeldEach s replaces commits tells outcome (bytes ∷ other ∷ more) part old new before now count counted = ⊥
+
+-- a front of a piece was taken, and each record that came with it was answered so
+pub record HeldNext {C A R : Type 0} (s : Service C) (replaces : Replacing A) (commits : R → ℕ) (tells : Time → Type 0) (outcome : Outcome) (piece rest : List ℕ) (waiting left : Stream) (old new : SessionState) (before now : ReplyBatch A R) (count counted : ℕ) : Type 0 where
+  pub taken : List ℕ
+  pub front : piece ≡ taken ++ rest
+  pub came : List (List ℕ)
+  pub comes : after waiting taken ≡ record left { records = came }
+  pub held : HeldEach s replaces commits tells outcome came left.part old new before now count counted
 
 -- how many bytes some replies have
 abbrev pub total : {A : Type 0} → List (BatchEntry A) → ℕ
@@ -79,7 +118,7 @@ pub record IsInOrder {A R : Type 0} (commits : R → ℕ) (h : ReplyBatch A R) :
   pub front : List (BatchEntry A)
   pub others : List (BatchEntry A)
   pub is : h.replies.items ≡ front ++ others
-  pub fits : total h.replies.items ≡ length h.bytes.items
+  pub fits : total h.replies.items ≡ length h.bytes
   pub is_free : AreFree front
   pub free : h.free ≡ total front
   pub waited : AreWaitedFor commits h.latest others
@@ -106,23 +145,23 @@ Settles replaces history (h ∷ hs) bytes text = SettlesThen replaces history h 
 -- what is told of the replies that are held was sent
 pub record SendsSettled {A R : Type 0} (replaces : Replacing A) (history : List Entry) (h : ReplyBatch A R) (held holds : Option (List ℕ)) : Type 0 where
   pub text : List ℕ
-  pub settles : Settles replaces history h.replies.items h.bytes.items text
+  pub settles : Settles replaces history h.replies.items h.bytes text
   pub sent : Appends held holds text
 
 -- a front of it was
 pub record SendsInPart {A R : Type 0} (replaces : Replacing A) (history : List Entry) (h : ReplyBatch A R) (held holds : Option (List ℕ)) : Type 0 where
   pub text : List ℕ
-  pub settles : Settles replaces history h.replies.items h.bytes.items text
+  pub settles : Settles replaces history h.replies.items h.bytes text
   pub sent : AppendsFront held holds text
 
 -- what is told of those behind the first was sent
 pub record SendsBehind {A R : Type 0} (replaces : Replacing A) (history : List Entry) (h : ReplyBatch A R) (held holds : Option (List ℕ)) : Type 0 where
   pub text : List ℕ
-  pub settles : Settles replaces history h.replies.items h.bytes.items text
+  pub settles : Settles replaces history h.replies.items h.bytes text
   pub sent : Appends held holds (drop h.free text)
 
 -- a front of it was
 pub record SendsBehindInPart {A R : Type 0} (replaces : Replacing A) (history : List Entry) (h : ReplyBatch A R) (held holds : Option (List ℕ)) : Type 0 where
   pub text : List ℕ
-  pub settles : Settles replaces history h.replies.items h.bytes.items text
+  pub settles : Settles replaces history h.replies.items h.bytes text
   pub sent : AppendsFront held holds (drop h.free text)

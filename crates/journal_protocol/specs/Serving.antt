@@ -1,5 +1,5 @@
 -- A connection on its way, at a pause, and at its end.
-use Rattle.std.specs.Prelude.{◌≡◌, ◌≢◌, ℕ, Bool, true, false, IsTrue, List, [], ◌++◌, length, Option, Some, None, ◌⊎◌}
+use Rattle.std.specs.Prelude.{◌≡◌, ◌≢◌, ℕ, Bool, true, IsTrue, List, [], ◌++◌, length, Option, Some, None, ◌⊎◌}
 use Rattle.std.specs.Io.KnownBytes.{Consumes, Appends, IsAtEnd}
 use mathlib.Core.List.{IsPrefix}
 use Rattle.journal_rpc.specs.declared.part.Part.TheVariants.{TooLong}

@@ -1,9 +1,6 @@
 // The answers to the calls of a connection.
-ghost use Rattle.journal_protocol.specs.Moments.{time_of};
-
 use crate::clock::Clock;
 use journal_gate::Gate;
-use journal_world::Moment;
 use std::alloc::Global;
 use std::sync::Wait;
 
@@ -34,15 +31,11 @@ impl<'s, P, C: Clock, G: Gate> Drop for Answerer<'s, P, C, G> {
     }
 }
 
-// The moment at which a call that has so many before it has passed the gate.
+// Passes the gate, as the call that has so many before it.
 pub(crate) fn pass_gate<P, C: Clock, G: Gate, H: Wait>(
     rt: &H,
     answerer: &Answerer<'_, P, C, G>,
     before: u64,
-) -> Moment
-    ensures { C.tells answerer.now.clock.now (time_of result) }
-{
-    let clock = answerer.clock;
+) {
     answerer.gate.pass(rt, answerer.number, before);
-    clock.now()
 }

@@ -14,4 +14,7 @@ pub trait Clock {
     /// The moment now.
     fn now(&self) -> Moment
         ensures { tells self.now (time_of result) };
+
+    // There is one that it may have.
+    ghost some_moment: { (c : Self) → (moment : Time) × tells c moment };
 }

@@ -32,11 +32,9 @@ pub struct HeldWait<A, R> {
     pub receipt: R,
 }
 
-/// The reply to a call that is committed, as a record, and the wait before it may be sent.
+/// The reply to a call that is committed, as it is held: the wait before it may be sent.
 #[derive(Debug, Drop)]
 pub struct HeldReply<A, R> {
-    /// The reply.
-    pub reply: Vec<u8>,
     /// The wait, or `None` if the reply may be sent at once.
     pub wait: Option<HeldWait<A, R>>,
     /// True if the connection ends with it: no later record is answered.

@@ -1,14 +1,15 @@
 // What the calls of connections are answered by.
-ghost use Rattle.std.specs.Prelude.{◌≡◌, ◌≤◌, true, IsTrue, IfOk, OnOk, OnErr};
+ghost use Rattle.std.specs.Prelude.{◌≡◌, ◌≤◌, ◌++◌, ℕ, List, true, IsTrue, IfOk, OnOk, OnErr};
 ghost use Rattle.journal_world.specs.Histories.{floor, is_fenced};
 ghost use Rattle.journal_history.specs.Tokens.{SessionState, OnlyExtends};
-ghost use Rattle.journal_protocol.specs.Moments.{time_of};
 ghost use Rattle.journal_protocol.specs.Protocols.{Service, Replacing, IsAnswered, IsLost, IsLawful, IsRefusable};
 
+use crate::clock::Clock;
 use crate::connection::ConnFault;
 use crate::held_reply::{Counted, HeldReply};
 use journal_rpc::Marking;
-use journal_world::{Moment, Refusal};
+use journal_world::Refusal;
+use journal_xdr::Writer;
 use std::alloc::{AllocError, Global};
 use std::sync::Wait;
 
@@ -43,36 +44,37 @@ pub trait Protocol {
     fn marking(&self) -> Marking
         ensures { result ≡ (service self.now).marking };
 
-    /// The reply to a record's call up to its commit, as a record, and the wait before it may be
-    /// sent, or `None` if the record is no call. It may wait for the journal.
+    /// Writes the reply to a record's call up to its commit, as a record, and says which wait comes
+    /// before it may be sent, or `None` if the record is no call. It may wait for the journal.
     ///
     /// # Errors
     /// The reply is lost, and the call is done all the same.
     /// - `NoMemory`: memory for the reply is refused.
     /// - `NoRecord`: no record can hold the reply.
-    fn answer_no_wait<W: Wait>(
+    fn answer_no_wait<W: Wait, C: Clock>(
         &self,
         rt: &W,
         alloc: Global,
         session: &mut Self::Session,
         bytes: &[u8],
-        moment: Moment,
+        writer: &mut Writer,
+        clock: &C,
     ) -> Result<Option<HeldReply<Self::Awaited, Self::Receipt>>, ConnFault>
-        ensures held { IfOk result (IsAnswered (service self.now) (replaces self.now) Self.Receipt.commits (time_of moment) bytes.now
-            (seen session.old) (seen session.new)) }
-        ensures lost { OnErr result (IsLost (service self.now) (time_of moment) bytes.now (seen session.old) (seen session.new)) };
+        ensures held { IfOk result (IsAnswered (service self.now) (replaces self.now) Self.Receipt.commits (C.tells clock.now) bytes.now
+            (seen session.old) (seen session.new) writer.old writer.new) }
+        ensures lost { OnErr result (IsLost (service self.now) (C.tells clock.now) bytes.now (seen session.old) (seen session.new)) };
 
-    /// The reply that is sent in place of one that has a wait, where the wait is refused.
+    /// Writes the reply that is sent in place of one that has a wait, where the wait is refused.
     ///
     /// # Errors
     /// Memory for it is refused.
     fn refused_reply(
         &self,
-        alloc: Global,
+        writer: &mut Writer,
         call: &Self::Awaited,
         why: &Refusal<()>,
-    ) -> Result<Vec<u8>, AllocError>
-        ensures in_place { IfOk result (λ reply. replaces self.now call.now reply.items) };
+    ) -> Result<(), AllocError>
+        ensures in_place { OnOk result ((reply : List ℕ) × replaces self.now call.now reply × (writer.new ≡ writer.old ++ reply)) };
 
     /// Waits until the commits of a receipt are stable.
     ///

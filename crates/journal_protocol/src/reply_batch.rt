@@ -1,5 +1,5 @@
 // Replies that are held back until what they wait for is stable.
-ghost use Rattle.std.specs.Prelude.{◌≡◌, ◌<◌, ◌≤◌, ℕ, List, [], ◌∷◌, ◌++◌, length, IfOk, IfSome, OnOk, OnErr};
+ghost use Rattle.std.specs.Prelude.{◌≡◌, ◌<◌, ◌≤◌, ℕ, List, [], ◌∷◌, ◌++◌, length, take, drop, IfOk, IfSome, OnOk, OnErr};
 ghost use Rattle.std.specs.Io.KnownBytes.{Appends};
 ghost use Rattle.std.specs.Vec.{vec_len, vec_capacity};
 ghost use Rattle.journal_history.specs.Tokens.{OnlyExtends};
@@ -14,6 +14,7 @@ use crate::protocol::Protocol;
 use crate::streams::write_whole;
 use journal_gate::Gate;
 use journal_world::Refusal;
+use journal_xdr::Writer;
 use std::alloc::{AllocError, Global};
 use std::io::Write;
 use std::sync::Wait;
@@ -43,7 +44,7 @@ pub(crate) struct BatchEntry<A> {
 #[derive(Drop)]
 pub(crate) struct ReplyBatch<A, R> {
     // Their bytes, one reply behind the other.
-    pub bytes: Vec<u8>,
+    pub bytes: Writer,
     pub replies: Vec<BatchEntry<A>>,
     // The bytes of those before the first that has a wait.
     pub free: usize,
@@ -55,7 +56,7 @@ impl<A: Drop, R: Counted + Drop> ReplyBatch<A, R> {
     // Nothing is held. The call takes no memory.
     pub fn new(alloc: Global) -> ReplyBatch<A, R> {
         ReplyBatch {
-            bytes: Vec::new(alloc),
+            bytes: Writer::new(alloc),
             replies: Vec::new(alloc),
             free: 0,
             latest: None,
@@ -64,7 +65,7 @@ impl<A: Drop, R: Counted + Drop> ReplyBatch<A, R> {
 
     // Nothing is held any more.
     pub fn clear(&mut self)
-        ensures bytes { self.new.bytes.items ≡ [] }
+        ensures bytes { self.new.bytes ≡ [] }
         ensures replies { self.new.replies.items ≡ [] }
         ensures in_order { IsInOrder R.commits self.new }
     {
@@ -81,7 +82,7 @@ impl<A: Drop, R: Counted + Drop> ReplyBatch<A, R> {
     /// - Memory is refused. It holds the same replies then.
     pub fn make_room(&mut self) -> Result<(), AllocError>
         ensures room { OnOk result (vec_len self.new.replies < vec_capacity self.new.replies) }
-        ensures bytes { self.new.bytes.items ≡ self.old.bytes.items }
+        ensures bytes { self.new.bytes ≡ self.old.bytes }
         ensures replies { self.new.replies.items ≡ self.old.replies.items }
         ensures in_order { IsInOrder R.commits self.old → IsInOrder R.commits self.new }
     {
@@ -93,23 +94,18 @@ impl<A: Drop, R: Counted + Drop> ReplyBatch<A, R> {
         self.bytes.len() >= BYTES_AT_ONCE || self.replies.len() >= REPLIES_AT_ONCE
     }
 
-    /// Holds the reply after the others.
-    ///
-    /// # Errors
-    /// - Memory is refused.
-    pub fn add_reply(&mut self, soon: HeldReply<A, R>) -> Result<(), AllocError>
+    /// Holds the reply whose text was written after that of the others. They had so many bytes.
+    pub fn add_reply(&mut self, before: usize, soon: HeldReply<A, R>)
         requires room { vec_len self.old.replies < vec_capacity self.old.replies }
-        ensures bytes { OnOk result (self.new.bytes.items ≡ self.old.bytes.items ++ soon.reply.items) }
-        ensures replies { OnOk result (self.new.replies.items ≡ self.old.replies.items ++ held_of R.commits soon ∷ []) }
-        ensures in_order { OnOk result (IsInOrder R.commits self.old → IsInOrder R.commits self.new) }
+        requires written { before ≤ length self.old.bytes }
+        ensures bytes { self.new.bytes ≡ self.old.bytes }
+        ensures replies { self.new.replies.items ≡ self.old.replies.items ++ held_of R.commits soon (drop before self.old.bytes) ∷ [] }
+
+        // The others were in order, and so are all.
+        ensures in_order { IsInOrder R.commits (record self.old { bytes = take before self.old.bytes }) → IsInOrder R.commits self.new }
     {
-        let HeldReply {
-            reply,
-            wait,
-            ends: _,
-        } = soon;
-        self.bytes.extend_from_slice(&reply)?;
-        let length = reply.len();
+        let HeldReply { wait, ends: _ } = soon;
+        let length = self.bytes.len() - before;
         let wait = match wait {
             None => {
                 if self.latest.is_none() {
@@ -124,7 +120,6 @@ impl<A: Drop, R: Counted + Drop> ReplyBatch<A, R> {
             }
         };
         self.replies.push_reserved(BatchEntry { length, wait });
-        Ok(())
     }
 }
 
@@ -160,7 +155,7 @@ pub(crate) fn send_batch<P: Protocol, C: Clock, G: Gate, H: Wait, W: Write>(
     ensures extends { OnlyExtends (P.seen session.old) (P.seen session.new) }
     ensures quiet { batch.now.replies.items ≡ [] → (P.seen session.new) ≡ (P.seen session.old) }
 {
-    let (free, wait) = batch.bytes.split_at(batch.free);
+    let (free, wait) = batch.bytes.as_bytes().split_at(batch.free);
     send(writer, free)?;
     let Some(receipt) = &batch.latest else {
         return Ok(());
@@ -188,7 +183,7 @@ fn send_refused<P: Protocol, C: Clock, G: Gate, W: Write>(
     let Ok(told) = settled(answerer, session, batch, why) else {
         return Err(ConnFault::NoMemory);
     };
-    let (_free, behind) = told.split_at(batch.free);
+    let (_free, behind) = told.as_bytes().split_at(batch.free);
     send(writer, behind)
 }
 
@@ -210,14 +205,14 @@ fn settled<P: Protocol, C: Clock, G: Gate>(
     session: &mut P::Session,
     batch: &ReplyBatch<P::Awaited, P::Receipt>,
     why: &Refusal<()>,
-) -> Result<Vec<u8>, AllocError>
-    requires { total batch.now.replies.items ≡ length batch.now.bytes.items }
-    ensures settles { IfOk result (λ told. Settles (P.replaces answerer.now.protocol.now) (P.seen session.new).seen batch.now.replies.items batch.now.bytes.items told.items) }
+) -> Result<Writer, AllocError>
+    requires { total batch.now.replies.items ≡ length batch.now.bytes }
+    ensures settles { IfOk result (λ told. Settles (P.replaces answerer.now.protocol.now) (P.seen session.new).seen batch.now.replies.items batch.now.bytes told) }
     ensures extends { OnlyExtends (P.seen session.old) (P.seen session.new) }
 {
-    let mut told = Vec::with_capacity(answerer.alloc, batch.bytes.len())?;
+    let mut told = Writer::with_capacity(answerer.alloc, batch.bytes.len())?;
     let mut replies = &batch.replies[..];
-    let mut bytes = &batch.bytes[..];
+    let mut bytes = batch.bytes.as_bytes();
     while let Some((held, others)) = replies.split_first() {
         let (reply, more) = bytes.split_at(held.length);
         append_reply(answerer, session, &held.wait, reply, why, &mut told)?;
@@ -234,18 +229,17 @@ fn append_reply<P: Protocol, C: Clock, G: Gate>(
     wait: &Option<BatchWait<P::Awaited>>,
     reply: &[u8],
     why: &Refusal<()>,
-    told: &mut Vec<u8>,
+    told: &mut Writer,
 ) -> Result<(), AllocError>
-    ensures settles { OnOk result ((text : List ℕ) × SettlesOne (P.replaces answerer.now.protocol.now) (P.seen session.new).seen wait.now reply.now text × (told.new.items ≡ told.old.items ++ text)) }
+    ensures settles { OnOk result ((text : List ℕ) × SettlesOne (P.replaces answerer.now.protocol.now) (P.seen session.new).seen wait.now reply.now text × (told.new ≡ told.old ++ text)) }
     ensures extends { OnlyExtends (P.seen session.old) (P.seen session.new) }
 {
     let Some(wait) = wait else {
-        return told.extend_from_slice(reply);
+        return told.raw(reply);
     };
     let protocol = answerer.protocol;
     if protocol.is_stable(session, wait.commits) {
-        return told.extend_from_slice(reply);
+        return told.raw(reply);
     }
-    let refusal = protocol.refused_reply(answerer.alloc, &wait.call, why)?;
-    told.extend_from_slice(&refusal)
+    protocol.refused_reply(told, &wait.call, why)
 }

@@ -1,5 +1,5 @@
 -- The laws of requests and answers.
-use Rattle.std.proofs.Common.{◌≡◌, ℕ, ◌+◌, ◌*◌, ◌≤◌, ◌==◌, Bool, true, false, cond, List, [], ◌∷◌, ◌++◌, length, Option, Some, None, Err, refl, sym, ap, ◌∙◌, arith, rules}
+use Rattle.std.proofs.Common.{◌≡◌, ℕ, ◌+◌, ◌*◌, ◌^◌, ◌<◌, ◌≤◌, ◌==◌, Bool, true, false, cond, List, [], ◌∷◌, ◌++◌, length, Option, Some, None, Err, refl, sym, ap, ◌∙◌, arith, rules}
 use Rattle.std.specs.List.{flat_map, AllByRecursion}
 use Rattle.std.specs.Prelude.{IsSomeAnd}
 use Rattle.std.proofs.lemmas.List.{length-append, append-nil}
@@ -424,6 +424,12 @@ answer_length (told.Counters cs) has = less _ _ (behind_word 0 _ _ (behind_word 
 answer_length (told.Bits bs) has = less _ _ (behind_word 0 _ _ (behind_word 7 _ _ (word_array_length bs has.1.1))) (omega arith)
 answer_length (told.Unsure a b) has = less _ _ (behind_word 65 _ _ (behind_hyper a _ _ (hyper_length b))) (omega arith)
 answer_length (told.Refused why) has = less _ _ (behind_word (refused_number why) 0 [] (omega arith)) (omega arith)
+
+-- ---- a commit that is not known to be stable
+
+pub unsure_has : (place commits : ℕ) → place < 2 ^ 64 → commits < 2 ^ 64 → answer.Has (told.Unsure place commits)
+unfolding answer word hyper
+unsure_has place commits small few = ((omega arith, refl), (small, few))
 
 -- ---- lists that requests and answers have
 

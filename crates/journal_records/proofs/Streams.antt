@@ -90,9 +90,16 @@ pieces bytes piece rest more rs qs one later = record {
 
 -- ---- the room for a record's length
 
-pub room_length : (writer found : List ℕ) → writer ≡ word.spelling 0 ++ found → length writer ≡ 4 + length found
-room_length writer found is = ap (λ (w : List ℕ). length w) is ∙ length-append (word.spelling 0) found ∙ ap (λ k. k + length found) (length-word 0)
+pub room_length : (before writer found : List ℕ) (begun : ℕ) → length before ≡ begun → writer ≡ before ++ word.spelling 0 ++ found → length writer ≡ begun + (4 + length found)
+room_length before writer found begun long is =
+    let room : length (before ++ word.spelling 0) ≡ begun + 4 = omega (arith, length-append before (word.spelling 0), length-word 0, long) in
+    ap (λ (w : List ℕ). length w) is ∙ omega (arith, length-append (before ++ word.spelling 0) found, room)
 
-pub room_filled : (writer found new : List ℕ) (n : ℕ) → writer ≡ word.spelling 0 ++ found → n ≡ length found → new ≡ word.spelling n ++ drop 4 writer → new ≡ framed found
-room_filled writer found new n is size put =
-    put ∙ ap (λ k. word.spelling k ++ drop 4 writer) size ∙ ap (λ (r : List ℕ). word.spelling (length found) ++ r) (ap (drop 4) is ∙ drop_at (word.spelling 0) found 4 (length-word 0))
+pub room_filled : (before writer found new : List ℕ) (begun n : ℕ) → length before ≡ begun → writer ≡ before ++ word.spelling 0 ++ found → n ≡ length found → new ≡ take begun writer ++ word.spelling n ++ drop (begun + 4) writer → new ≡ before ++ framed found
+room_filled before writer found new begun n long is size put =
+    let room : length (before ++ word.spelling 0) ≡ begun + 4 = omega (arith, length-append before (word.spelling 0), length-word 0, long) in
+    put
+    ∙ ap (λ (k : ℕ). take begun writer ++ word.spelling k ++ drop (begun + 4) writer) size
+    ∙ ap (λ (r : List ℕ). r ++ word.spelling (length found) ++ drop (begun + 4) writer) (ap (take begun) (is ∙ append_assoc before (word.spelling 0) found) ∙ take_at before (word.spelling 0 ++ found) begun long)
+    ∙ ap (λ (r : List ℕ). before ++ word.spelling (length found) ++ r) (ap (drop (begun + 4)) is ∙ drop_at (before ++ word.spelling 0) found (begun + 4) room)
+    ∙ append_assoc before (word.spelling (length found)) found

@@ -1,5 +1,5 @@
 // Whole records.
-ghost use Rattle.std.specs.Prelude.{◌≡◌, ◌++◌, ◌<◌, List, ℕ, IfOk, length};
+ghost use Rattle.std.specs.Prelude.{◌≡◌, ◌++◌, ◌<◌, List, ℕ, IfOk, OnOk, length};
 ghost use Rattle.journal_xdr.specs.Basic.{word};
 ghost use Rattle.journal_records.specs.Requests.{request as request_item, message_of};
 ghost use Rattle.journal_records.specs.Answers.{answer as answer_item, told_of};
@@ -33,41 +33,41 @@ pub fn write_request(alloc: Global, request: &Request) -> Result<Vec<u8>, WriteF
     let mut writer = Writer::with_capacity(alloc, ROOM)?;
     writer.word(0)?;
     write_asked(&mut writer, request)?;
-    finish(writer)
+    finish(&mut writer, 0)?;
+    Ok(writer.into_bytes())
 }
 
-/// The record of an answer, as a stream has it.
+/// Writes the record of an answer, as a stream has it.
 ///
 /// # Errors
-/// Nothing was made.
+/// Some bytes of it may be written.
 /// - `NoMemory`: memory is refused.
 /// - `TooLong`: no record can hold it.
-pub fn write_answer(alloc: Global, answer: &Answer) -> Result<Vec<u8>, WriteFault>
-    ensures record { IfOk result (λ bytes. IsRecordOf answer_item (told_of answer.now) bytes.items) }
+pub fn write_answer(writer: &mut Writer, answer: &Answer) -> Result<(), WriteFault>
+    ensures record { OnOk result ((text : List ℕ) × (writer.new ≡ writer.old ++ text) × IsRecordOf answer_item (told_of answer.now) text) }
     ensures too_long { IsTooLong result → ¬ (FitsRecord answer_item (told_of answer.now)) }
 {
     if !is_answer(answer) {
         return Err(WriteFault::TooLong);
     }
-    let mut writer = Writer::with_capacity(alloc, ROOM)?;
+    let begun = writer.len();
     writer.word(0)?;
-    write_told(&mut writer, answer)?;
-    finish(writer)
+    write_told(writer, answer)?;
+    finish(writer, begun)
 }
 
-// The record of the bytes that were written after the room for its length.
-fn finish(writer: Writer) -> Result<Vec<u8>, WriteFault>
-    requires { (record_bytes : List ℕ) × (writer ≡ word.spelling 0 ++ record_bytes) }
-    ensures record { IfOk result (λ bytes. (record_bytes : List ℕ) → writer ≡ word.spelling 0 ++ record_bytes
-        → IsShort record_bytes × (bytes.items ≡ framed record_bytes)) }
-    ensures too_long { IsTooLong result → (record_bytes : List ℕ) → writer ≡ word.spelling 0 ++ record_bytes
+// Writes the length of a record whose bytes were written after the room for it, at this place.
+fn finish(writer: &mut Writer, begun: usize) -> Result<(), WriteFault>
+    requires { (before record_bytes : List ℕ) × (length before ≡ begun) × (writer.old ≡ before ++ word.spelling 0 ++ record_bytes) }
+    ensures record { OnOk result ((before record_bytes : List ℕ) → length before ≡ begun → writer.old ≡ before ++ word.spelling 0 ++ record_bytes
+        → IsShort record_bytes × (writer.new ≡ before ++ framed record_bytes)) }
+    ensures too_long { IsTooLong result → (before record_bytes : List ℕ) → length before ≡ begun → writer.old ≡ before ++ word.spelling 0 ++ record_bytes
         → ¬ (IsShort record_bytes) }
 {
-    let mut writer = writer;
-    let length = writer.len() - LENGTH_BYTES;
+    let length = writer.len() - begun - LENGTH_BYTES;
     if length > RECORD_BYTES {
         return Err(WriteFault::TooLong);
     }
-    writer.replace_first(length as u32);
-    Ok(writer.into_bytes())
+    writer.replace_word(begun, length as u32);
+    Ok(())
 }

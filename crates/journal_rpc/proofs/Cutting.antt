@@ -1,5 +1,5 @@
 -- A stream's bytes are the spellings of its records.
-use Rattle.std.proofs.Common.{◌≡◌, ℕ, suc, ◌+◌, ◌^◌, ◌<◌, ◌≤◌, Bool, true, false, eqb, List, [], ◌∷◌, ◌++◌, length, refl, sym, ap, subst, ◌∙◌, append_assoc, arith}
+use Rattle.std.proofs.Common.{◌≡◌, ℕ, suc, ◌+◌, ◌^◌, ◌<◌, ◌≤◌, Bool, true, false, eqb, List, [], ◌∷◌, ◌++◌, length, refl, sym, ap, ◌∙◌, append_assoc, arith}
 use Rattle.std.specs.Prelude.{nat_le, nat_lt, map, ◌==◌, if◌then◌else◌}
 use Rattle.std.specs.List.{flat_map, AllByRecursion}
 use Rattle.std.proofs.lemmas.Bool.{ne_eqb, le-ltb, lt-ltb, le-leb, lt-leb}
@@ -34,7 +34,7 @@ module _ (m : Marking) where
       ∙ ap (λ (l : Bool). begins m records begun l (size_of m l (header m last size))) h.0
       ∙ ap (begins m records begun last) h.1
 
-  begins_fits : (records : List (List ℕ)) (begun : List ℕ) (last : Bool) (bytes : List ℕ) → length begun + length bytes ≤ m.most_bytes → after (begins m records begun last (length bytes)) bytes ≡ stream_ended m records (begun ++ bytes) last
+  pub begins_fits : (records : List (List ℕ)) (begun : List ℕ) (last : Bool) (bytes : List ℕ) → length begun + length bytes ≤ m.most_bytes → after (begins m records begun last (length bytes)) bytes ≡ stream_ended m records (begun ++ bytes) last
   unfolding after
   begins_fits records begun last [] le =
       ap (λ b. if b then stream m records begun TooLong else stream_ended m records begun last) (le-ltb m.most_bytes (length begun + 0) (omega (arith, le)))

@@ -4,3 +4,4 @@ pub mod CallLaws
 pub mod Cutting
 pub mod Parting
 pub mod Replying
+pub mod Splitting

@@ -1,5 +1,5 @@
 -- Records on a stream, byte by byte, by their marking.
-use Rattle.std.specs.Prelude.{◌≡◌, ℕ, ◌+◌, ◌-◌, ◌==◌, nat_lt, nat_le, Bool, true, false, if◌then◌else◌, List, [], ◌∷◌, ◌++◌, length, take, Result, Ok, Err}
+use Rattle.std.specs.Prelude.{◌≡◌, ℕ, ◌+◌, ◌-◌, ◌==◌, ◌<◌, nat_lt, nat_le, Bool, true, false, if◌then◌else◌, List, [], ◌∷◌, ◌++◌, length, take, Result, Ok, Err}
 use Rattle.std.specs.Int.{w32, from_be_bytes}
 use Rattle.journal_rpc.specs.declared.marking.Marking.{Marking}
 use Rattle.journal_rpc.specs.declared.part.Part.{Part}
@@ -15,7 +15,7 @@ pub record Stream : Type 0 where
 
 -- the most complete records that wait
 abbrev pub waiting_limit : ℕ
-waiting_limit = 1024
+waiting_limit = 1
 
 -- a stream of which nothing has come
 abbrev pub fresh : Marking → Stream
@@ -71,3 +71,11 @@ pub data ExtendsStream (old new : Stream) : Type 0 where
 pub record IsBetween (s : Stream) : Type 0 where
   pub begun : s.begun ≡ []
   pub part : s.part ≡ Start
+
+-- The bytes begin with a whole record, and these come after it: with the bytes in front of them the
+-- stream has that record more, and nothing else has come
+pub record IsSplit (s : Stream) (bytes lent rest : List ℕ) : Type 0 where
+  pub taken : List ℕ
+  pub is : bytes ≡ taken ++ rest
+  pub some : 0 < length taken
+  pub comes : after s taken ≡ record s { records = s.records ++ lent ∷ [] }

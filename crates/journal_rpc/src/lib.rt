@@ -28,5 +28,5 @@ pub use laws::{
 };
 pub use marking::Marking;
 pub use protocol::{RECORD_BYTES, WAITING_RECORDS};
-pub use records::{FeedRefused, Record, Records};
+pub use records::{FeedRefused, LentRecord, Record, Records};
 pub use replies::{CallRefused, Results, write_denial, write_reply};

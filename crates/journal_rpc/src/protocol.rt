@@ -9,9 +9,9 @@ pub const HEADER_BYTES: usize = 4;
 /// The most bytes of a record that is read, its fragments together.
 pub const RECORD_BYTES: usize = 16384;
 
-/// The most complete records that wait. No more of a piece is taken then, so that records take
-/// little memory however short they are.
-pub const WAITING_RECORDS: usize = 1024;
+/// The most complete records that wait. No more of a piece is taken then, so that what comes after
+/// a record that was begun in another piece is lent out of its own.
+pub const WAITING_RECORDS: usize = 1;
 
 /// The version of RPC that is spoken.
 pub const RPC_VERSION: u32 = 2;

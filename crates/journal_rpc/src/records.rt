@@ -1,6 +1,6 @@
 // Records out of pieces of a stream.
-ghost use Rattle.std.specs.Prelude.{◌≡◌, ◌≢◌, ℕ, ◌+◌, ◌<◌, ◌≤◌, List, [], ◌∷◌, ◌++◌, length, take, IsTrue, OnOk, OnErr, IfOk, MatchOption, MatchBool, IsErrOf};
-ghost use Rattle.journal_rpc.specs.Stream.{fresh, after, stream_ended, stream_opened, Stream, ExtendsStream, IsBetween, waiting_limit, front_taken};
+ghost use Rattle.std.specs.Prelude.{◌≡◌, ◌≢◌, ℕ, ◌+◌, ◌<◌, ◌≤◌, List, [], ◌∷◌, ◌++◌, length, take, IsTrue, OnOk, OnErr, IfOk, IfSome, MatchOption, MatchBool, IsErrOf};
+ghost use Rattle.journal_rpc.specs.Stream.{fresh, after, stream_ended, stream_opened, Stream, ExtendsStream, IsBetween, waiting_limit, front_taken, IsSplit};
 ghost use Rattle.journal_rpc.specs.Cuts.{SpellsStream};
 ghost use Rattle.journal_rpc.specs.Parts.{HasMore};
 ghost use Rattle.journal_rpc.specs.declared.part.Part.TheVariants.{Start, Body, TooLong};
@@ -43,6 +43,15 @@ impl Record {
     {
         &self.bytes
     }
+}
+
+/// A record that is whole in some bytes, lent out of them.
+#[derive(Clone, Copy, Debug)]
+pub struct LentRecord<'p> {
+    /// Its bytes.
+    pub record: &'p [u8],
+    /// The bytes that come after it.
+    pub rest: &'p [u8],
 }
 
 /// Why a piece of a stream was refused.
@@ -95,6 +104,25 @@ impl Records {
             part: Part::Start,
             spare: Vec::new(alloc),
         }
+    }
+
+    /// The record that the bytes begin with, lent out of them, and what comes after it. `None` if a
+    /// record is begun, or if the bytes do not begin with a whole record of one fragment.
+    pub fn split_record<'p>(&self, bytes: &'p [u8]) -> Option<LentRecord<'p>>
+        // With it the stream has one record more, and nothing else has come.
+        ensures split { IfSome result (λ lent. IsSplit self.now bytes.now lent.record.now lent.rest.now) }
+    {
+        if !self.is_between() || bytes.len() < HEADER_BYTES {
+            return None;
+        }
+        let header = u32::from_be_bytes([bytes[0], bytes[1], bytes[2], bytes[3]]);
+        let (last, length) = self.marking.read_header(header);
+        let (_, body) = bytes.split_at(HEADER_BYTES);
+        if !last || length > self.marking.most_bytes || length > body.len() {
+            return None;
+        }
+        let (record, rest) = body.split_at(length);
+        Some(LentRecord { record, rest })
     }
 
     /// Takes the next record. `None` if none is complete.
@@ -155,6 +183,10 @@ impl Records {
         ensures too_long { IsErrOf result FeedRefused.TooLong
             → (self.new ≡ after self.old piece.now) × (self.new.part ≡ TooLong) }
 
+        // A record is too long only where another one may still wait.
+        ensures room { IsErrOf result FeedRefused.TooLong
+            → length self.old.records < waiting_limit → length self.new.records < waiting_limit }
+
         // If the bytes so far were the spellings of the records, so they are with the bytes that
         // were taken.
         ensures spelled { result ≢ Err FeedRefused.NoMemory → (bytes : List ℕ) → SpellsStream bytes self.old
@@ -178,6 +210,7 @@ impl Records {
             × (self.new ≡ after self.old (take taken piece.now))) }
         ensures all { IfOk result (λ taken. taken < length piece.now → waiting_limit ≤ length self.new.records) }
         ensures few { length self.old.records ≤ waiting_limit → length self.new.records ≤ waiting_limit }
+        ensures long { self.new.part ≡ TooLong → length self.old.records < waiting_limit → length self.new.records < waiting_limit }
         ensures err { OnErr result (ExtendsStream self.old self.new) }
     {
         let mut rest = piece;
@@ -194,6 +227,7 @@ impl Records {
         ensures ok { IfOk result (λ n. (0 < n) × (n ≤ length bytes.now)
             × (self.new ≡ after self.old (take n bytes.now))) }
         ensures one { length self.new.records ≤ length self.old.records + 1 }
+        ensures long { self.new.part ≡ TooLong → self.new.records ≡ self.old.records }
         ensures err { OnErr result (ExtendsStream self.old self.new) }
     {
         if bytes.len() >= HEADER_BYTES && self.is_at_header() {
@@ -228,6 +262,7 @@ impl Records {
         requires here { self.old.part ≡ Start }
         ensures ok { IfOk result (λ n. (n ≡ 4) × (self.new ≡ after self.old (take 4 bytes.now))) }
         ensures one { length self.new.records ≤ length self.old.records + 1 }
+        ensures long { self.new.part ≡ TooLong → self.new.records ≡ self.old.records }
         ensures err { OnErr result (ExtendsStream self.old self.new) }
     {
         self.open_fragment(u32::from_be_bytes([bytes[0], bytes[1], bytes[2], bytes[3]]))?;
@@ -241,6 +276,7 @@ impl Records {
         requires here { self.old.part ≡ Body last left }
         ensures ok { OnOk result (self.new ≡ after self.old bytes.now) }
         ensures one { length self.new.records ≤ length self.old.records + 1 }
+        ensures long { self.new.part ≡ TooLong → self.new.records ≡ self.old.records }
         ensures err { OnErr result (ExtendsStream self.old self.new) }
     {
         self.begun.extend_from_slice(bytes)?;
@@ -258,6 +294,7 @@ impl Records {
     fn open_fragment(&mut self, header: u32) -> Result<(), AllocError>
         ensures ok { OnOk result (self.new ≡ stream_opened self.old.marking self.old.records self.old.begun header) }
         ensures one { length self.new.records ≤ length self.old.records + 1 }
+        ensures long { self.new.part ≡ TooLong → self.new.records ≡ self.old.records }
         ensures err { OnErr result (self.new ≡ self.old) }
     {
         let (last, left) = self.marking.read_header(header);
@@ -279,6 +316,7 @@ impl Records {
     fn end_fragment(&mut self, last: bool) -> Result<(), AllocError>
         ensures ok { OnOk result (self.new ≡ stream_ended self.old.marking self.old.records self.old.begun last) }
         ensures one { length self.new.records ≤ length self.old.records + 1 }
+        ensures long { self.new.part ≡ TooLong → self.new.records ≡ self.old.records }
         ensures err { OnErr result (self.new ≡ self.old) }
     {
         if last {

@@ -1,5 +1,5 @@
 // Replies, each as one fragment.
-ghost use Rattle.std.specs.Prelude.{◌≡◌, ◌<◌, ◌^◌, ◌++◌, [], List, ℕ, length, IfOk, OnOk};
+ghost use Rattle.std.specs.Prelude.{◌≡◌, ◌<◌, ◌^◌, ◌++◌, [], List, ℕ, length, OnOk};
 ghost use Rattle.std.specs.Result.{ForOk};
 ghost use Rattle.journal_rpc.specs.Replies.{words, one_fragment, denial, reply, why, accepted, accept_number};
 
@@ -8,7 +8,7 @@ use crate::protocol::{
     LAST_FRAGMENT, REPLY, RPC_MISMATCH, RPC_VERSION,
 };
 use journal_xdr::Writer;
-use std::alloc::{AllocError, Global};
+use std::alloc::AllocError;
 use thiserror::Error;
 
 // The bytes of a reply that denies a call for its credential.
@@ -57,28 +57,25 @@ impl Results for () {
 }
 
 /// The reply to the call with this number (RFC 5531, section 9): its results, or why it is refused.
-/// It is a record of one fragment, with its header.
-///
-/// The reply is written in one buffer, for which `room` bytes are reserved. A longer one grows it.
+/// It is a record of one fragment, with its header, and is written after what is written before.
 ///
 /// # Errors
-/// - Memory is refused. Nothing was made.
+/// - Memory is refused. Some bytes of the reply may be written.
 pub fn write_reply<R: Results>(
-    alloc: Global,
+    writer: &mut Writer,
     xid: u32,
     outcome: &Result<R, CallRefused>,
-    room: usize,
-) -> Result<Vec<u8>, AllocError>
+) -> Result<(), AllocError>
     requires { ForOk outcome.now (λ results. length (R.spelling results) < 2 ^ 30) }
-    ensures { IfOk result (λ bytes. bytes.items ≡ one_fragment (reply R.spelling xid outcome.now)) }
+    ensures { OnOk result (writer.new ≡ writer.old ++ one_fragment (reply R.spelling xid outcome.now)) }
 {
-    let mut writer = Writer::with_capacity(alloc, room)?;
+    let begun = writer.len();
     // Room for the header, which says how long the rest is.
     writer.word(0)?;
-    write_message(&mut writer, xid, outcome)?;
-    let length = writer.len() - HEADER_BYTES;
-    writer.replace_first(LAST_FRAGMENT + length as u32);
-    Ok(writer.into_bytes())
+    write_message(writer, xid, outcome)?;
+    let length = writer.len() - begun - HEADER_BYTES;
+    writer.replace_word(begun, LAST_FRAGMENT + length as u32);
+    Ok(())
 }
 
 /// The reply that denies the call with this number for its credential, which cannot be read (RFC
@@ -86,13 +83,11 @@ pub fn write_reply<R: Results>(
 ///
 /// # Errors
 /// - Memory is refused. Nothing was made.
-pub fn write_denial(alloc: Global, xid: u32) -> Result<Vec<u8>, AllocError>
-    ensures { IfOk result (λ bytes. bytes.items ≡ one_fragment (denial xid)) }
+pub fn write_denial(writer: &mut Writer, xid: u32) -> Result<(), AllocError>
+    ensures { OnOk result (writer.new ≡ writer.old ++ one_fragment (denial xid)) }
 {
-    let mut writer = Writer::with_capacity(alloc, HEADER_BYTES + DENIAL_BYTES)?;
     writer.word(LAST_FRAGMENT + DENIAL_BYTES as u32)?;
-    write_words(&mut writer, &[xid, REPLY, DENIED, AUTH_ERROR, AUTH_BADCRED])?;
-    Ok(writer.into_bytes())
+    write_words(writer, &[xid, REPLY, DENIED, AUTH_ERROR, AUTH_BADCRED])
 }
 
 // Writes all after the record's header.

@@ -8,7 +8,6 @@ use Rattle.journal_inode.specs.declared.node.Time.{Time}
 use Rattle.journal_rpc.specs.Calls.{Message}
 use Rattle.journal_filestore.specs.Done.{IsWaitOver}
 use Rattle.journal_nfs3.specs.declared.pending.ReplyWait.{ReplyWait}
-use Rattle.journal_nfs3.specs.declared.pending.PendingReply.{PendingReply}
 use Rattle.journal_nfs3.specs.Served.{marked, awaiting}
 use Rattle.journal_nfs3.specs.Answers.{pending_wait_for}
 use Rattle.journal_protocol.specs.declared.held_reply.HeldWait.{HeldWait}
@@ -19,8 +18,8 @@ use Rattle.journal_server.specs.FileProtocols.{FileAnswering, IsFileLawful, IsAw
 abbrev pub commits_of : CommitPlace → ℕ
 commits_of receipt = receipt.count
 
-module _ (answers : FileAnswering) (laws : IsFileLawful answers) (moment : Time) (call : Message) (old new : SessionState) (soon : PendingReply CommitPlace)
-    (done : answers (awaiting (pending_wait_for soon.wait)) moment call old new soon.reply.items) (awaited : IfSome soon.wait (λ wait. IsAwaitedCall wait.procedure call)) where
+module _ (answers : FileAnswering) (laws : IsFileLawful answers) (moment : Time) (call : Message) (old new : SessionState) (owed : Option (ReplyWait CommitPlace)) (text : List ℕ)
+    (done : answers (awaiting (pending_wait_for owed)) moment call old new text) (awaited : IfSome owed (λ wait. IsAwaitedCall wait.procedure call)) where
   abbrev stable : List Entry → SessionState
   stable history = record { number = 0; mine = history; seen = history }
 
@@ -28,14 +27,14 @@ module _ (answers : FileAnswering) (laws : IsFileLawful answers) (moment : Time)
   paid_so history None p = tt
   paid_so history (Some wait) p = p
 
-  placed : (wait : Option (ReplyWait CommitPlace)) → answers (awaiting (pending_wait_for wait)) moment call old new soon.reply.items → IfSome wait (λ w. IsAwaitedCall w.procedure call)
-      → IfSome (held_wait call.xid wait) (λ w. (history : List Entry) (text : List ℕ) → replaced_by answers w.call text → told_by answers history moment call old new text)
+  placed : (wait : Option (ReplyWait CommitPlace)) → answers (awaiting (pending_wait_for wait)) moment call old new text → IfSome wait (λ w. IsAwaitedCall w.procedure call)
+      → IfSome (held_wait call.xid wait) (λ w. (history : List Entry) (other : List ℕ) → replaced_by answers w.call other → told_by answers history moment call old new other)
   placed None d a = tt
-  placed (Some wait) d a = λ history text place. place moment call old new wait.receipt soon.reply.items history refl a d
+  placed (Some wait) d a = λ history other place. place moment call old new wait.receipt text history refl a d
 
-  pub holds_file : IsHeldReply (service_by answers) (replaced_by answers) commits_of moment call old new (record { reply = soon.reply; wait = held_wait call.xid soon.wait; ends = false })
+  pub holds_file : IsHeldReply (service_by answers) (replaced_by answers) commits_of moment call old new (record { wait = held_wait call.xid owed; ends = false }) text
   holds_file = record {
-    paid = λ history p. laws.paid moment call old new (stable history) (pending_wait_for soon.wait) soon.reply.items done (paid_so history soon.wait p);
-    replaced = placed soon.wait done awaited;
+    paid = λ history p. laws.paid moment call old new (stable history) (pending_wait_for owed) text done (paid_so history owed p);
+    replaced = placed owed done awaited;
     ends = λ never. absurd (false≢true never);
   }

@@ -35,6 +35,14 @@ service_by answers = record { marking = record_marking; reads = message; answers
 abbrev pub IsAwaitedCall : Procedure → Message → Type 0
 IsAwaitedCall procedure call = IsCallOf procedure (asks call.asked)
 
+-- the reply to a call at one moment is its reply at another one
+abbrev pub IsAlsoAt : FileAnswering → Message → Time → Time → Type 0
+IsAlsoAt answers call one other = (standing : Standing) (old new : SessionState) (text : List ℕ) → answers standing one call old new text → answers standing other call old new text
+
+-- the reply to a call depends on no moment
+abbrev pub IsTimeless : FileAnswering → Message → Type 0
+IsTimeless answers call = (one other : Time) → IsAlsoAt answers call one other
+
 -- The text may take the place of a reply to a call with this number and of this procedure that
 -- waits: it says that it is not known to be stable
 abbrev pub StandsInFor : FileAnswering → ℕ → Procedure → List ℕ → Type 0

@@ -1,20 +1,22 @@
 // The answers to calls on files, over the files of any store.
-ghost use Rattle.std.specs.Prelude.{◌≡◌, ℕ, List, IfOk, IfSome, OnErr};
+ghost use Rattle.std.specs.Prelude.{◌≡◌, ◌++◌, ℕ, List, false, IfOk, IfSome, OnOk, OnErr};
 ghost use Rattle.journal_world.specs.Histories.{Entry};
+ghost use Rattle.journal_inode.specs.declared.node.Time.{Time};
 ghost use Rattle.journal_rpc.specs.CallViews.{message_of};
 ghost use Rattle.journal_filestore.specs.Handles.{time_of};
 ghost use Rattle.journal_nfs3.specs.Served.{marked, awaiting};
 ghost use Rattle.journal_nfs3.specs.Answers.{pending_wait_for};
-ghost use Rattle.journal_server.specs.FileProtocols.{FileAnswering, IsFileLawful, IsAwaitedCall, StandsInFor, held_wait};
+ghost use Rattle.journal_server.specs.FileProtocols.{FileAnswering, IsFileLawful, IsAwaitedCall, IsAlsoAt, IsTimeless, StandsInFor, held_wait};
 
 use journal_disk::BlockDisk;
 use journal_filestore::FileStore;
 use journal_history::{Naming, Receipt, Session};
 use journal_inode::{SoundFiles, Version};
-use journal_nfs3::{PendingReply, Procedure, ReplyWait};
-use journal_protocol::{ConnFault, HeldReply, HeldWait, Protocol};
+use journal_nfs3::{Procedure, ReplyWait};
+use journal_protocol::{Clock, ConnFault, HeldReply, HeldWait, Protocol};
 use journal_rpc::{Call, Marking, read_call};
 use journal_world::{CommitCount, Moment, Refusal};
+use journal_xdr::Writer;
 use std::alloc::{AllocError, Global};
 use std::sync::Wait;
 
@@ -26,8 +28,12 @@ pub trait FileProtocol<V: Version> {
     // the reply is.
     ghost answers: { Self → FileAnswering };
 
-    /// The reply to a call up to its commit, as a record of one fragment, and the wait before it
-    /// may be sent. It may wait for the journal.
+    /// True if the reply to a call depends on the moment at which it is done.
+    fn uses_moment(&self, call: &Call<'_>) -> bool
+        ensures timeless { result ≡ false → IsTimeless (answers self.now) (message_of call.now) };
+
+    /// Writes the reply to a call up to its commit, as a record of one fragment, and says which
+    /// wait comes before it may be sent. It may wait for the journal.
     ///
     /// Refused where memory for the reply is. The call is done all the same, and its reply is lost.
     fn answer_no_wait<'b, D: BlockDisk, J: Naming, W: Wait>(
@@ -38,23 +44,24 @@ pub trait FileProtocol<V: Version> {
         call: &Call<'_>,
         files: &FileStore<'b, D, J, V>,
         moment: Moment,
-    ) -> Result<PendingReply<Receipt<'b, J, SoundFiles<V>>>, AllocError>
-        ensures answered { IfOk result (λ soon. answers self.now (awaiting (pending_wait_for soon.wait)) (time_of moment) (message_of call.now)
-            session.old session.new soon.reply.items) }
-        ensures awaited { IfOk result (λ soon. IfSome soon.wait (λ awaited. IsAwaitedCall awaited.procedure (message_of call.now))) }
+        writer: &mut Writer,
+    ) -> Result<Option<ReplyWait<Receipt<'b, J, SoundFiles<V>>>>, AllocError>
+        ensures answered { IfOk result (λ wait. (text : List ℕ) × (writer.new ≡ writer.old ++ text) × answers self.now (awaiting (pending_wait_for wait)) (time_of moment) (message_of call.now)
+            session.old session.new text) }
+        ensures awaited { IfOk result (λ wait. IfSome wait (λ awaited. IsAwaitedCall awaited.procedure (message_of call.now))) }
         ensures lost { OnErr result ((history : List Entry) → (reply : List ℕ) × answers self.now (marked history) (time_of moment)
             (message_of call.now) session.old session.new reply) };
 
-    /// The reply that is sent in place of one that has a wait, to a call of this number and
+    /// Writes the reply that is sent in place of one that has a wait, to a call of this number and
     /// procedure, where the wait is refused. Refused where memory for it is.
     fn refused_reply<E>(
         &self,
-        alloc: Global,
+        writer: &mut Writer,
         xid: u32,
         procedure: Procedure,
         why: &Refusal<E>,
-    ) -> Result<Vec<u8>, AllocError>
-        ensures { IfOk result (λ reply. StandsInFor (answers self.now) xid procedure reply.items) };
+    ) -> Result<(), AllocError>
+        ensures { OnOk result ((reply : List ℕ) × (writer.new ≡ writer.old ++ reply) × StandsInFor (answers self.now) xid procedure reply) };
 
     // The laws of the replies of each protocol.
     ghost lawful: { (p : Self) → IsFileLawful (answers p) };
@@ -114,21 +121,22 @@ impl<'s, 'b, D: BlockDisk, J: Naming, V: Version, P: FileProtocol<V>> Protocol
         Marking::of_calls()
     }
 
-    fn answer_no_wait<W: Wait>(
+    fn answer_no_wait<W: Wait, C: Clock>(
         &self,
         rt: &W,
         alloc: Global,
         session: &mut Session<'b, J, SoundFiles<V>>,
         bytes: &[u8],
-        moment: Moment,
+        writer: &mut Writer,
+        clock: &C,
     ) -> Result<Option<HeldReply<AwaitedCall, Receipt<'b, J, SoundFiles<V>>>>, ConnFault> {
         let (files, protocol) = (self.files, self.protocol);
         let Some(call) = read_call(bytes) else {
             return Ok(None);
         };
-        match protocol.answer_no_wait(rt, alloc, session, &call, files, moment) {
-            Ok(PendingReply { reply, wait }) => Ok(Some(HeldReply {
-                reply,
+        let moment = moment_of(protocol, &call, clock);
+        match protocol.answer_no_wait(rt, alloc, session, &call, files, moment, writer) {
+            Ok(wait) => Ok(Some(HeldReply {
                 wait: held_wait(call.xid, wait),
                 ends: false,
             })),
@@ -138,12 +146,12 @@ impl<'s, 'b, D: BlockDisk, J: Naming, V: Version, P: FileProtocol<V>> Protocol
 
     fn refused_reply(
         &self,
-        alloc: Global,
+        writer: &mut Writer,
         call: &AwaitedCall,
         why: &Refusal<()>,
-    ) -> Result<Vec<u8>, AllocError> {
+    ) -> Result<(), AllocError> {
         let protocol = self.protocol;
-        protocol.refused_reply(alloc, call.xid, call.procedure, why)
+        protocol.refused_reply(writer, call.xid, call.procedure, why)
     }
 
     fn wait_stable<W: Wait>(
@@ -165,6 +173,22 @@ impl<'s, 'b, D: BlockDisk, J: Naming, V: Version, P: FileProtocol<V>> Protocol
     fn fence<W: Wait>(&self, rt: &W, session: &mut Session<'b, J, SoundFiles<V>>) -> bool {
         let own = session.number();
         self.files.journal().fence(rt, session, own).is_ok()
+    }
+}
+
+// The moment at which a call is done: that of the clock, where its reply depends on one.
+fn moment_of<V: Version, P: FileProtocol<V>, C: Clock>(
+    protocol: &P,
+    call: &Call<'_>,
+    clock: &C,
+) -> Moment
+    // The clock may have this moment, and at it the call has the reply that it has then.
+    ensures moment { (moment : Time) × C.tells clock.now moment × IsAlsoAt (P.answers protocol.now) (message_of call.now) (time_of result) moment }
+{
+    if protocol.uses_moment(call) {
+        clock.now()
+    } else {
+        Moment { secs: 0, nanos: 0 }
     }
 }
 

@@ -5,9 +5,10 @@ use journal_disk::BlockDisk;
 use journal_filestore::FileStore;
 use journal_history::{Naming, Receipt, Session};
 use journal_inode::{SoundFiles, Version};
-use journal_nfs3::{PendingReply, Procedure, Verifier};
+use journal_nfs3::{Procedure, ReplyWait, Verifier};
 use journal_rpc::Call;
 use journal_world::{Moment, Refusal};
+use journal_xdr::Writer;
 use std::alloc::{AllocError, Global};
 use std::sync::Wait;
 
@@ -26,18 +27,23 @@ impl<V: Version> FileProtocol<V> for NineProcedures {
 
     ghost lawful = { λ p. nine_lawful V.VERSION p.verifier.0 };
 
+    fn uses_moment(&self, call: &Call<'_>) -> bool {
+        journal_nfs3::uses_moment(call)
+    }
+
     fn answer_no_wait<'b, D: BlockDisk, J: Naming, W: Wait>(
         &self,
         rt: &W,
-        alloc: Global,
+        _alloc: Global,
         session: &mut Session<'b, J, SoundFiles<V>>,
         call: &Call<'_>,
         files: &FileStore<'b, D, J, V>,
         moment: Moment,
-    ) -> Result<PendingReply<Receipt<'b, J, SoundFiles<V>>>, AllocError> {
+        writer: &mut Writer,
+    ) -> Result<Option<ReplyWait<Receipt<'b, J, SoundFiles<V>>>>, AllocError> {
         match journal_nfs3::answer_no_wait::<D, J, V, W, ()>(
             rt,
-            alloc,
+            writer,
             session,
             call,
             files,
@@ -51,13 +57,13 @@ impl<V: Version> FileProtocol<V> for NineProcedures {
 
     fn refused_reply<E>(
         &self,
-        alloc: Global,
+        writer: &mut Writer,
         xid: u32,
         procedure: Procedure,
         why: &Refusal<E>,
-    ) -> Result<Vec<u8>, AllocError> {
-        match journal_nfs3::refused_reply::<E, ()>(alloc, xid, procedure, why) {
-            Ok(reply) => Ok(reply),
+    ) -> Result<(), AllocError> {
+        match journal_nfs3::refused_reply::<E, ()>(writer, xid, procedure, why) {
+            Ok(()) => Ok(()),
             Err(_) => Err(AllocError),
         }
     }

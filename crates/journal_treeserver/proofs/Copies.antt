@@ -29,7 +29,7 @@ use Rattle.journal_treeserver.specs.CodeViews.{IsHeld}
 use Rattle.journal_treeserver.specs.Forms.{how_of}
 use Rattle.journal_treeserver.specs.Kept.{IsSentOnce, IsDoneIn, IsKept}
 use Rattle.journal_treeserver.proofs.Doing.{unchanged}
-use Rattle.journal_treeserver.proofs.Holding.{loses}
+use Rattle.journal_treeserver.proofs.Holding.{replies_over, loses}
 
 -- ---- histories
 
@@ -142,6 +142,10 @@ module _ (S : Served) (record_bytes text : List ℕ) (front : List Entry) (kept 
         subst (λ (w : Wanted). Replies S (awaiting None) now xid w old new text) (same_files S record_bytes kept.xid xid kept.caller caller kept.asked asked kept.sent sent)
         (record { outcome = told (told_results S.disk S.verifier (how_of kept.asked) (asked_of S.read_only kept.call) kept.reply); comes = own.1; is_sent = numbered })
 
+    -- also where it was lost
+    pub repeats_lost : count front ≤ floor new.seen → (history : List Entry) → (reply : List ℕ) × Replies S (marked history) now xid (files caller asked) old new reply
+    repeats_lost covered history = (text, replies_over S history None tt now xid (files caller asked) old new text (repeats covered))
+
     -- and so is a refusal, where the first is not known to be stable
     pub unsure_outcome : (why : NfsError) → IsWaitError why → IsOutcome S (awaiting None) now (files caller asked) old new (told (refused_request asked why))
     unsure_outcome why is =
@@ -172,11 +176,13 @@ not_begun_lost S now xid caller asked old history =
 -- ---- how it is held
 
 -- a reply for which nothing waits
-pub held_again : (S : Served) (now : Moment) (xid : ℕ) (wanted : Wanted) (old new : SessionState) (text : List ℕ) (soon : HeldReply AwaitedCall CommitPlace)
-    → Replies S (awaiting None) now xid wanted old new text → soon.reply.items ≡ text → soon.wait ≡ None → soon.ends ≡ false → IsHeld S now xid wanted old new soon
-held_again S now xid wanted old new text soon replies sent none goes_on = record {
+pub held_again : (S : Served) (now : Moment) (xid : ℕ) (wanted : Wanted) (old new : SessionState) (text wrote writes : List ℕ) (soon : HeldReply AwaitedCall CommitPlace)
+    → Replies S (awaiting None) now xid wanted old new text → writes ≡ wrote ++ text → soon ≡ record { wait = None; ends = false } → IsHeld S now xid wanted old new wrote writes soon
+held_again S now xid wanted old new text wrote writes soon replies written none = record {
   wait = None;
-  replies = record { outcome = replies.outcome; comes = replies.comes; is_sent = sent ∙ replies.is_sent };
-  held = none;
-  goes_on = goes_on;
+  text = text;
+  written = written;
+  replies = replies;
+  held = ap (λ (s : HeldReply AwaitedCall CommitPlace). s.wait) none;
+  goes_on = ap (λ (s : HeldReply AwaitedCall CommitPlace). s.ends) none;
 }

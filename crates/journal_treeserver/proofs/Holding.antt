@@ -1,5 +1,5 @@
 -- A reply that is held, and one that is lost.
-use Rattle.std.proofs.Common.{◌≡◌, ◌≤◌, ℕ, true, false, List, Option, Some, None, Result, Ok, Err, refl, sym, ap, subst, ◌∙◌}
+use Rattle.std.proofs.Common.{◌++◌, ◌≡◌, ◌≤◌, ℕ, true, false, List, Option, Some, None, Result, Ok, Err, refl, sym, ap, subst, ◌∙◌}
 use Rattle.std.specs.Prelude.{Bool, ◌&&◌, IfSome, OnErr}
 use Rattle.std.proofs.lemmas.Bool.{false≢true}
 use Rattle.journal_world.specs.Histories.{Entry, floor}
@@ -85,15 +85,15 @@ module _ (S : Served) where
     is_over history None paid = tt
     is_over history (Some owed) paid = paid
 
-    placed : (wait : Option (Owed CommitPlace)) → Replies S (awaiting wait) now call.xid (asks S.squash call) old new soon.reply.items → IsPlaced (held_wait call.xid wait)
-    placed None replies = tt
-    placed (Some owed) replies = λ history text stands. stands now call old new owed.receipt soon.reply.items history refl replies
+    placed : (wait : Option (Owed CommitPlace)) (reply : List ℕ) → Replies S (awaiting wait) now call.xid (asks S.squash call) old new reply → IsPlaced (held_wait call.xid wait)
+    placed None reply replies = tt
+    placed (Some owed) reply replies = λ history text stands. stands now call old new owed.receipt reply history refl replies
 
-    pub is_held : IsHeld S now call.xid (asks S.squash call) old new soon → IsHeldReply (service_of S) (StandsInFor S) commits_of now call old new soon
-    is_held h = record {
+    pub is_held : (wrote writes : List ℕ) (h : IsHeld S now call.xid (asks S.squash call) old new wrote writes soon) → IsHeldReply (service_of S) (StandsInFor S) commits_of now call old new soon h.text
+    is_held wrote writes h = record {
       paid = λ history paid.
-          replies_over S history h.wait (is_over history h.wait (subst (IsPaid commits_of (floor history)) h.held paid)) now call.xid (asks S.squash call) old new soon.reply.items h.replies;
-      replaced = subst IsPlaced (sym h.held) (placed h.wait h.replies);
+          replies_over S history h.wait (is_over history h.wait (subst (IsPaid commits_of (floor history)) h.held paid)) now call.xid (asks S.squash call) old new h.text h.replies;
+      replaced = subst IsPlaced (sym h.held) (placed h.wait h.text h.replies);
       ends = λ over. absurd (false≢true (sym h.goes_on ∙ over));
     }
 
@@ -104,10 +104,17 @@ on_err (Err e) p = p
 
 module _ (S : Served) (now : Moment) (xid : ℕ) (old : SessionState) where
   -- a reply that is made without a call is held without a wait
-  pub held_at_once : (wanted is_wanted : Wanted) (outcome : Outcome) (soon : HeldReply AwaitedCall CommitPlace) → is_wanted ≡ wanted → IsOutcome S (awaiting None) now wanted old old outcome
-      → soon.reply.items ≡ outcome_text S.disk xid outcome → soon.wait ≡ None → soon.ends ≡ false → IsHeld S now xid is_wanted old old soon
-  held_at_once wanted is_wanted outcome soon is comes sent none goes_on = subst (λ (w : Wanted). IsHeld S now xid w old old soon) (sym is)
-      (record { wait = None; replies = record { outcome = outcome; comes = comes; is_sent = sent }; held = none; goes_on = goes_on })
+  pub held_at_once : (wanted is_wanted : Wanted) (outcome : Outcome) (wrote writes : List ℕ) (soon : HeldReply AwaitedCall CommitPlace) → is_wanted ≡ wanted → IsOutcome S (awaiting None) now wanted old old outcome
+      → writes ≡ wrote ++ outcome_text S.disk xid outcome → soon ≡ record { wait = None; ends = false } → IsHeld S now xid is_wanted old old wrote writes soon
+  held_at_once wanted is_wanted outcome wrote writes soon is comes written none = subst (λ (w : Wanted). IsHeld S now xid w old old wrote writes soon) (sym is)
+      (record {
+        wait = None;
+        text = outcome_text S.disk xid outcome;
+        written = written;
+        replies = record { outcome = outcome; comes = comes; is_sent = refl };
+        held = ap (λ (s : HeldReply AwaitedCall CommitPlace). s.wait) none;
+        goes_on = ap (λ (s : HeldReply AwaitedCall CommitPlace). s.ends) none;
+      })
 
   -- and where it is lost, its call is answered all the same
   pub lost_at_once : (wanted is_wanted : Wanted) (outcome : Outcome) → is_wanted ≡ wanted → IsOutcome S (awaiting None) now wanted old old outcome

@@ -56,9 +56,11 @@ held_wait xid None = None
 held_wait xid (Some owed) = Some (record { call = record { xid = xid; form = owed.form }; receipt = owed.receipt })
 
 -- A reply to what is wanted under this number is held
-pub record IsHeld (S : Served) (now : Moment) (xid : ℕ) (wanted : Wanted) (old new : SessionState) (soon : HeldReply AwaitedCall CommitPlace) : Type 0 where
+pub record IsHeld (S : Served) (now : Moment) (xid : ℕ) (wanted : Wanted) (old new : SessionState) (wrote writes : List ℕ) (soon : HeldReply AwaitedCall CommitPlace) : Type 0 where
   pub wait : Option (Owed CommitPlace)
-  pub replies : Replies S (awaiting wait) now xid wanted old new soon.reply.items
+  pub text : List ℕ
+  pub written : writes ≡ wrote ++ text
+  pub replies : Replies S (awaiting wait) now xid wanted old new text
   pub held : soon.wait ≡ held_wait xid wait
   pub goes_on : soon.ends ≡ false
 

@@ -4,10 +4,11 @@ use crate::hints::FreeHints;
 use crate::server::TreeServer;
 use journal_disk::BlockDisk;
 use journal_history::{Naming, Receipt, Session};
-use journal_protocol::{ConnFault, HeldReply, Protocol};
+use journal_protocol::{Clock, ConnFault, HeldReply, Protocol};
 use journal_rpc::{Marking, read_call};
 use journal_treefs::TreeRule;
-use journal_world::{CommitCount, Moment, Refusal};
+use journal_world::{CommitCount, Refusal};
+use journal_xdr::Writer;
 use std::alloc::{AllocError, Global};
 use std::sync::Wait;
 
@@ -46,18 +47,19 @@ impl<'s, 'b, D: BlockDisk, R: TreeRule, J: Naming, H: FreeHints> Protocol
         }
     }
 
-    fn answer_no_wait<W: Wait>(
+    fn answer_no_wait<W: Wait, C: Clock>(
         &self,
         rt: &W,
         alloc: Global,
         session: &mut Session<'b, J, R>,
         bytes: &[u8],
-        moment: Moment,
+        writer: &mut Writer,
+        clock: &C,
     ) -> Result<Option<HeldReply<AwaitedCall, Receipt<'b, J, R>>>, ConnFault> {
         let Some(call) = read_call(bytes) else {
             return Ok(None);
         };
-        match self.answer(rt, alloc, session, bytes, &call, moment) {
+        match self.answer(rt, alloc, session, bytes, &call, writer, clock.now()) {
             Ok(held) => Ok(Some(held)),
             Err(_) => Err(ConnFault::NoMemory),
         }
@@ -65,11 +67,11 @@ impl<'s, 'b, D: BlockDisk, R: TreeRule, J: Naming, H: FreeHints> Protocol
 
     fn refused_reply(
         &self,
-        alloc: Global,
+        writer: &mut Writer,
         call: &AwaitedCall,
         why: &Refusal<()>,
-    ) -> Result<Vec<u8>, AllocError> {
-        self.refused_wait(alloc, call, why)
+    ) -> Result<(), AllocError> {
+        self.refused_wait(writer, call, why)
     }
 
     fn wait_stable<W: Wait>(

@@ -27,6 +27,7 @@ use journal_treefs::TreeRule;
 use journal_treeobjects::Asking;
 use journal_treewire::{DirectoryOperation, Requested, TreeResults, resolve};
 use journal_world::Moment;
+use journal_xdr::Writer;
 use std::alloc::{AllocError, Global};
 use std::sync::Wait;
 
@@ -34,7 +35,7 @@ use std::sync::Wait;
 // long, so that its call changes nothing.
 const MOST_RECORD_BYTES: usize = 6_144;
 
-// A call that was done: its reply, and what is kept of it.
+// A call that was done: what is known of its reply, and what is kept of it.
 #[derive(Drop)]
 struct DoneOnce<'b, J: Naming, R: TreeRule> {
     held: Held<'b, J, R>,
@@ -72,7 +73,7 @@ impl<'s, 'b, D: BlockDisk, R: TreeRule, J: Naming, H: FreeHints> TreeServer<'s, 
         })
     }
 
-    // The reply to a request of NFS that came as these bytes.
+    // Writes the reply to a request of NFS that came as these bytes.
     pub(crate) fn answer_sent<W: Wait>(
         &self,
         rt: &W,
@@ -82,21 +83,24 @@ impl<'s, 'b, D: BlockDisk, R: TreeRule, J: Naming, H: FreeHints> TreeServer<'s, 
         xid: u32,
         caller: Caller,
         requested: &Requested<'_>,
+        writer: &mut Writer,
         moment: Moment,
     ) -> Result<Held<'b, J, R>, AllocError>
         requires { IsSent self.now.export.squash bytes.now xid caller (request_of requested.now) }
-        ensures held { IfOk result (IsHeld (served_as self.now.store.now.cut self.now.export) (time_of moment) xid (files caller (request_of requested.now)) session.old session.new) }
+        ensures held { IfOk result (IsHeld (served_as self.now.store.now.cut self.now.export) (time_of moment) xid (files caller (request_of requested.now)) session.old session.new writer.old writer.new) }
         ensures lost { OnErr result ((history : List Entry) → (reply : List ℕ) × Replies (served_as self.now.store.now.cut self.now.export) (marked history) (time_of moment) xid
             (files caller (request_of requested.now)) session.old session.new reply) }
     {
         match self.sent(bytes, xid, requested, moment) {
-            Some(sent) => self.answer_once(rt, alloc, session, &sent, caller, requested, moment),
-            None => self.answer_files(rt, alloc, session, xid, caller, requested, moment),
+            Some(sent) => {
+                self.answer_once(rt, alloc, session, &sent, caller, requested, writer, moment)
+            }
+            None => self.answer_files(rt, alloc, session, xid, caller, requested, writer, moment),
         }
     }
 
-    // The reply to a call that is to be done once: that of a copy which came before, if it is kept.
-    // Else the call is done, and its reply is kept.
+    // Writes the reply to a call that is to be done once: that of a copy which came before, if it
+    // is kept. Else the call is done, and its reply is kept.
     pub(crate) fn answer_once<W: Wait>(
         &self,
         rt: &W,
@@ -105,21 +109,22 @@ impl<'s, 'b, D: BlockDisk, R: TreeRule, J: Naming, H: FreeHints> TreeServer<'s, 
         sent: &Sent<'_>,
         caller: Caller,
         requested: &Requested<'_>,
+        writer: &mut Writer,
         moment: Moment,
     ) -> Result<Held<'b, J, R>, AllocError>
         requires cut { sent.now.cut ≡ self.now.store.now.cut }
         requires export { sent.now.export ≡ self.now.export }
         requires sent { IsSentOnce (served_as self.now.store.now.cut self.now.export) sent.now.bytes.now sent.now.xid caller (request_of requested.now) }
-        ensures held { IfOk result (IsHeld (served_as self.now.store.now.cut self.now.export) (time_of moment) sent.now.xid (files caller (request_of requested.now)) session.old session.new) }
+        ensures held { IfOk result (IsHeld (served_as self.now.store.now.cut self.now.export) (time_of moment) sent.now.xid (files caller (request_of requested.now)) session.old session.new writer.old writer.new) }
         ensures lost { OnErr result ((history : List Entry) → (reply : List ℕ) × Replies (served_as self.now.store.now.cut self.now.export) (marked history) (time_of moment) sent.now.xid
             (files caller (request_of requested.now)) session.old session.new reply) }
     {
         match self.replies.begin(rt, alloc, sent)? {
             Begun::Again(again) => {
-                self.repeat(rt, alloc, session, sent, caller, requested, moment, again)
+                self.repeat(rt, session, sent, caller, requested, writer, moment, again)
             }
             Begun::First => {
-                match self.do_once(rt, alloc, session, sent, caller, requested, moment) {
+                match self.do_once(rt, alloc, session, sent, caller, requested, writer, moment) {
                     Ok(DoneOnce { held, kept }) => {
                         self.replies.finish(rt, sent, kept);
                         Ok(held)
@@ -131,12 +136,14 @@ impl<'s, 'b, D: BlockDisk, R: TreeRule, J: Naming, H: FreeHints> TreeServer<'s, 
                 }
             }
             Begun::NotKept => {
-                self.answer_files(rt, alloc, session, sent.xid, caller, requested, moment)
+                self.answer_files(
+                    rt, alloc, session, sent.xid, caller, requested, writer, moment,
+                )
             }
         }
     }
 
-    // Does the call, with its reply as it is to be kept, if it is.
+    // Does the call and writes its reply, with what is to be kept of it, if it is.
     fn do_once<W: Wait>(
         &self,
         rt: &W,
@@ -145,12 +152,13 @@ impl<'s, 'b, D: BlockDisk, R: TreeRule, J: Naming, H: FreeHints> TreeServer<'s, 
         sent: &Sent<'_>,
         caller: Caller,
         requested: &Requested<'_>,
+        writer: &mut Writer,
         moment: Moment,
     ) -> Result<DoneOnce<'b, J, R>, AllocError>
         requires cut { sent.now.cut ≡ self.now.store.now.cut }
         requires export { sent.now.export ≡ self.now.export }
         requires sent { IsSentOnce (served_as self.now.store.now.cut self.now.export) sent.now.bytes.now sent.now.xid caller (request_of requested.now) }
-        ensures held { IfOk result (λ once. IsHeld (served_as self.now.store.now.cut self.now.export) (time_of moment) sent.now.xid (files caller (request_of requested.now)) session.old session.new once.held) }
+        ensures held { IfOk result (λ once. IsHeld (served_as self.now.store.now.cut self.now.export) (time_of moment) sent.now.xid (files caller (request_of requested.now)) session.old session.new writer.old writer.new once.held) }
         ensures lost { OnErr result ((history : List Entry) → (reply : List ℕ) × Replies (served_as self.now.store.now.cut self.now.export) (marked history) (time_of moment) sent.now.xid
             (files caller (request_of requested.now)) session.old session.new reply) }
     {
@@ -160,14 +168,15 @@ impl<'s, 'b, D: BlockDisk, R: TreeRule, J: Naming, H: FreeHints> TreeServer<'s, 
         };
         let done = self.serve(rt, alloc, session, &Asked { asking, requested });
         let is_kept = self.is_to_keep(requested, &done);
-        let reply = self.told(alloc, sent.xid, done.results)?;
+        let begun = writer.len();
+        self.tell(writer, sent.xid, done.results)?;
         let kept = if is_kept {
-            Kept::new(alloc, sent, &reply, session.front()).ok()
+            let reply = &writer.as_bytes()[begun..];
+            Kept::new(alloc, sent, reply, session.front()).ok()
         } else {
             None
         };
         let held = HeldReply {
-            reply,
             wait: held_wait(sent.xid, done.wait),
             ends: false,
         };
@@ -185,31 +194,35 @@ impl<'s, 'b, D: BlockDisk, R: TreeRule, J: Naming, H: FreeHints> TreeServer<'s, 
         }
     }
 
-    // Gives a reply again, once the commit of its call is stable.
+    // Writes a reply again, once the commit of its call is stable.
     fn repeat<W: Wait>(
         &self,
         rt: &W,
-        alloc: Global,
         session: &mut Session<'b, J, R>,
         sent: &Sent<'_>,
         caller: Caller,
         requested: &Requested<'_>,
+        writer: &mut Writer,
         moment: Moment,
         again: Repeat<'b, J, R>,
     ) -> Result<Held<'b, J, R>, AllocError>
         requires sent { IsSentOnce (served_as self.now.store.now.cut self.now.export) sent.now.bytes.now sent.now.xid caller (request_of requested.now) }
         requires kept { IsKept (served_as self.now.store.now.cut self.now.export) sent.now.bytes.now again.reply.items again.front }
-        ensures held { IfOk result (IsHeld (served_as self.now.store.now.cut self.now.export) (time_of moment) sent.now.xid (files caller (request_of requested.now)) session.old session.new) }
+        ensures held { IfOk result (IsHeld (served_as self.now.store.now.cut self.now.export) (time_of moment) sent.now.xid (files caller (request_of requested.now)) session.old session.new writer.old writer.new) }
         ensures lost { OnErr result ((history : List Entry) → (reply : List ℕ) × Replies (served_as self.now.store.now.cut self.now.export) (marked history) (time_of moment) sent.now.xid
             (files caller (request_of requested.now)) session.old session.new reply) }
     {
         let Repeat { reply, front } = again;
         session.see(&front);
         match self.store.journal().flush(rt, session) {
-            Ok(_note) => Ok(at_once(reply)),
+            Ok(_note) => {
+                writer.raw(&reply)?;
+                Ok(at_once())
+            }
             Err(why) => {
                 let results = requested.refused(wait_error(&why));
-                Ok(at_once(self.told(alloc, sent.xid, results)?))
+                self.tell(writer, sent.xid, results)?;
+                Ok(at_once())
             }
         }
     }

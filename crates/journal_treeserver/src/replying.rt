@@ -28,20 +28,19 @@ use journal_treefs::TreeRule;
 use journal_treeobjects::Asking;
 use journal_treewire::{DiskResults, Requested, TreeResults};
 use journal_world::{Moment, Refusal};
+use journal_xdr::Writer;
 use std::alloc::{AllocError, Global};
 use std::sync::Wait;
 
 // The generation of the root, which is never made anew.
 const ROOT_GENERATION: u32 = 1;
 
-// Room for a reply without bytes of a file and without lines.
-const REPLY_BYTES: usize = 256;
-
-// A reply that is held, and what it waits for.
+// The wait of a reply that is written, and whether the connection ends with it.
 pub(crate) type Held<'b, J, R> = HeldReply<AwaitedCall, Receipt<'b, J, R>>;
 
 impl<'s, 'b, D: BlockDisk, R: TreeRule, J: Naming, H: FreeHints> TreeServer<'s, 'b, D, R, J, H> {
-    // The reply to the call of these bytes up to its commit, and the wait before it may be sent.
+    // Writes the reply to the call of these bytes up to its commit, and says which wait comes
+    // before it may be sent.
     //
     // # Errors
     // - Memory for the reply is refused. The call is done all the same, and its reply is lost.
@@ -52,26 +51,38 @@ impl<'s, 'b, D: BlockDisk, R: TreeRule, J: Naming, H: FreeHints> TreeServer<'s, 
         session: &mut Session<'b, J, R>,
         bytes: &[u8],
         call: &Call<'_>,
+        writer: &mut Writer,
         moment: Moment,
     ) -> Result<Held<'b, J, R>, AllocError>
         requires { message bytes.now ≡ Some (message_of call.now) }
         ensures held { IfOk result (IsHeld (served_as self.now.store.now.cut self.now.export) (time_of moment) call.now.xid (asks self.now.export.squash (message_of call.now))
-            session.old session.new) }
+            session.old session.new writer.old writer.new) }
         ensures lost { OnErr result ((history : List Entry) → (reply : List ℕ) × Replies (served_as self.now.store.now.cut self.now.export) (marked history) (time_of moment) call.now.xid
             (asks self.now.export.squash (message_of call.now)) session.old session.new reply) }
     {
         let xid = call.xid;
         match decide(self.export.squash, call) {
             Wanted::Files(caller, requested) => {
-                self.answer_sent(rt, alloc, session, bytes, xid, caller, &requested, moment)
+                self.answer_sent(
+                    rt, alloc, session, bytes, xid, caller, &requested, writer, moment,
+                )
             }
-            Wanted::Mount(mount) => Ok(at_once(self.mounted(alloc, xid, &mount)?)),
-            Wanted::Denied => Ok(at_once(write_denial(alloc, xid)?)),
-            Wanted::Refused(why) => Ok(at_once(refused(alloc, xid, why)?)),
+            Wanted::Mount(mount) => {
+                self.mounted(writer, xid, &mount)?;
+                Ok(at_once())
+            }
+            Wanted::Denied => {
+                write_denial(writer, xid)?;
+                Ok(at_once())
+            }
+            Wanted::Refused(why) => {
+                refused(writer, xid, why)?;
+                Ok(at_once())
+            }
         }
     }
 
-    // The reply to a request of NFS.
+    // Writes the reply to a request of NFS.
     pub(crate) fn answer_files<W: Wait>(
         &self,
         rt: &W,
@@ -80,9 +91,10 @@ impl<'s, 'b, D: BlockDisk, R: TreeRule, J: Naming, H: FreeHints> TreeServer<'s, 
         xid: u32,
         caller: Caller,
         requested: &Requested<'_>,
+        writer: &mut Writer,
         moment: Moment,
     ) -> Result<Held<'b, J, R>, AllocError>
-        ensures held { IfOk result (IsHeld (served_as self.now.store.now.cut self.now.export) (time_of moment) xid (files caller (request_of requested.now)) session.old session.new) }
+        ensures held { IfOk result (IsHeld (served_as self.now.store.now.cut self.now.export) (time_of moment) xid (files caller (request_of requested.now)) session.old session.new writer.old writer.new) }
         ensures lost { OnErr result ((history : List Entry) → (reply : List ℕ) × Replies (served_as self.now.store.now.cut self.now.export) (marked history) (time_of moment) xid
             (files caller (request_of requested.now)) session.old session.new reply) }
     {
@@ -91,51 +103,49 @@ impl<'s, 'b, D: BlockDisk, R: TreeRule, J: Naming, H: FreeHints> TreeServer<'s, 
             now: time_at(moment),
         };
         let done = self.serve(rt, alloc, session, &Asked { asking, requested });
-        let reply = self.told(alloc, xid, done.results)?;
+        self.tell(writer, xid, done.results)?;
         Ok(HeldReply {
-            reply,
             wait: held_wait(xid, done.wait),
             ends: false,
         })
     }
 
-    // A reply with results.
-    pub(crate) fn told(
+    // Writes a reply with results.
+    pub(crate) fn tell(
         &self,
-        alloc: Global,
+        writer: &mut Writer,
         xid: u32,
         results: TreeResults,
-    ) -> Result<Vec<u8>, AllocError>
-        ensures { IfOk result (λ reply. reply.items ≡ outcome_text self.now.export.disk xid (told (results_of self.now.export.disk results))) }
+    ) -> Result<(), AllocError>
+        ensures { OnOk result (writer.new ≡ writer.old ++ outcome_text self.now.export.disk xid (told (results_of self.now.export.disk results))) }
     {
         let told = DiskResults {
             disk: self.export.disk,
             results,
         };
         told.prove_short();
-        let room = told.room();
-        write_reply(alloc, xid, &Ok(told), room)
+        write_reply(writer, xid, &Ok(told))
     }
 
-    // A reply of MOUNT.
-    fn mounted(&self, alloc: Global, xid: u32, call: &MountCall<'_>) -> Result<Vec<u8>, AllocError>
-        ensures { IfOk result (λ reply. reply.items ≡ outcome_text self.now.export.disk xid (mounted (mount_call_of call.now))) }
+    // Writes a reply of MOUNT.
+    fn mounted(&self, writer: &mut Writer, xid: u32, call: &MountCall<'_>) -> Result<(), AllocError>
+        ensures { OnOk result (writer.new ≡ writer.old ++ outcome_text self.now.export.disk xid (mounted (mount_call_of call.now))) }
     {
         let root = root_handle(self.export.disk);
         let told = answer(call, &root);
-        write_reply(alloc, xid, &Ok(told), REPLY_BYTES)
+        write_reply(writer, xid, &Ok(told))
     }
 
-    // The reply in place of one whose wait is refused.
+    // Writes the reply in place of one whose wait is refused.
     pub(crate) fn refused_wait(
         &self,
-        alloc: Global,
+        writer: &mut Writer,
         call: &AwaitedCall,
         why: &Refusal<()>,
-    ) -> Result<Vec<u8>, AllocError>
-        ensures { IfOk result (λ reply. StandsInFor (served_as self.now.store.now.cut self.now.export) call.now reply.items) }
+    ) -> Result<(), AllocError>
+        ensures { OnOk result ((reply : List ℕ) × (writer.new ≡ writer.old ++ reply) × StandsInFor (served_as self.now.store.now.cut self.now.export) call.now reply) }
     {
-        self.told(alloc, call.xid, call.form.refused(wait_error(why)))
+        self.tell(writer, call.xid, call.form.refused(wait_error(why)))
     }
 }
 
@@ -149,20 +159,19 @@ fn root_handle(disk: u64) -> [u8; 16]
     [a, b, c, d, e, f, g, h, i, j, k, l, m, n, o, p]
 }
 
-// The reply to a call that does not reach a procedure.
-fn refused(alloc: Global, xid: u32, why: CallRefused) -> Result<Vec<u8>, AllocError>
-    ensures { IfOk result (λ reply. (disk : ℕ) → reply.items ≡ outcome_text disk xid (none_told (refused why))) }
+// Writes the reply to a call that does not reach a procedure.
+fn refused(writer: &mut Writer, xid: u32, why: CallRefused) -> Result<(), AllocError>
+    ensures { OnOk result ((disk : ℕ) → writer.new ≡ writer.old ++ outcome_text disk xid (none_told (refused why))) }
 {
     let outcome: Result<(), CallRefused> = Err(why);
-    write_reply(alloc, xid, &outcome, REPLY_BYTES)
+    write_reply(writer, xid, &outcome)
 }
 
-// A reply for which nothing waits.
-pub(crate) fn at_once<P>(reply: Vec<u8>) -> HeldReply<AwaitedCall, P>
-    ensures { result ≡ record { reply = reply; wait = None; ends = false } }
+// A reply that waits for nothing.
+pub(crate) fn at_once<P>() -> HeldReply<AwaitedCall, P>
+    ensures { result ≡ record { wait = None; ends = false } }
 {
     HeldReply {
-        reply,
         wait: None,
         ends: false,
     }

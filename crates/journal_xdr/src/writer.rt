@@ -1,5 +1,5 @@
 // Writing items after some bytes.
-ghost use Rattle.std.specs.Prelude.{◌≡◌, ◌<◌, ◌≤◌, ◌^◌, List, ℕ, [], ◌++◌, length, drop, IfOk, OnOk, OnErr};
+ghost use Rattle.std.specs.Prelude.{◌≡◌, ◌<◌, ◌≤◌, ◌^◌, List, ℕ, [], ◌++◌, ◌+◌, length, take, drop, IfOk, OnOk, OnErr};
 ghost use Rattle.journal_xdr.specs.Items.{Writes, AddsItem};
 ghost use Rattle.journal_xdr.specs.Lists.{array_text, run_text, list_text};
 ghost use Rattle.journal_xdr.specs.Basic.{word, hyper, boolean, enumeration, fixed, opaque, string};
@@ -30,6 +30,15 @@ impl Model for Writer {
 }
 
 impl Writer {
+    /// A writer of which nothing is written. The call takes no memory.
+    pub fn new(alloc: Global) -> Writer
+        ensures { result ≡ [] }
+    {
+        Writer {
+            bytes: Vec::new(alloc),
+        }
+    }
+
     /// A writer with room for `room` bytes.
     ///
     /// # Errors
@@ -47,6 +56,31 @@ impl Writer {
         ensures { result ≡ length self.now }
     {
         self.bytes.len()
+    }
+
+    /// The bytes written, lent.
+    pub fn as_bytes(&self) -> &[u8]
+        ensures { result.now ≡ self.now }
+    {
+        &self.bytes
+    }
+
+    /// Forgets what is written, and keeps the room for it.
+    pub fn clear(&mut self)
+        ensures { self.new ≡ [] }
+    {
+        self.bytes.clear();
+    }
+
+    /// Writes bytes as they are.
+    ///
+    /// # Errors
+    /// - Memory is refused. The bytes written before are as they were.
+    pub fn raw(&mut self, bytes: &[u8]) -> Result<(), AllocError>
+        ensures ok { OnOk result (self.new ≡ self.old ++ bytes.now) }
+        ensures err { OnErr result (self.new ≡ self.old) }
+    {
+        Ok(self.bytes.extend_from_slice(bytes)?)
     }
 
     /// The bytes written. The call takes no memory.
@@ -227,12 +261,12 @@ impl Writer {
         self.boolean(false)
     }
 
-    /// Writes an unsigned integer over the first four bytes.
+    /// Writes an unsigned integer over the four bytes at a place.
     #[tactic(auto, unfolding(crate::specs::Basic::word))]
-    pub fn replace_first(&mut self, number: u32)
-        requires { 4 ≤ length self.old }
-        ensures { self.new ≡ word.spelling number ++ drop 4 self.old }
+    pub fn replace_word(&mut self, place: usize, number: u32)
+        requires { place + 4 ≤ length self.old }
+        ensures { self.new ≡ take place self.old ++ word.spelling number ++ drop (place + 4) self.old }
     {
-        BigEndian::write_u32(&mut self.bytes, number);
+        self.bytes[place..place + 4].copy_from_slice(&number.to_be_bytes());
     }
 }

@@ -1,5 +1,5 @@
-use Rattle.std.proofs.Common.{◌≡◌, Ok, ap, ◌∙◌}
-use Rattle.std.proofs.lemmas.Result.{IfOk-weaker}
+use Rattle.std.proofs.Common.{◌≡◌, ◌++◌, List, ℕ, Ok, ap, ◌∙◌}
+use Rattle.std.proofs.lemmas.Result.{on_ok_weaker}
 use Rattle.journal_inode.specs.declared.version.FormatVersion.{FormatVersion}
 use Rattle.journal_nfs3.proofs.Pendings.{on_err}
 use Rattle.journal_mount3.specs.declared.results.Told.TheVariants as code_tellings
@@ -17,8 +17,8 @@ returns-clause-granted g c =
     let results = c.serve_query-results.result in
     let text = query_text (query_results_of c.version.result results) in
     let told = ap (λ (v : FormatVersion). query_text (query_results_of v results)) c.version.ensures in
-    IfOk-weaker c.write_reply.result _ _
-    (λ bytes is. (text, (query_results_of g.V.Version.VERSION results, c.serve_query-results.ensures, told), is ∙ sent_seen c.args.xid (Ok (code_tellings.Query c.version.result results))))
+    on_ok_weaker c.write_reply.result
+    (λ is. (text, (query_results_of g.V.Version.VERSION results, c.serve_query-results.ensures, told), is ∙ ap (λ (t : List ℕ). c.args.writer.now ++ t) (sent_seen c.args.xid (Ok (code_tellings.Query c.version.result results)))))
     c.write_reply.ensures
 
 pub returns-clause-lost : goal.returns-clause-lost

@@ -7,5 +7,5 @@ returns-in_default-clause-in_part g c = sends_none_behind (g.P.Protocol.replaces
 
 pub split_at-requires : goal.split_at-requires
 split_at-requires g c =
-    let fits = free_fits (g.P.Protocol.replaces c.args.answerer.now.protocol.now) g.P.Receipt.Counted.commits (g.met.P.Protocol.refusable c.args.answerer.now.protocol.now) _ c.args.batch.now c.requires c.in-Ok.told.items c.in-Ok.ensures.settles in
-    omega (arith, fits, ap length c.deref.ensures.value)
+    let fits = free_fits (g.P.Protocol.replaces c.args.answerer.now.protocol.now) g.P.Receipt.Counted.commits (g.met.P.Protocol.refusable c.args.answerer.now.protocol.now) _ c.args.batch.now c.requires c.in-Ok.told c.in-Ok.ensures.settles in
+    omega (arith, fits, ap length c.as_bytes.ensures)

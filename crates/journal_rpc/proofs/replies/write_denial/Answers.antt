@@ -1,6 +1,6 @@
-use Rattle.std.proofs.Common.{◌∙◌}
 use Rattle.journal_rpc.proofs.Replying.{denies}
+use Rattle.journal_rpc.proofs.Streams.{on_ok_then}
 use Rattle.journal_rpc.proofs.replies.write_denial.Goals as goal
 
 pub returns : goal.returns
-returns c = c.into_bytes.ensures ∙ denies c.args.xid _ _ _ c.in_ok-writer.ensures c.in_ok-word.ensures.ok c.in_ok-write_words.ensures
+returns c = on_ok_then _ _ c.write_words.ensures (λ words. denies c.args.xid c.args.writer.now c.word.new.self c.write_words.new.writer c.in_ok-word.ensures.ok words)

@@ -15,23 +15,23 @@ use Rattle.journal_mount3.proofs.reader.ExportedToReadFileProtocol.answer_no_wai
 pub returns-then-is_denied-clause-answered : goal.returns-then-is_denied-clause-answered
 returns-then-is_denied-clause-answered g c =
     let denied = ap is_denied (sym c.decide-requested.ensures) ∙ sym c.is_denied.ensures ∙ c.if-is_denied.true in
-    denies g.V.Version.VERSION c.args.self.now.exported.layout.blocks c.args.self.now.exported.verifier.0 (time_of c.args.moment) (message_of c.args.call.now) _ _ (awaiting Nothing) _ denied refl refl c.in_ok-denial.ensures
+    (_, c.in_ok-deny.ensures, denies g.V.Version.VERSION c.args.self.now.exported.layout.blocks c.args.self.now.exported.verifier.0 (time_of c.args.moment) (message_of c.args.call.now) _ _ (awaiting Nothing) _ denied refl refl refl)
 
-pub returns-in_err-denial-clause-lost : goal.returns-in_err-denial-clause-lost
-returns-in_err-denial-clause-lost g c =
+pub returns-in_err-deny-clause-lost : goal.returns-in_err-deny-clause-lost
+returns-in_err-deny-clause-lost g c =
     let denied = ap is_denied (sym c.decide-requested.ensures) ∙ sym c.is_denied.ensures ∙ c.if-is_denied.true in
     on_err _ (loses_denied g.V.Version.VERSION c.args.self.now.exported.layout.blocks c.args.self.now.exported.verifier.0 (time_of c.args.moment) (message_of c.args.call.now) _ _ denied refl)
 
-pub returns-in_ok-granted-in-Some-clause-answered : goal.returns-in_ok-granted-in-Some-clause-answered
-returns-in_ok-granted-in-Some-clause-answered g c =
+pub returns-in_ok-grant-in-Some-clause-answered : goal.returns-in_ok-grant-in-Some-clause-answered
+returns-in_ok-grant-in-Some-clause-answered g c =
     let access = sym c.in-Some.ensures.access ∙ c.decide-requested.ensures in
-    let h = rw c.at-now.ensures at c.in_ok-granted-in-Some.ensures.granted in
-    grants g.V.Version.VERSION c.args.self.now.exported.layout.blocks c.args.self.now.exported.verifier.0 (time_of c.args.moment) (message_of c.args.call.now) _ _ (awaiting Nothing) _ h.0 _ _ access refl h.1 h.2
+    let h = rw c.at-now.ensures at c.in_ok-grant-in-Some.ensures.granted in
+    (_, h.2, grants g.V.Version.VERSION c.args.self.now.exported.layout.blocks c.args.self.now.exported.verifier.0 (time_of c.args.moment) (message_of c.args.call.now) _ _ (awaiting Nothing) _ h.0 _ _ access refl h.1 refl)
 
-pub returns-in_err-granted-in-Some-clause-lost : goal.returns-in_err-granted-in-Some-clause-lost
-returns-in_err-granted-in-Some-clause-lost g c =
+pub returns-in_err-grant-in-Some-clause-lost : goal.returns-in_err-grant-in-Some-clause-lost
+returns-in_err-grant-in-Some-clause-lost g c =
     let access = sym c.in-Some.ensures.access ∙ c.decide-requested.ensures in
-    let h = rw c.at-now.ensures at c.in_err-granted-in-Some.ensures.lost in
+    let h = rw c.at-now.ensures at c.in_err-grant-in-Some.ensures.lost in
     on_err _ (loses_granted g.V.Version.VERSION c.args.self.now.exported.layout.blocks c.args.self.now.exported.verifier.0 (time_of c.args.moment) (message_of c.args.call.now) _ _ h.0 _ _ access h.1)
 
 pub returns-in-None-clause-answered : goal.returns-in-None-clause-answered
@@ -39,7 +39,7 @@ returns-in-None-clause-answered g c =
     let plain = ap is_denied (sym c.decide-requested.ensures) ∙ sym c.is_denied.ensures ∙ c.if-is_denied.false in
     let other = subst (λ (r : Result Requested CallRefused). reading_of r ≡ r) c.decide-requested.ensures c.in-None.ensures.other in
     IfOk-weaker c.answer_no_wait.result _ _
-    (λ soon a. reads g.V.Version.VERSION c.args.self.now.exported.layout.blocks c.args.self.now.exported.verifier.0 (time_of c.args.moment) (message_of c.args.call.now) _ _ (awaiting (pending_wait_for soon.wait)) _ plain other a)
+    (λ wait a. (a.0, a.1, reads g.V.Version.VERSION c.args.self.now.exported.layout.blocks c.args.self.now.exported.verifier.0 (time_of c.args.moment) (message_of c.args.call.now) _ _ (awaiting (pending_wait_for wait)) _ plain other a.2))
     c.answer_no_wait.ensures.answered
 
 pub returns-in-None-clause-lost : goal.returns-in-None-clause-lost

@@ -37,6 +37,16 @@ returns-clause-too_long c =
     other : (r : Result ℕ FeedRefused) (n : ℕ) (e : FeedRefused) → r ≡ Ok n → r ≡ Err e → ⊥
     other r n e ok err = absurd cc
 
+pub returns-clause-room : goal.returns-clause-room
+returns-clause-room c =
+    elim c.match-self.branch [
+      | in-TooLong w ↦ λ _. c.in-Ok.ensures.long (ap (λ (s : Stream). s.part) (sym c.self-2.view_is) ∙ w.in-TooLong.is)
+      | in_default-part w ↦ λ long. absurd (other _ _ _ w.result-is long)
+    ]
+  where
+    other : (r : Result ℕ FeedRefused) (n : ℕ) (e : FeedRefused) → r ≡ Ok n → r ≡ Err e → ⊥
+    other r n e ok err = absurd cc
+
 pub returns-clause-spelled : goal.returns-clause-spelled
 returns-clause-spelled c =
     elim c.match-self.branch [

@@ -5,7 +5,7 @@ use Rattle.journal_rpc.proofs.Streams.{after_none, after-append, Extends-refl, E
 use Rattle.journal_rpc.proofs.records.Records.take_in.Goals as goal
 
 pub loop-self-init : goal.loop-self-init
-loop-self-init c = record { told = ([], refl, sym (after_none c.args.self.now [] refl)); few = λ few. few; grown = Extends-refl c.args.self.now }
+loop-self-init c = record { told = ([], refl, sym (after_none c.args.self.now [] refl)); few = λ few. few; long = λ long room. room; grown = Extends-refl c.args.self.now }
 
 pub returns-in_err-take_front-clause-err : goal.returns-in_err-take_front-clause-err
 returns-in_err-take_front-clause-err c =
@@ -24,5 +24,6 @@ loop-self-preserved c =
         is ∙ ap (λ (s : Stream). after s (take n rest)) i.told.2 ∙ sym (after-append c.args.self.now i.told.0 (take n rest)),
       );
       few = λ few. omega (arith, c.in_ok-take_front.ensures.one, ap (λ (s : Stream). length s.records) c.self.view_is, c.len.ensures, c.if-len-lt-WAITING_RECORDS.true);
+      long = λ long room. omega (arith, ap (λ (rs : List (List ℕ)). length rs) (c.in_ok-take_front.ensures.long long), ap (λ (s : Stream). length s.records) c.self.view_is, c.len.ensures, c.if-len-lt-WAITING_RECORDS.true);
       grown = Extends-trans _ _ _ i.grown (subst (λ (s : Stream). ExtendsStream c.loop-self.self s) (sym is) (Extends-after c.loop-self.self (take n rest)));
     }

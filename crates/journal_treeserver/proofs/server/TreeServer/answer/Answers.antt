@@ -1,20 +1,14 @@
 use Rattle.std.proofs.Common.{List, ℕ, refl, sym, ap, subst, ◌∙◌}
 use Rattle.std.specs.Prelude.{OnErr}
 use Rattle.journal_world.specs.Histories.{Entry}
-use Rattle.journal_history.specs.Tokens.{CommitPlace}
 use Rattle.journal_mount_wire.specs.Arguments.{mount_call_of}
-use Rattle.journal_protocol.specs.declared.held_reply.HeldReply.{HeldReply}
 use Rattle.journal_protocol.specs.Moments.{time_of}
 use Rattle.journal_rpc.specs.CallViews.{message_of}
-use Rattle.journal_treeserver.specs.declared.awaited.AwaitedCall.{AwaitedCall}
 use Rattle.journal_treeserver.specs.Asking.{Wanted, mount, denied, refused}
 use Rattle.journal_treeserver.specs.Answers.{marked, mounted, none_told, Replies}
 use Rattle.journal_treeserver.specs.CodeViews.{served_as, wanted_of}
 use Rattle.journal_treeserver.proofs.Holding.{held_at_once, lost_at_once, on_err}
 use Rattle.journal_treeserver.proofs.server.TreeServer.answer.Goals as goal
-
-abbrev Soon : Type 0
-Soon = HeldReply AwaitedCall CommitPlace
 
 pub returns-in_err-mounted-in-Mount-clause-lost : goal.returns-in_err-mounted-in-Mount-clause-lost
 returns-in_err-mounted-in-Mount-clause-lost g c =
@@ -22,8 +16,8 @@ returns-in_err-mounted-in-Mount-clause-lost g c =
 
 pub returns-in_ok-mounted-in-Mount-clause-held : goal.returns-in_ok-mounted-in-Mount-clause-held
 returns-in_ok-mounted-in-Mount-clause-held g c =
-    held_at_once (served_as c.args.self.now.store.now.cut c.args.self.now.export) (time_of c.args.moment) c.args.call.now.xid c.args.session.now (mount (mount_call_of c.in-Mount.mount)) _ (mounted (mount_call_of c.in-Mount.mount)) c.at_once.result (sym c.decide.ensures ∙ ap wanted_of c.in-Mount.is) (refl, refl, refl)
-    (ap (λ (s : Soon). s.reply.items) c.at_once.ensures ∙ c.in_ok-mounted-in-Mount.ensures) (ap (λ (s : Soon). s.wait) c.at_once.ensures) (ap (λ (s : Soon). s.ends) c.at_once.ensures)
+    held_at_once (served_as c.args.self.now.store.now.cut c.args.self.now.export) (time_of c.args.moment) c.args.call.now.xid c.args.session.now (mount (mount_call_of c.in-Mount.mount)) _ (mounted (mount_call_of c.in-Mount.mount)) c.args.writer.now _ c.at_once.result (sym c.decide.ensures ∙ ap wanted_of c.in-Mount.is) (refl, refl, refl)
+    c.in_ok-mounted-in-Mount.ensures c.at_once.ensures
 
 pub returns-in_err-write_denial-in-Denied-clause-lost : goal.returns-in_err-write_denial-in-Denied-clause-lost
 returns-in_err-write_denial-in-Denied-clause-lost g c =
@@ -31,8 +25,8 @@ returns-in_err-write_denial-in-Denied-clause-lost g c =
 
 pub returns-in_ok-write_denial-in-Denied-clause-held : goal.returns-in_ok-write_denial-in-Denied-clause-held
 returns-in_ok-write_denial-in-Denied-clause-held g c =
-    held_at_once (served_as c.args.self.now.store.now.cut c.args.self.now.export) (time_of c.args.moment) c.args.call.now.xid c.args.session.now denied _ (none_told denied) c.at_once-in-Denied.result (sym c.decide.ensures ∙ ap wanted_of c.in-Denied.is) (refl, refl, refl)
-    (ap (λ (s : Soon). s.reply.items) c.at_once-in-Denied.ensures ∙ c.in_ok-write_denial-in-Denied.ensures) (ap (λ (s : Soon). s.wait) c.at_once-in-Denied.ensures) (ap (λ (s : Soon). s.ends) c.at_once-in-Denied.ensures)
+    held_at_once (served_as c.args.self.now.store.now.cut c.args.self.now.export) (time_of c.args.moment) c.args.call.now.xid c.args.session.now denied _ (none_told denied) c.args.writer.now _ c.at_once-in-Denied.result (sym c.decide.ensures ∙ ap wanted_of c.in-Denied.is) (refl, refl, refl)
+    c.in_ok-write_denial-in-Denied.ensures c.at_once-in-Denied.ensures
 
 pub returns-in_err-refused-in-Refused-clause-lost : goal.returns-in_err-refused-in-Refused-clause-lost
 returns-in_err-refused-in-Refused-clause-lost g c =
@@ -40,8 +34,8 @@ returns-in_err-refused-in-Refused-clause-lost g c =
 
 pub returns-in_ok-refused-in-Refused-clause-held : goal.returns-in_ok-refused-in-Refused-clause-held
 returns-in_ok-refused-in-Refused-clause-held g c =
-    held_at_once (served_as c.args.self.now.store.now.cut c.args.self.now.export) (time_of c.args.moment) c.args.call.now.xid c.args.session.now (refused c.in-Refused.why) _ (none_told (refused c.in-Refused.why)) c.at_once-in-Refused.result (sym c.decide.ensures ∙ ap wanted_of c.in-Refused.is) (refl, refl, refl)
-    (ap (λ (s : Soon). s.reply.items) c.at_once-in-Refused.ensures ∙ c.in_ok-refused-in-Refused.ensures c.args.self.now.export.disk) (ap (λ (s : Soon). s.wait) c.at_once-in-Refused.ensures) (ap (λ (s : Soon). s.ends) c.at_once-in-Refused.ensures)
+    held_at_once (served_as c.args.self.now.store.now.cut c.args.self.now.export) (time_of c.args.moment) c.args.call.now.xid c.args.session.now (refused c.in-Refused.why) _ (none_told (refused c.in-Refused.why)) c.args.writer.now _ c.at_once-in-Refused.result (sym c.decide.ensures ∙ ap wanted_of c.in-Refused.is) (refl, refl, refl)
+    (c.in_ok-refused-in-Refused.ensures c.args.self.now.export.disk) c.at_once-in-Refused.ensures
 
 pub returns-in-Files-clause-lost : goal.returns-in-Files-clause-lost
 returns-in-Files-clause-lost g c =

@@ -5,13 +5,13 @@ use Rattle.journal_treewire.specs.Calls.{call_on}
 use Rattle.journal_treewire.specs.CodeViews.{results_of}
 use Rattle.journal_treewire.specs.Requests.{request_of}
 use Rattle.journal_treeserver.specs.Asking.{files}
-use Rattle.journal_treeserver.specs.Answers.{awaiting, ComesTo, told}
+use Rattle.journal_treeserver.specs.Answers.{awaiting, ComesTo, told, outcome_text}
 use Rattle.journal_treeserver.specs.CodeViews.{served_as}
 use Rattle.journal_treeserver.proofs.Holding.{loses, on_err}
 use Rattle.journal_treeserver.proofs.server.TreeServer.answer_files.Goals as goal
 
-pub returns-in_err-reply-clause-lost : goal.returns-in_err-reply-clause-lost
-returns-in_err-reply-clause-lost g c =
+pub returns-in_err-tell-clause-lost : goal.returns-in_err-tell-clause-lost
+returns-in_err-tell-clause-lost g c =
     let S = served_as c.args.self.now.store.now.cut c.args.self.now.export in
     let asked = request_of c.args.requested.now in
     let results = results_of S.disk c.serve-done.result.results in
@@ -26,7 +26,9 @@ returns-clause-held g c =
     let comes = subst (λ (now : Time). ComesTo S (awaiting c.serve-done.result.wait) asked c.args.caller now (call_on S.disk asked) c.args.session.now c.serve-done.new.session results) c.time_at.ensures.time c.serve-done.ensures in
     record {
       wait = c.serve-done.result.wait;
-      replies = record { outcome = told results; comes = (results, refl, comes); is_sent = c.in_ok-reply.ensures };
+      text = outcome_text S.disk c.args.xid (told results);
+      written = c.in_ok-tell.ensures;
+      replies = record { outcome = told results; comes = (results, refl, comes); is_sent = refl };
       held = c.held_wait.ensures;
       goes_on = refl;
     }

@@ -21,7 +21,7 @@ answer_once-requires-clause-sent g c =
 pub returns-in-Some-clause-held : goal.returns-in-Some-clause-held
 returns-in-Some-clause-held g c =
     let S = served_as c.args.self.now.store.now.cut c.args.self.now.export in
-    subst (λ (xid : ℕ). IfOk c.answer_once.result (IsHeld S (time_of c.args.moment) xid (files c.args.caller (request_of c.args.requested.now)) c.args.session.now c.answer_once.new.session))
+    subst (λ (xid : ℕ). IfOk c.answer_once.result (IsHeld S (time_of c.args.moment) xid (files c.args.caller (request_of c.args.requested.now)) c.args.session.now c.answer_once.new.session c.args.writer.now c.answer_once.new.writer))
     c.in-Some.ensures.xid c.answer_once.ensures.held
 
 pub returns-in-Some-clause-lost : goal.returns-in-Some-clause-lost

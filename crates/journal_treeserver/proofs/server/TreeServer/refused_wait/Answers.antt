@@ -1,5 +1,5 @@
-use Rattle.std.proofs.Common.{Ok, ap, ◌∙◌}
-use Rattle.std.proofs.lemmas.Result.{IfOk-weaker}
+use Rattle.std.proofs.Common.{◌++◌, List, ℕ, ap, ◌∙◌, refl}
+use Rattle.std.proofs.lemmas.Result.{on_ok_weaker}
 use Rattle.journal_treewire.specs.Results.{Results}
 use Rattle.journal_treeserver.specs.Answers.{told, outcome_text}
 use Rattle.journal_treeserver.specs.CodeViews.{served_as}
@@ -10,5 +10,11 @@ use Rattle.journal_treeserver.proofs.server.TreeServer.refused_wait.Goals as goa
 pub returns : goal.returns
 returns g c =
     let disk = c.args.self.now.export.disk in
-    IfOk-weaker c.told.result _ _ (λ reply is. stands_in (served_as c.args.self.now.store.now.cut c.args.self.now.export) c.args.call.now c.wait_error.result _ (told_wait_error_is c.args.why.now _ c.wait_error.ensures)
-    (is ∙ ap (λ (r : Results). outcome_text disk c.args.call.now.xid (told r)) (c.refused.ensures disk))) c.told.ensures
+    let xid = c.args.call.now.xid in
+    on_ok_weaker c.tell.result
+    (λ written. (
+      _,
+      written,
+      stands_in (served_as c.args.self.now.store.now.cut c.args.self.now.export) c.args.call.now c.wait_error.result _ (told_wait_error_is c.args.why.now _ c.wait_error.ensures)
+          (ap (λ (r : Results). outcome_text disk xid (told r)) (c.refused.ensures disk)),
+    )) c.tell.ensures
