@@ -200,6 +200,7 @@ class Growth:
                 if is_new and self.is_tried(at):
                     yield killed
                     yield self.after_power(device)
+                    yield with_write_alone(device, at, data)
         if device.pending:
             raise Differs(f"a growth that ended leaves writes pending, of the blocks {sorted(device.pending)}")
 
@@ -233,6 +234,13 @@ class Growth:
             more = fill(v, self.file, self.filled)
             v.holds("more blocks", more > self.filled)
             has_filled(v, self.file, more)
+
+
+def with_write_alone(device, at, data):
+    """What the device has where of all that is pending the last write alone has reached it."""
+    image = bytearray(device.content)
+    image[at : at + len(data)] = data
+    return image
 
 
 def stopped(jnlfs, folder, *sizes):

@@ -647,8 +647,16 @@ def fill(v, disk):
     v.refuses("WRITE on a full disk", NOSPC, WRITE, written(file, BLOCK * number, b"x"))
 
 
+def first_level_block(name):
+    """The block of a folder's first level that takes this name: 48 and its tag (FNV-1a) mod 4."""
+    tag = 0x811C9DC5
+    for byte in name:
+        tag = (tag ^ byte) * 0x01000193 % (1 << 32)
+    return 48 + tag % 4
+
+
 def a_folder_that_grows(jnlfs, folder):
-    """A RENAME into a folder without a free place takes a block for it."""
+    """A RENAME into a folder whose first block is full takes the first level's block for the name."""
     disk = Disk(jnlfs, folder, "grows.disk", 2000, "--inodes", "2048")
     with disk.serve() as service:
         v = disk.vectors(service)
@@ -659,8 +667,8 @@ def a_folder_that_grows(jnlfs, folder):
         free = free_room(v)[1]
         moves(v, "within it", crowded, b"n0", crowded, b"m0")
         moves(v, "into it", v.root, b"file", crowded, b"file")
-        v.equal("its size", v.attributes(crowded).size, 2 * BLOCK)
-        v.equal("one block is taken", free - free_room(v)[1], BLOCK)
+        v.equal("its size", v.attributes(crowded).size, (first_level_block(b"file") + 1) * BLOCK)
+        v.equal("a block, its index block and the block with its number", free - free_room(v)[1], 3 * BLOCK)
         moves(v, "into one without a block", crowded, b"file", other, b"file")
         v.equal("its size", v.attributes(other).size, BLOCK)
         names = {line.name for line in v.connection.list_all(crowded)}

@@ -15,6 +15,7 @@ from pathlib import Path
 import tree_exclusive
 import tree_growth
 import tree_large
+import tree_levels
 import tree_links
 import tree_renames
 from tree_asking import *
@@ -1056,6 +1057,7 @@ DISKS = (
     *tree_links.DISKS,
     *tree_exclusive.DISKS,
     *tree_large.DISKS,
+    *tree_levels.DISKS,
     *tree_growth.DISKS,
 )
 

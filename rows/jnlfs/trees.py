@@ -290,6 +290,12 @@ def a_large_file_is_there_in_another_run(room):
     ask(room, "large_files_in_another_run")
 
 
+# Of `journal_treecalls::lookup`, `journal_treecalls::readdir`, `journal_treecalls::rename`,
+# `journal_treecalls::remove`.
+def names_of_many_blocks_are_found_listed_and_moved(room):
+    ask(room, "names_in_levels")
+
+
 # Of `jnlfs::growing::grow`.
 def a_tree_grows_and_keeps_its_files(room):
     ask(room, "a_tree_that_grows")

@@ -1,5 +1,5 @@
 // NFS and MOUNT where the files are only read.
-ghost use Rattle.std.specs.Prelude.{◌≡◌, ℕ, List, Ok, IfOk, IfSome, IfNone, OnErr};
+ghost use Rattle.std.specs.Prelude.{◌≡◌, ◌++◌, ℕ, List, Ok, IfOk, IfSome, IfNone, OnErr, OnOk};
 ghost use Rattle.journal_nfs3_wire.specs.Arguments.{operation_of};
 ghost use Rattle.journal_nfs3_wire.specs.Queries.{Access};
 ghost use Rattle.journal_mount3.specs.Calls.{query, decided};

@@ -1,5 +1,5 @@
 // The reply to a call of either program.
-ghost use Rattle.std.specs.Prelude.{◌≡◌, ◌<◌, ◌^◌, ℕ, List, length, Ok, IfOk, IfSome, OnErr};
+ghost use Rattle.std.specs.Prelude.{◌≡◌, ◌++◌, ◌<◌, ◌^◌, ℕ, List, length, Ok, IfOk, IfSome, OnErr};
 ghost use Rattle.std.specs.Result.{ForOk};
 ghost use Rattle.journal_world.specs.Histories.{Entry};
 ghost use Rattle.journal_rpc.specs.CallViews.{asked_of, message_of};

@@ -1,26 +1,18 @@
 -- Which calls have replies that depend on no moment.
-use Rattle.std.proofs.Common.{◌≡◌, ℕ, Bool, true, false, List, [], ◌∷◌, Option, Some, None, Result, Ok, Err}
+use Rattle.std.proofs.Common.{◌≡◌, ℕ, Bool, true, false, List, [], ◌∷◌, Option, Some, None, Ok, Err, sym}
 use Rattle.std.specs.Prelude.{◌==◌, if◌then◌else◌}
 use Rattle.std.proofs.lemmas.Bool.{false≢true}
-use Rattle.std.proofs.Common.{sym}
-use Rattle.journal_xdr.specs.Items.{Item, ◌>>=◌}
+use Rattle.journal_xdr.specs.Items.{◌>>=◌}
 use Rattle.journal_rpc.specs.declared.replies.CallRefused.{CallRefused}
 use Rattle.journal_rpc.specs.declared.replies.CallRefused.TheVariants.{ProgramUnavailable, ProgramMismatch}
 use Rattle.journal_rpc.specs.Calls as calls
 use Rattle.journal_nfs3_wire.specs.declared.procedure.Procedure.{Procedure}
 use Rattle.journal_nfs3_wire.specs.declared.procedure.Procedure.TheVariants as procedure
-use Rattle.journal_nfs3_wire.specs.Arguments.{Operation, Null, GetAttributes, Lookup, Read, Remove, Commit, arguments_of, arguments}
+use Rattle.journal_nfs3_wire.specs.Arguments.{Operation, Null, GetAttributes, Lookup, Read, Remove, Commit, arguments}
 use Rattle.journal_nfs3_wire.specs.Calls.{asks, called, requested, unless_garbage}
 use Rattle.journal_nfs3_wire.specs.Procedures.{procedure_of}
 use Rattle.journal_nfs3_wire.specs.Whole.{alone}
-use Rattle.journal_nfs3.specs.Answers.{IsTimeless}
-
--- the procedures that set times
-abbrev pub sets_times : Option Procedure → Bool
-sets_times (Some procedure.SetAttributes) = true
-sets_times (Some procedure.Write) = true
-sets_times (Some procedure.Create) = true
-sets_times other = false
+use Rattle.journal_nfs3.specs.Answers.{sets_times, IsTimeless}
 
 refused_timeless : (why : CallRefused) → IsTimeless (Err why)
 refused_timeless why version standing verifier one other xid old new text a = record { outcome = a.outcome; comes = a.comes; is_sent = a.is_sent }

@@ -1,5 +1,5 @@
 -- Which reply belongs to a call (RFC 5531, section 9; RFC 1813, section 3.3).
-use Rattle.std.specs.Prelude.{ℕ, ◌≡◌, List, ◌++◌, Option, Some, None, Result, Ok, Err, IfSome}
+use Rattle.std.specs.Prelude.{ℕ, ◌≡◌, Bool, true, false, List, ◌++◌, Option, Some, None, Result, Ok, Err, IfSome}
 use Rattle.journal_world.specs.Histories.{Entry}
 use Rattle.journal_history.specs.Tokens.{SessionState, CommitPlace}
 use Rattle.journal_inode.specs.declared.node.Time.{Time}
@@ -71,7 +71,14 @@ pub record AnswersNoWait (version : FormatVersion) (verifier : List ℕ) (now : 
   pub answers : AnswersAs version (awaiting (pending_wait_for wait)) verifier now xid asked old new text
   pub procedure : IfSome wait (λ awaited. IsCallOf awaited.procedure asked)
 
--- the reply to a call depends on no moment: none that names no procedure with times of its own does
+-- the procedures that set times
+abbrev pub sets_times : Option Procedure → Bool
+sets_times (Some procedure.SetAttributes) = true
+sets_times (Some procedure.Write) = true
+sets_times (Some procedure.Create) = true
+sets_times other = false
+
+-- the reply to a call depends on no moment: that to a call which names none of these does not
 abbrev pub IsTimeless : Result Operation CallRefused → Type 0
 IsTimeless asked =
     (version : FormatVersion) (standing : Standing) (verifier : List ℕ) (one other : Time) (xid : ℕ) (old new : SessionState) (text : List ℕ)

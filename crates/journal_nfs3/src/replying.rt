@@ -8,7 +8,7 @@ ghost use Rattle.journal_nfs3_wire.specs.Calls.{asks};
 ghost use Rattle.journal_nfs3_wire.specs.Results.{results_text};
 ghost use Rattle.journal_nfs3_wire.specs.Profile.{results_of, refused_results};
 ghost use Rattle.journal_nfs3.specs.Served.{marked, awaiting, refusal_error};
-ghost use Rattle.journal_nfs3.specs.Answers.{sent, ServesCall, Answers, AnswersAs, AnswersNoWait, IsTimeless, awaited_of, TakesPlace, outcome_seen};
+ghost use Rattle.journal_nfs3.specs.Answers.{sent, ServesCall, Answers, AnswersAs, AnswersNoWait, sets_times, IsTimeless, awaited_of, TakesPlace, outcome_seen};
 
 use crate::convert::refusal_error;
 use crate::pending::{Pending, ReplyWait};
@@ -187,9 +187,16 @@ pub fn uses_moment(call: &Call<'_>) -> bool
 {
     match call.asked {
         Asked::OtherVersion => false,
-        Asked::Procedure { procedure, .. } => matches!(
-            Procedure::from_number(procedure),
-            Some(Procedure::SetAttributes | Procedure::Write | Procedure::Create)
-        ),
+        Asked::Procedure { procedure, .. } => sets_times(Procedure::from_number(procedure)),
     }
+}
+
+// True if a procedure sets times.
+fn sets_times(procedure: Option<Procedure>) -> bool
+    ensures { result ≡ sets_times procedure }
+{
+    matches!(
+        procedure,
+        Some(Procedure::SetAttributes | Procedure::Write | Procedure::Create)
+    )
 }

@@ -1,5 +1,5 @@
 -- A reply of a protocol over files, as one that is held.
-use Rattle.std.proofs.Common.{◌≡◌, ◌≤◌, ℕ, Bool, false, List, Option, Some, None, refl, sym, subst}
+use Rattle.std.proofs.Common.{ℕ, false, List, Option, Some, None, refl}
 use Rattle.std.specs.Prelude.{IfSome}
 use Rattle.std.proofs.lemmas.Bool.{false≢true}
 use Rattle.journal_world.specs.Histories.{Entry, floor}
@@ -8,9 +8,8 @@ use Rattle.journal_inode.specs.declared.node.Time.{Time}
 use Rattle.journal_rpc.specs.Calls.{Message}
 use Rattle.journal_filestore.specs.Done.{IsWaitOver}
 use Rattle.journal_nfs3.specs.declared.pending.ReplyWait.{ReplyWait}
-use Rattle.journal_nfs3.specs.Served.{marked, awaiting}
+use Rattle.journal_nfs3.specs.Served.{awaiting}
 use Rattle.journal_nfs3.specs.Answers.{pending_wait_for}
-use Rattle.journal_protocol.specs.declared.held_reply.HeldWait.{HeldWait}
 use Rattle.journal_protocol.specs.Protocols.{IsPaid, IsHeldReply}
 use Rattle.journal_server.specs.FileProtocols.{FileAnswering, IsFileLawful, IsAwaitedCall, told_by, service_by, replaced_by, held_wait}
 

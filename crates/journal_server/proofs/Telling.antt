@@ -1,22 +1,19 @@
 -- What is told of a connection whose replies none ends, a fact at a time.
-use Rattle.std.proofs.Common.{◌≡◌, ◌≢◌, ℕ, ◌+◌, ◌<◌, ◌^◌, Bool, true, false, List, [], ◌∷◌, ◌++◌, Option, Some, None, ◌⊎◌, inl, inr, length, refl, sym, ap, subst, ◌∙◌, append_assoc, arith, Result, Ok, Err}
+use Rattle.std.proofs.Common.{◌≡◌, ◌≢◌, ℕ, ◌+◌, ◌<◌, ◌^◌, true, false, List, [], ◌∷◌, ◌++◌, Option, Some, None, ◌⊎◌, inl, inr, length, refl, sym, ap, subst, ◌∙◌, append_assoc, arith, Result, Ok, Err}
 use Rattle.std.specs.Prelude.{IfOk, OnErr}
 use Rattle.std.proofs.lemmas.Bool.{false≢true}
 use Rattle.std.proofs.lemmas.List.{append-nil}
 use Rattle.journal_world.specs.Histories.{Entry}
 use Rattle.journal_history.specs.Tokens.{SessionState}
 use Rattle.journal_inode.specs.declared.node.Time.{Time}
-use Rattle.journal_rpc.specs.declared.part.Part.TheVariants.{TooLong}
-use Rattle.journal_rpc.specs.Stream.{Stream, fresh, after, IsBetween}
+use Rattle.journal_rpc.specs.Stream.{Stream, fresh, after}
 use Rattle.journal_rpc.proofs.Streams.{after-append, too_long_stays}
 use Rattle.journal_protocol.specs.declared.connection.End.{End}
 use Rattle.journal_protocol.specs.declared.connection.End.TheVariants.{EndOfInput, Truncated, BadRecord, Stopped}
-use Rattle.journal_protocol.specs.declared.connection.Served.{Served}
-use Rattle.journal_protocol.specs.declared.connection.ConnFault.{ConnFault}
 use Rattle.journal_protocol.specs.Protocols.{Service}
 use Rattle.journal_protocol.specs.Output.{IsReplyBy, IsRepliedUnlessBad, RepliesUpToBad, AllReplies, AllCalls, counted, answered_of, records_of, Talk, going, talk, IsTold}
 use Rattle.journal_protocol.specs.Connections.{Exchanges, IsEnd, IsBeginning, IsBefore}
-use Rattle.journal_protocol.specs.Sending.{GrowsBy, StartsBad}
+use Rattle.journal_protocol.specs.Sending.{StartsBad}
 use Rattle.journal_protocol.specs.Serving.{starts, IsLast, Finished, Fails}
 use Rattle.journal_protocol.proofs.Answering.{all_so}
 use Rattle.journal_protocol.proofs.Behind.{behind, first_records}

@@ -1,6 +1,5 @@
 -- The replies of a protocol over files, as those of a protocol.
 use Rattle.journal_nfs3.specs.Served.{marked}
-use Rattle.journal_server.specs.declared.file_protocol.AwaitedCall.{AwaitedCall}
 use Rattle.journal_protocol.specs.Protocols.{IsLawful, IsRefusable}
 use Rattle.journal_server.specs.FileProtocols.{FileAnswering, IsFileLawful, service_by, replaced_by}
 

@@ -1,8 +1,5 @@
 -- The nine procedures of NFS are a protocol.
-use Rattle.std.proofs.Common.{◌≡◌, ℕ, List, [], ◌++◌, Bool, Option, Some, None, Result, Ok, Err, refl, sym, ap, subst, ◌∙◌, append_assoc}
-use Rattle.std.proofs.lemmas.List.{append-nil}
-use mathlib.Core.List.{IsPrefix}
-use Rattle.journal_world.specs.Histories.{Entry}
+use Rattle.std.proofs.Common.{ℕ, List, Bool, Option, Some, None, Result, Ok, Err, sym, subst}
 use Rattle.journal_world.specs.declared.refusal.Refusal.{Refusal}
 use Rattle.journal_world.specs.declared.refusal.Refusal.TheVariants.{NoMemory}
 use Rattle.journal_history.specs.Tokens.{SessionState}
@@ -24,7 +21,7 @@ use Rattle.journal_nfs3_wire.specs.Profile.{refused_results}
 use Rattle.journal_nfs3.specs.Served.{Standing, marked, awaiting, refusal_error, IsAnsweredAs, TellsOutcome, Performs, ServesAs}
 use Rattle.journal_nfs3.specs.Answers.{ServesCall, AnswersAs, TakesPlace, sent}
 use Rattle.journal_nfs3.proofs.Pendings.{answers_paid, answers_stay, takes_place}
-use Rattle.journal_protocol.specs.Grows.{Grows, grows-same, grows-trans}
+use Rattle.journal_protocol.specs.Grows.{Grows, grows-same}
 use Rattle.journal_server.specs.FileProtocols.{IsFileLawful, StandsInFor}
 use Rattle.journal_server.specs.Output.{nine}
 

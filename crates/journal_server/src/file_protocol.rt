@@ -186,10 +186,9 @@ fn moment_of<V: Version, P: FileProtocol<V>, C: Clock>(
     ensures moment { (moment : Time) × C.tells clock.now moment × IsAlsoAt (P.answers protocol.now) (message_of call.now) (time_of result) moment }
 {
     if protocol.uses_moment(call) {
-        clock.now()
-    } else {
-        Moment { secs: 0, nanos: 0 }
+        return clock.now();
     }
+    Moment { secs: 0, nanos: 0 }
 }
 
 // The wait of a reply to a call with this number, with what is remembered of the call.

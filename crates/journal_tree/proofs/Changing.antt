@@ -62,7 +62,7 @@ HasTree-cut T n tree other empty =
     (IsTree-cut T.numbers (stems T) n tree other (λ i s is at. let x = node_from_stem T i s is in empty i x.0 x.1 (ap (λ (s : Stem). s.home.directory) x.2 ∙ at)))
 
 -- the place lies in the grown directory
-grown_has : (place places : ℕ) → (place < grown place places) × (places ≤ grown place places)
+pub grown_has : (place places : ℕ) → (place < grown place places) × (places ≤ grown place places)
 grown_has place places = by (nat_lt place places) refl
   where
     by : (b : Bool) → nat_lt place places ≡ b → (place < cond b places (BLOCK_PLACES * (place / BLOCK_PLACES + 1))) × (places ≤ cond b places (BLOCK_PLACES * (place / BLOCK_PLACES + 1)))
@@ -100,6 +100,34 @@ HasTree-place T d x place now tree is kind = by x.body refl kind
 
         grows : IsTree T.numbers (with_stem (stems T) d (Some v))
         grows = IsTree-grow T.numbers (stems T) d (stem_of x) v tree old refl keeps
+
+-- and each place that it had
+pub place-kept : (T : Tree) (d : ℕ) (x : Node) (place : ℕ) (now : Time) (p : ℕ) → (T.at d).node ≡ Some x → is_directory x.body ≡ true → HasPlace (stems T) d p → HasPlace (stems (touch_place T d place now)) d p
+place-kept T d x place now p is kind has = by x.body refl kind
+  where
+    by : (b : Body) → x.body ≡ b → is_directory b ≡ true → HasPlace (stems (touch_place T d place now)) d p
+    by (file bytes) body kind = absurd (cc (kind))
+    by (link text) body kind = absurd (cc (kind))
+    by (directory places) body kind = (v, grown place places, ap (λ (S : Stems). S d) all ∙ with_stem-same (stems T) d (Some v), refl, low)
+      where
+        v : Stem
+        v = record { home = x.home; places = Some (grown place places) }
+
+        new : option_map stem_of (option_map (opened place now) (T.at d).node) ≡ Some v
+        new = ap (λ (o : Option Node). option_map stem_of (option_map (opened place now) o)) is ∙ ap (λ (b : Body). Some (record { home = x.home; places = places_of (grown_body place b) })) body
+
+        all : stems (touch_place T d place now) ≡ with_stem (stems T) d (Some v)
+        all = stems-with_slot T d _ ∙ ap (with_stem (stems T) d) new
+
+        low : p < grown place places
+        low =
+            let e : Some has.0 ≡ Some (stem_of x) = sym has.2 ∙ stem_from_node T d x is in
+            let e2 : has.0 ≡ stem_of x = cc in
+            let e3 : Some has.1 ≡ Some places = sym has.3 ∙ ap (λ (s : Stem). s.places) e2 ∙ ap places_of body in
+            let e4 : has.1 ≡ places = cc in
+            let more = (grown_has place places).1 in
+            let less = has.4 in
+            omega (arith, more, less, e4)
 
 -- the homes of the old stems
 pub record SameHomes (S S0 : Stems) : Type 0 where

@@ -251,11 +251,11 @@ module _ (R : Known) (c : Caller) (now : Time) (T : Tree) (tree : HasTree T) whe
 
       -- one of the directories, and all others
       named : k ≢ n → (moved W m n z place now).at k ≡ (names_moved W m.d m.e place now).at k → NamesCase W (names_moved W m.d m.e place now) m.d m.e place now k → Fate R c now T (moved W m n z place now) k x y
-      named far slot (in_source here at) =
+      named far slot (in_source here _ at) =
           let was = one (T.at k).node m.x x (ap (λ (i : ℕ). (T.at i).node) here ∙ it.without.kept m.d m.x it.source) one_node.before in
           let after = one _ (touched now m.x) y (ap (λ (s : Slot). s.node) slot ∙ at ∙ ap (λ (i : ℕ). option_map (touched now) (W.at i).node) here ∙ ap (option_map (touched now)) it.source) one_node.after in
           names (sym (ap (λ (x : Node). x.attributes) after) ∙ ap (λ (x : Node). (touched now x).attributes) was) (sym (ap (λ (x : Node). x.home) after) ∙ ap (λ (x : Node). x.home) was) (subst (λ (x : Node). may_rename c x.attributes ≡ true) was it.source_rights)
-      named far slot (in_goal _ here at) =
+      named far slot (in_goal here at) =
           let was = one (T.at k).node m.y x (ap (λ (i : ℕ). (T.at i).node) here ∙ it.without.kept m.e m.y it.goal) one_node.before in
           let after = one _ (opened place now m.y) y (ap (λ (s : Slot). s.node) slot ∙ at ∙ ap (λ (i : ℕ). option_map (opened place now) (W.at i).node) here ∙ ap (option_map (opened place now)) it.goal) one_node.after in
           names (sym (ap (λ (x : Node). x.attributes) after) ∙ ap (λ (x : Node). (opened place now x).attributes) was) (sym (ap (λ (x : Node). x.home) after) ∙ ap (λ (x : Node). x.home) was) (subst (λ (x : Node). may_rename c x.attributes ≡ true) was it.goal_rights)

@@ -1,5 +1,5 @@
 -- Each call is a step, and each step leaves a tree, within its bounds.
-use Rattle.std.proofs.Common.{◌≡◌, ℕ, ◌<◌, ◌≤◌, ◌==◌, Bool, true, false, Option, Some, None, Result, Ok, Err, refl, sym, ap, subst, arith, ◌⊎◌, inl, inr, ◌∙◌}
+use Rattle.std.proofs.Common.{◌≡◌, ◌≢◌, ℕ, ◌<◌, ◌≤◌, ◌==◌, Bool, true, false, Option, Some, None, Result, Ok, Err, refl, sym, ap, subst, arith, ◌⊎◌, inl, inr, ◌∙◌}
 use Rattle.std.specs.Prelude.{option_map, if◌then◌else◌}
 use Rattle.std.proofs.lemmas.Bool.{cases_eq, eq-eqb}
 use Rattle.journal_tree.specs.declared.limits.TheConstants.{MOST_PLACES, LAST_GENERATION}
@@ -11,7 +11,7 @@ use Rattle.journal_tree.specs.declared.caller.Caller.{Caller}
 use Rattle.journal_tree.specs.Rule.{stem_of, HasTree}
 use Rattle.journal_tree.specs.Calls.{Outcome}
 use Rattle.journal_tree.specs.Changes.{touched, touch, opened, touch_place}
-use Rattle.journal_tree.specs.Renames.{Move, rehung, names_moved}
+use Rattle.journal_tree.specs.Renames.{Move, rehung, names_moved, new_home}
 use Rattle.journal_tree.specs.Op.{Call, Reply, Op, is_refusal}
 use Rattle.journal_tree.specs.Op.Op.{answers_getattr, answers_setattr, answers_lookup, answers_access, answers_readlink, answers_read, answers_write, answers_create, answers_mkdir, answers_symlink, answers_mknod, answers_remove, answers_rmdir, answers_rename, answers_link, answers_readdir, answers_readdirplus, answers_fsstat, answers_fsinfo, answers_pathconf, answers_commit}
 use Rattle.journal_tree.specs.Fit.{IsFitHome, IsFit, HasFit}
@@ -23,7 +23,7 @@ use Rattle.journal_tree.proofs.Hanging.{low, not_root}
 use Rattle.journal_tree.proofs.Bounds.{change-fits, names-fits, grown-body-fits}
 use Rattle.journal_tree.proofs.Steps.{Known, known, IsWithout, Step, IsRight, own_slot}
 use Rattle.journal_tree.proofs.Steps.Step.{stays, sets, plants, cuts, moves}
-use Rattle.journal_tree.proofs.Moving.{moved_node, moved-generation, moved-tree}
+use Rattle.journal_tree.proofs.Moving.{home-place, moved_node, moved-generation, moved-tree}
 use Rattle.journal_tree.proofs.Renaming.{IsTrueRenamed, rename-right}
 use Rattle.journal_tree.proofs.Calls.{Anything, TrueChange, TrueFound, TrueMade, getattr-right, setattr-right, lookup-right, access-right, readlink-right, read-right, write-right, create-right, mkdir-right, symlink-right, other-right, remove-right, rmdir-right, link-right, readdir-right, readdirplus-right, fsstat-right, fsinfo-right, pathconf-right, commit-right}
 
@@ -190,8 +190,8 @@ fit_names W d e place now fit moment low = by (d == e)
     source : HasFit (touch W d now)
     source = fit_map W d (touched now) fit (λ x f. touched-fits now x moment f)
 
-    by : (b : Bool) → HasFit (if b then touch W d now else touch_place (touch W d now) e place now)
-    by true = source
+    by : (b : Bool) → HasFit (if b then touch_place W d place now else touch_place (touch W d now) e place now)
+    by true = fit_map W d (opened place now) fit (λ x f. opened-fits place now x low moment f)
     by false = fit_map (touch W d now) e (opened place now) source (λ x f. opened-fits place now x low moment f)
 
 -- what is taken away leaves the others as they were
@@ -234,9 +234,19 @@ module _ (R : Known) (c : Caller) (now : Time) where
 
       new : (x : Node) → Some (moved_node m place now z) ≡ Some x → IsFit x × (1 ≤ ((names_moved W m.d m.e place now).at n).generation)
       new x e = (
-        let q : moved_node m place now z ≡ x = cc in subst IsFit q (rehung-fits (record { directory = m.e; place = place; name = m.name }) now z (inr it.name) low moment (fit.nodes n z (it.without.kept n z it.at))),
+        let q : moved_node m place now z ≡ x = cc in subst IsFit q (rehung-fits (new_home m z place) now z (inr it.name) home_low moment was),
         born,
       )
+        where
+          was : IsFit z
+          was = fit.nodes n z (it.without.kept n z it.at)
+
+          home_low : (new_home m z place).place < MOST_PLACES
+          home_low = by (home-place m z place)
+            where
+              by : ((m.d ≡ m.e) × ((new_home m z place).place ≡ z.home.place)) ⊎ ((m.d ≢ m.e) × ((new_home m z place).place ≡ place)) → (new_home m z place).place < MOST_PLACES
+              by (inl own) = subst (λ (p : ℕ). p < MOST_PLACES) (sym own.1) was.place
+              by (inr other) = subst (λ (p : ℕ). p < MOST_PLACES) (sym other.1) low
 
 pub keeps-fit : KeepsFit
 keeps-fit call c now T T2 reply callable caller moment tree fit op = step-fits (known call c) c now T T2 (callable, caller) moment fit (op-done call c now T T2 reply tree op).step

@@ -9,6 +9,7 @@ pub mod Bounds
 pub mod Setting
 pub mod Calls
 pub mod Renaming
+pub mod Rooms
 pub mod Keeping
 pub mod Moments
 pub mod Fates

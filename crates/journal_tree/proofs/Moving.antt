@@ -8,12 +8,12 @@ use Rattle.journal_tree.specs.Rule.{Stem, Stems, stem_of, stems, HasPlace, IsBel
 use Rattle.journal_tree.specs.Rule.IsBelow.{itself}
 use Rattle.journal_tree.specs.declared.caller.Caller.{Caller}
 use Rattle.journal_tree.specs.Changes.{touched, touch, opened, touch_place}
-use Rattle.journal_tree.specs.Renames.{Move, with_ctime, without_verifier, rehung, names_moved, moved, goal_after}
+use Rattle.journal_tree.specs.Renames.{Move, with_ctime, without_verifier, rehung, names_moved, new_home, moved, source_after}
 use Rattle.journal_tree.specs.Runs.{IsOneNode}
 use Rattle.journal_tree.specs.Laws.{IsRenamed}
 use Rattle.journal_tree.proofs.Finding.{find-some}
 use Rattle.journal_tree.proofs.Stems.{with_stem, KeepsPlaces, IsTree-hang}
-use Rattle.journal_tree.proofs.Changing.{stem_from_node, node_from_stem, stems-with_slot, stems-touch, HasTree-touch, HasTree-place, SameHomes, SameHomes-then, SameHomes-equal, SameHomes-place, way_back, free_in, slot_cases, map_cases, one, same_generation}
+use Rattle.journal_tree.proofs.Changing.{stem_from_node, node_from_stem, stems-with_slot, stems-touch, HasTree-touch, HasTree-place, place-kept, SameHomes, SameHomes-then, SameHomes-equal, SameHomes-place, way_back, free_in, slot_cases, map_cases, one, same_generation}
 use Rattle.journal_tree.proofs.Hanging.{one_name, found_by_name}
 use Rattle.journal_tree.proofs.Steps.{IsReplaced, IsMoved, own_slot}
 
@@ -21,31 +21,34 @@ use Rattle.journal_tree.proofs.Steps.{IsReplaced, IsMoved, own_slot}
 
 -- what a number has after it
 pub data NamesCase (W V : Tree) (d e place : ℕ) (now : Time) (i : ℕ) : Type 0 where
-  in_source : i ≡ d → (V.at i).node ≡ option_map (touched now) (W.at i).node → NamesCase W V d e place now i
-  in_goal : i ≢ d → i ≡ e → (V.at i).node ≡ option_map (opened place now) (W.at i).node → NamesCase W V d e place now i
+  in_source : i ≡ d → i ≢ e → (V.at i).node ≡ option_map (touched now) (W.at i).node → NamesCase W V d e place now i
+  in_goal : i ≡ e → (V.at i).node ≡ option_map (opened place now) (W.at i).node → NamesCase W V d e place now i
   elsewhere : i ≢ d → i ≢ e → V.at i ≡ W.at i → NamesCase W V d e place now i
 
 pub names_cases : (W : Tree) (d e place : ℕ) (now : Time) (i : ℕ) → NamesCase W (names_moved W d e place now) d e place now i
-names_cases W d e place now i = by (d == e) refl (map_cases W d (touched now) i)
+names_cases W d e place now i = by (d == e) refl
   where
-    by : (b : Bool) → (d == e) ≡ b → ((i ≡ d) × (((touch W d now).at i).node ≡ option_map (touched now) (W.at i).node)) ⊎ ((i ≢ d) × ((touch W d now).at i ≡ W.at i))
-        → NamesCase W (if b then touch W d now else touch_place (touch W d now) e place now) d e place now i
-    by true same (inl r) = in_source r.0 r.1
-    by true same (inr r) = elsewhere r.0 (λ q. r.0 (q ∙ sym (eqb-true d e same))) r.1
-    by false two r = goal r (map_cases (touch W d now) e (opened place now) i)
+    by : (b : Bool) → (d == e) ≡ b → NamesCase W (if b then touch_place W d place now else touch_place (touch W d now) e place now) d e place now i
+    by true same = both (map_cases W d (opened place now) i)
+      where
+        both : ((i ≡ d) × (((touch_place W d place now).at i).node ≡ option_map (opened place now) (W.at i).node)) ⊎ ((i ≢ d) × ((touch_place W d place now).at i ≡ W.at i))
+            → NamesCase W (touch_place W d place now) d e place now i
+        both (inl r) = in_goal (r.0 ∙ eqb-true d e same) r.1
+        both (inr r) = elsewhere r.0 (λ q. r.0 (q ∙ sym (eqb-true d e same))) r.1
+    by false two = goal (map_cases W d (touched now) i) (map_cases (touch W d now) e (opened place now) i)
       where
         goal : ((i ≡ d) × (((touch W d now).at i).node ≡ option_map (touched now) (W.at i).node)) ⊎ ((i ≢ d) × ((touch W d now).at i ≡ W.at i))
             → ((i ≡ e) × (((touch_place (touch W d now) e place now).at i).node ≡ option_map (opened place now) ((touch W d now).at i).node)) ⊎ ((i ≢ e) × ((touch_place (touch W d now) e place now).at i ≡ (touch W d now).at i))
             → NamesCase W (touch_place (touch W d now) e place now) d e place now i
         goal (inl r) (inl s) = absurd (eqb-false d e two (sym r.0 ∙ s.0))
-        goal (inl r) (inr s) = in_source r.0 (ap (λ (s : Slot). s.node) s.1 ∙ r.1)
-        goal (inr r) (inl s) = in_goal r.0 s.0 (s.1 ∙ ap (λ (s : Slot). option_map (opened place now) s.node) r.1)
+        goal (inl r) (inr s) = in_source r.0 s.0 (ap (λ (s : Slot). s.node) s.1 ∙ r.1)
+        goal (inr r) (inl s) = in_goal s.0 (s.1 ∙ ap (λ (s : Slot). option_map (opened place now) s.node) r.1)
         goal (inr r) (inr s) = elsewhere r.0 s.0 (s.1 ∙ r.1)
 
 names-generation : (W : Tree) (d e place : ℕ) (now : Time) (i : ℕ) → ((names_moved W d e place now).at i).generation ≡ (W.at i).generation
 names-generation W d e place now i = by (d == e)
   where
-    by : (b : Bool) → ((if b then touch W d now else touch_place (touch W d now) e place now).at i).generation ≡ (W.at i).generation
+    by : (b : Bool) → ((if b then touch_place W d place now else touch_place (touch W d now) e place now).at i).generation ≡ (W.at i).generation
     by true = same_generation W d i _
     by false = same_generation (touch W d now) e i _ ∙ same_generation W d i _
 
@@ -54,8 +57,8 @@ names-there : (W : Tree) (d e place : ℕ) (now : Time) (i : ℕ) (x : Node) →
 names-there W d e place now i x is = by (names_cases W d e place now i)
   where
     by : NamesCase W (names_moved W d e place now) d e place now i → (y : Node) × (((names_moved W d e place now).at i).node ≡ Some y) × (y.home ≡ x.home)
-    by (in_source _ at) = (touched now x, at ∙ ap (option_map (touched now)) is, refl)
-    by (in_goal _ _ at) = (opened place now x, at ∙ ap (option_map (opened place now)) is, refl)
+    by (in_source _ _ at) = (touched now x, at ∙ ap (option_map (touched now)) is, refl)
+    by (in_goal _ at) = (opened place now x, at ∙ ap (option_map (opened place now)) is, refl)
     by (elsewhere _ _ at) = (x, ap (λ (s : Slot). s.node) at ∙ is, refl)
 
 -- and none gets one
@@ -67,38 +70,50 @@ names-back W d e place now i y is = by (names_cases W d e place now i)
     old f same (Some x) at q = let r : f x ≡ y = cc in (x, at, sym (same x) ∙ ap (λ (x : Node). x.home) r)
 
     by : NamesCase W (names_moved W d e place now) d e place now i → (x : Node) × ((W.at i).node ≡ Some x) × (x.home ≡ y.home)
-    by (in_source _ at) = old (touched now) (λ x. refl) (W.at i).node refl (sym at ∙ is)
-    by (in_goal _ _ at) = old (opened place now) (λ x. refl) (W.at i).node refl (sym at ∙ is)
+    by (in_source _ _ at) = old (touched now) (λ x. refl) (W.at i).node refl (sym at ∙ is)
+    by (in_goal _ at) = old (opened place now) (λ x. refl) (W.at i).node refl (sym at ∙ is)
     by (elsewhere _ _ at) = (y, sym (ap (λ (s : Slot). s.node) at) ∙ is, refl)
 
--- the tree keeps the rule, and the goal has the place
+-- the tree keeps the rule, and the goal has the place, and each that it had
 record HasGoal (W V : Tree) (e place : ℕ) : Type 0 where
   tree : HasTree V
   has : HasPlace (stems V) e place
+  keeps : (p : ℕ) → HasPlace (stems W) e p → HasPlace (stems V) e p
   same : SameHomes (stems V) (stems W)
 
-names-goal : (W : Tree) (d e place : ℕ) (y : Node) (now : Time) → HasTree W → (W.at e).node ≡ Some y → is_directory y.body ≡ true → (d ≡ e → HasPlace (stems W) e place) → HasGoal W (names_moved W d e place now) e place
-names-goal W d e place y now tree at kind own = by (d == e) refl
+names-goal : (W : Tree) (d e place : ℕ) (y : Node) (now : Time) → HasTree W → (W.at e).node ≡ Some y → is_directory y.body ≡ true → HasGoal W (names_moved W d e place now) e place
+names-goal W d e place y now tree at kind = by (d == e) refl
   where
-    by : (b : Bool) → (d == e) ≡ b → HasGoal W (if b then touch W d now else touch_place (touch W d now) e place now) e place
-    by true same = record {
-      tree = HasTree-touch W d now tree;
-      has = subst (λ (S : Stems). HasPlace S e place) (sym (stems-touch W d now)) (own (eqb-true d e same));
-      same = SameHomes-equal (stems (touch W d now)) (stems W) (stems-touch W d now);
-    }
+    within : HasGoal W (touch_place W e place now) e place
+    within =
+        let opens = HasTree-place W e y place now tree at kind in
+        record { tree = opens.0; has = opens.1; keeps = λ p has. place-kept W e y place now p at kind has; same = SameHomes-place W e place now }
+
+    by : (b : Bool) → (d == e) ≡ b → HasGoal W (if b then touch_place W d place now else touch_place (touch W d now) e place now) e place
+    by true same = subst (λ (d : ℕ). HasGoal W (touch_place W d place now) e place) (sym (eqb-true d e same)) within
     by false two =
         let z = node_from_stem (touch W d now) e (stem_of y) (ap (λ (S : Stems). S e) (stems-touch W d now) ∙ stem_from_node W e y at) in
-        let opens = HasTree-place (touch W d now) e z.0 place now (HasTree-touch W d now tree) z.1 (ap (λ (s : Stem). is_some s.places) z.2 ∙ kind) in
+        let z_kind : is_directory z.0.body ≡ true = ap (λ (s : Stem). is_some s.places) z.2 ∙ kind in
+        let opens = HasTree-place (touch W d now) e z.0 place now (HasTree-touch W d now tree) z.1 z_kind in
         record {
           tree = opens.0;
           has = opens.1;
+          keeps = λ p has. place-kept (touch W d now) e z.0 place now p z.1 z_kind (subst (λ (S : Stems). HasPlace S e p) (sym (stems-touch W d now)) has);
           same = SameHomes-then _ _ _ (SameHomes-place (touch W d now) e place now) (SameHomes-equal (stems (touch W d now)) (stems W) (stems-touch W d now));
         }
 
 -- ── the node that is moved ──
 
 abbrev pub moved_node : Move → ℕ → Time → Node → Node
-moved_node m place now z = rehung (record { directory = m.e; place = place; name = m.name }) now z
+moved_node m place now z = rehung (new_home m z place) now z
+
+-- its own place in its directory, and in another the one of the call
+pub home-place : (m : Move) (z : Node) (place : ℕ) → ((m.d ≡ m.e) × ((new_home m z place).place ≡ z.home.place)) ⊎ ((m.d ≢ m.e) × ((new_home m z place).place ≡ place))
+home-place m z place = by (m.d == m.e) refl
+  where
+    by : (b : Bool) → (m.d == m.e) ≡ b → ((m.d ≡ m.e) × ((if b then z.home.place else place) ≡ z.home.place)) ⊎ ((m.d ≢ m.e) × ((if b then z.home.place else place) ≡ place))
+    by true same = inl (eqb-true m.d m.e same, refl)
+    by false two = inr (eqb-false m.d m.e two, refl)
 
 module _ (c : Caller) (T : Tree) (m : Move) (n : ℕ) (z : Node) (place : ℕ) (W : Tree) (now : Time) (it : IsMoved c T m n z place W) where
   not_goal : n ≢ m.e
@@ -130,23 +145,23 @@ module _ (c : Caller) (T : Tree) (m : Move) (n : ℕ) (z : Node) (place : ℕ) (
       by (inl r) = absurd (far r.0)
       by (inr r) = r.1
 
-  pub moved-source : ((moved W m n z place now).at m.d).node ≡ Some (touched now m.x)
+  pub moved-source : ((moved W m n z place now).at m.d).node ≡ Some (source_after m place now)
   moved-source = ap (λ (s : Slot). s.node) (other_slot m.d (λ q. it.below_source (sym q))) ∙ by (names_cases W m.d m.e place now m.d)
     where
-      by : NamesCase W (names_moved W m.d m.e place now) m.d m.e place now m.d → ((names_moved W m.d m.e place now).at m.d).node ≡ Some (touched now m.x)
-      by (in_source _ at) = at ∙ ap (option_map (touched now)) it.source
-      by (in_goal far _ _) = absurd (far refl)
+      choice : Bool → Node
+      choice b = if b then opened place now m.x else touched now m.x
+
+      by : NamesCase W (names_moved W m.d m.e place now) m.d m.e place now m.d → ((names_moved W m.d m.e place now).at m.d).node ≡ Some (source_after m place now)
+      by (in_source _ two at) = at ∙ ap (option_map (touched now)) it.source ∙ ap (λ (b : Bool). Some (choice b)) (sym (ne_eqb m.d m.e two))
+      by (in_goal same at) = at ∙ ap (option_map (opened place now)) it.source ∙ ap (λ (b : Bool). Some (choice b)) (sym (eq-eqb m.d m.e same))
       by (elsewhere far _ _) = absurd (far refl)
 
-  pub moved-goal : ((moved W m n z place now).at m.e).node ≡ Some (goal_after m place now)
+  pub moved-goal : ((moved W m n z place now).at m.e).node ≡ Some (opened place now m.y)
   moved-goal = ap (λ (s : Slot). s.node) (other_slot m.e (λ q. not_goal (sym q))) ∙ by (names_cases W m.d m.e place now m.e)
     where
-      choice : Bool → Node
-      choice b = if b then touched now m.y else opened place now m.y
-
-      by : NamesCase W (names_moved W m.d m.e place now) m.d m.e place now m.e → ((names_moved W m.d m.e place now).at m.e).node ≡ Some (goal_after m place now)
-      by (in_source same at) = at ∙ ap (option_map (touched now)) it.goal ∙ ap (λ (b : Bool). Some (choice b)) (sym (eq-eqb m.d m.e (sym same)))
-      by (in_goal far _ at) = at ∙ ap (option_map (opened place now)) it.goal ∙ ap (λ (b : Bool). Some (choice b)) (sym (ne_eqb m.d m.e (λ q. far (sym q))))
+      by : NamesCase W (names_moved W m.d m.e place now) m.d m.e place now m.e → ((names_moved W m.d m.e place now).at m.e).node ≡ Some (opened place now m.y)
+      by (in_source _ far _) = absurd (far refl)
+      by (in_goal _ at) = at ∙ ap (option_map (opened place now)) it.goal
       by (elsewhere _ far _) = absurd (far refl)
 
   -- what becomes of the others
@@ -173,10 +188,9 @@ module _ (c : Caller) (T : Tree) (m : Move) (n : ℕ) (z : Node) (place : ℕ) (
 
   -- ── the rule ──
 
-  own_place : m.d ≡ m.e → HasPlace (stems W) m.e place
+  own_place : m.d ≡ m.e → HasPlace (stems W) m.e z.home.place
   own_place same =
-      let has = it.without.tree.hangs n (stem_of z) (stem_from_node W n z it.at) it.below_root in
-      subst (λ (e : ℕ). HasPlace (stems W) e place) (it.home ∙ same) (subst (HasPlace (stems W) z.home.directory) (sym (it.keeps_place same)) has)
+      subst (λ (e : ℕ). HasPlace (stems W) e z.home.place) (it.home ∙ same) (it.without.tree.hangs n (stem_of z) (stem_from_node W n z it.at) it.below_root)
 
   pub moved-tree : HasTree (moved W m n z place now)
   moved-tree = subst (IsTree (names_moved W m.d m.e place now).numbers) (sym all) hangs
@@ -185,17 +199,22 @@ module _ (c : Caller) (T : Tree) (m : Move) (n : ℕ) (z : Node) (place : ℕ) (
       V = names_moved W m.d m.e place now
 
       v : Stem
-      v = record { home = record { directory = m.e; place = place; name = m.name }; places = places_of z.body }
+      v = record { home = new_home m z place; places = places_of z.body }
 
       all : stems (moved W m n z place now) ≡ with_stem (stems (names_moved W m.d m.e place now)) n (Some v)
       all = stems-with_slot (names_moved W m.d m.e place now) n _
 
       g : HasGoal W (names_moved W m.d m.e place now) m.e place
-      g = names-goal W m.d m.e place m.y now it.without.tree it.goal it.kind own_place
+      g = names-goal W m.d m.e place m.y now it.without.tree it.goal it.kind
+
+      has_place : ((m.d ≡ m.e) × ((new_home m z place).place ≡ z.home.place)) ⊎ ((m.d ≢ m.e) × ((new_home m z place).place ≡ place))
+          → HasPlace (stems (names_moved W m.d m.e place now)) m.e (new_home m z place).place
+      has_place (inl own) = subst (HasPlace (stems (names_moved W m.d m.e place now)) m.e) (sym own.1) (g.keeps z.home.place (own_place own.0))
+      has_place (inr other) = subst (HasPlace (stems (names_moved W m.d m.e place now)) m.e) (sym other.1) g.has
 
       still : NamesCase W (names_moved W m.d m.e place now) m.d m.e place now n → stems (names_moved W m.d m.e place now) n ≡ Some (stem_of z)
-      still (in_source q _) = absurd (it.below_source q)
-      still (in_goal _ q _) = absurd (not_goal q)
+      still (in_source q _ _) = absurd (it.below_source q)
+      still (in_goal q _) = absurd (not_goal q)
       still (elsewhere _ _ at) = ap (λ (s : Slot). option_map stem_of s.node) at ∙ stem_from_node W n z it.at
 
       stays : stems (names_moved W m.d m.e place now) n ≡ Some (stem_of z)
@@ -208,8 +227,8 @@ module _ (c : Caller) (T : Tree) (m : Move) (n : ℕ) (z : Node) (place : ℕ) (
           (places, sym (ap (λ (s : Stem). s.places) q2) ∙ has, omega arith)
 
       frees : ((i : ℕ) (s : Stem) → i ≢ n → stems (names_moved W m.d m.e place now) i ≡ Some s → s.home.directory ≡ m.e → s.home.name ≡ m.name → ⊥)
-          × ((i : ℕ) (s : Stem) → i ≢ n → stems (names_moved W m.d m.e place now) i ≡ Some s → s.home.directory ≡ m.e → s.home.place ≡ place → ⊥)
-      frees = free_in W (stems (names_moved W m.d m.e place now)) n (record { directory = m.e; place = place; name = m.name }) g.same it.free
+          × ((i : ℕ) (s : Stem) → i ≢ n → stems (names_moved W m.d m.e place now) i ≡ Some s → s.home.directory ≡ m.e → s.home.place ≡ (new_home m z place).place → ⊥)
+      frees = free_in W (stems (names_moved W m.d m.e place now)) n (new_home m z place) g.same it.free
 
       hangs : IsTree (names_moved W m.d m.e place now).numbers (with_stem (stems (names_moved W m.d m.e place now)) n (Some v))
       hangs = IsTree-hang (names_moved W m.d m.e place now).numbers (stems (names_moved W m.d m.e place now)) n v g.tree (record {
@@ -217,7 +236,7 @@ module _ (c : Caller) (T : Tree) (m : Move) (n : ℕ) (z : Node) (place : ℕ) (
         other = it.below_root;
         some = λ q. absurd (cc (sym g.tree.zero ∙ ap (stems (names_moved W m.d m.e place now)) (sym q) ∙ stays));
         kind = keeps;
-        directory = g.has;
+        directory = has_place (home-place m z place);
         apart = λ way. it.apart (way_back (stems (names_moved W m.d m.e place now)) (stems W) n m.e g.same way);
         name = frees.0;
         place = frees.1;

@@ -15,7 +15,7 @@ use Rattle.journal_tree.specs.Rule.IsBelow.{itself}
 use Rattle.journal_tree.specs.Calls.{target, name_kind}
 use Rattle.journal_tree.specs.declared.name.NameKind.TheVariants.{Name}
 use Rattle.journal_tree.specs.Names.{may_remove}
-use Rattle.journal_tree.specs.Renames.{Move, with_ctime, without_verifier, moved, both_changed, both_unchanged, may_move, place_instead, new_place, may_replace, move_to, move_new, move_over, move_node, rename_case}
+use Rattle.journal_tree.specs.Renames.{Move, with_ctime, without_verifier, moved, both_changed, both_unchanged, new_home, may_move, is_large, new_place, place_over, may_replace, move_to, move_new, move_over, move_node, rename_case}
 use Rattle.journal_tree.specs.Op.{MayTakePlace, TellsBelow}
 use Rattle.journal_tree.specs.Fit.{HasFit}
 use Rattle.journal_tree.specs.Laws.{IsTrueChange, IsRenamed}
@@ -25,7 +25,7 @@ use Rattle.journal_tree.proofs.Changing.{stem_from_node, node_from_stem, HasTree
 use Rattle.journal_tree.proofs.Hanging.{low, not_root, leaf, empty, not_itself, one_name}
 use Rattle.journal_tree.proofs.Steps.{Known, IsReplaced, IsWithout, IsMoved, IsRight, right_no, right_yes, right_if, right_allowed, right_target, right_searched, right_name, right_search}
 use Rattle.journal_tree.proofs.Steps.Step.{stays, moves}
-use Rattle.journal_tree.proofs.Moving.{moved-source, moved-goal, moved-whole}
+use Rattle.journal_tree.proofs.Moving.{home-place, moved-source, moved-goal, moved-whole}
 use Rattle.journal_tree.proofs.Calls.{true-of}
 
 -- The reply of a RENAME that is done, and that it is whole
@@ -36,13 +36,21 @@ pub record IsTrueRenamed (T : Tree) (d : ℕ) (name : List ℕ) (e : ℕ) (new_n
 
 -- ── the place ──
 
--- in the node's own directory its own, and in another that of the replaced or the one handed out
-place-is : (m : Move) (z : Node) (over : Option Node) (place : Option ℕ) (p : ℕ) → new_place m z over place ≡ Some p → ((m.d ≡ m.e) × (p ≡ z.home.place)) ⊎ ((m.d ≢ m.e) × (place_instead over place ≡ Some p))
-place-is m z over place p is = by (m.d == m.e) refl is
+-- it is handed out, or it is the node's own
+place-is : (m : Move) (z : Node) (place : Option ℕ) (p : ℕ) → new_place m z place ≡ Some p → (place ≡ Some p) ⊎ ((m.d ≡ m.e) × (z.home.place ≡ p))
+place-is m z place p is = by (m.d == m.e && not (is_large m.y.body)) refl is
   where
-    by : (b : Bool) → (m.d == m.e) ≡ b → (if b then Some z.home.place else place_instead over place) ≡ Some p → ((m.d ≡ m.e) × (p ≡ z.home.place)) ⊎ ((m.d ≢ m.e) × (place_instead over place ≡ Some p))
-    by true same is = let q : z.home.place ≡ p = cc in inl (eqb-true m.d m.e same, sym q)
-    by false two is = inr (eqb-false m.d m.e two, is)
+    by : (b : Bool) → (m.d == m.e && not (is_large m.y.body)) ≡ b → (if b then Some z.home.place else place) ≡ Some p → (place ≡ Some p) ⊎ ((m.d ≡ m.e) × (z.home.place ≡ p))
+    by true own is = let q : z.home.place ≡ p = cc in inr (eqb-true m.d m.e (and_parts (m.d == m.e) (not (is_large m.y.body)) own).0, q)
+    by false other is = inl is
+
+-- or that of the replaced
+place-over-is : (m : Move) (z v : Node) (p : ℕ) → Some (place_over m z v) ≡ Some p → ((m.d ≡ m.e) × (z.home.place ≡ p)) ⊎ ((m.d ≢ m.e) × (v.home.place ≡ p))
+place-over-is m z v p is = by (m.d == m.e) refl is
+  where
+    by : (b : Bool) → (m.d == m.e) ≡ b → Some (if b then z.home.place else v.home.place) ≡ Some p → ((m.d ≡ m.e) × (z.home.place ≡ p)) ⊎ ((m.d ≢ m.e) × (v.home.place ≡ p))
+    by true same is = let q : z.home.place ≡ p = cc in inl (eqb-true m.d m.e same, q)
+    by false two is = let q : v.home.place ≡ p = cc in inr (eqb-false m.d m.e two, q)
 
 -- two nodes at one place of a directory are one
 one_place : (T : Tree) (i j : ℕ) (x y : Node) → HasTree T → (T.at i).node ≡ Some x → (T.at j).node ≡ Some y → x.home.directory ≡ y.home.directory → x.home.place ≡ y.home.place → i ≡ j
@@ -113,7 +121,7 @@ module _ (R : Known) (c : Caller) (now : Time) (T : Tree) (tree : HasTree T) (m 
     at : (T.at n).node ≡ Some z
     home : z.home.directory ≡ m.d
     named : z.home.name ≡ name
-    take : MayTakePlace T m.e place
+    take : MayTakePlace T m.d m.e place
     tells : TellsBelow T m.d name m.e below
     source_rights : may_rename c m.x.attributes ≡ true
     source_sticky : may_take c m.x.attributes z.attributes ≡ true
@@ -163,8 +171,8 @@ module _ (R : Known) (c : Caller) (now : Time) (T : Tree) (tree : HasTree T) (m 
 
   -- what all moves have
   to-moved : (W : Tree) (n : ℕ) (z : Node) (below : Bool) (place : Option ℕ) (p : ℕ) → IsMovable n z below place → below ≡ false → IsWithout c T m W → (W.at m.d).node ≡ Some m.x → (W.at m.e).node ≡ Some m.y → (W.at n).node ≡ Some z
-      → IsFreeHome W n (record { directory = m.e; place = p; name = m.name }) → (m.d ≡ m.e → p ≡ z.home.place) → (HasFit T → p < MOST_PLACES) → IsMoved c T m n z p W
-  to-moved W n z below place p may apart without source goal at free keeps within = record {
+      → IsFreeHome W n (new_home m z p) → (HasFit T → p < MOST_PLACES) → IsMoved c T m n z p W
+  to-moved W n z below place p may apart without source goal at free within = record {
     without = without;
     source = source;
     goal = goal;
@@ -175,7 +183,6 @@ module _ (R : Known) (c : Caller) (now : Time) (T : Tree) (tree : HasTree T) (m 
     below_source = not_in n z below place may;
     apart = λ way. true≢false (sym ((may.tells n may.found).1 (way-kept T W n m.e without.kept way)) ∙ apart);
     free = free;
-    keeps_place = keeps;
     name = may.new_name;
     within = within;
     source_rights = may.source_rights;
@@ -187,38 +194,36 @@ module _ (R : Known) (c : Caller) (now : Time) (T : Tree) (tree : HasTree T) (m 
   new-right : (n : ℕ) (z : Node) (below : Bool) (place : Option ℕ) → IsMovable n z below place → find T m.e m.name ≡ None → IsRight R c now T (IsTrueRenamed T m.d name m.e m.name) (move_new below place now T m n z)
   new-right n z below place may none =
       right_if R c now T (IsTrueRenamed T m.d name m.e m.name) below _ _ (λ _. right_no R c now T (IsTrueRenamed T m.d name m.e m.name) Invalid) (λ apart.
-      to-right (new_place m z None place) T n z below place may (λ p is. give p apart (place-is m z None place p is)))
+      to-right (new_place m z place) T n z below place may (λ p is. give p apart (place-is m z place p is)))
     where
-      taken : (p : ℕ) → place ≡ Some p → (find_place T m.e p ≡ None) × (p < MOST_PLACES)
-      taken p is = subst (MayTakePlace T m.e) is may.take
+      taken : (p : ℕ) → place ≡ Some p → (m.d ≢ m.e → find_place T m.e p ≡ None) × (p < MOST_PLACES)
+      taken p is = subst (MayTakePlace T m.d m.e) is may.take
 
-      give : (p : ℕ) → below ≡ false → ((m.d ≡ m.e) × (p ≡ z.home.place)) ⊎ ((m.d ≢ m.e) × (place ≡ Some p)) → IsMoved c T m n z p T
+      give : (p : ℕ) → below ≡ false → (place ≡ Some p) ⊎ ((m.d ≡ m.e) × (z.home.place ≡ p)) → IsMoved c T m n z p T
       give p apart way = to-moved T n z below place p may apart (whole-without c T tree m) may.source may.goal may.at (record {
         name = λ i x far at directory named. find-none T m.e m.name i x none (low T i x tree at) at directory named;
-        place = λ i x far at directory placed. here i x far at directory placed way;
-      }) (λ same. own same way) (λ fit. within fit way)
+        place = λ i x far at directory placed. here i x far at directory placed (home-place m z p) way;
+      }) (λ fit. within fit way)
         where
-          here : (i : ℕ) (x : Node) → i ≢ n → (T.at i).node ≡ Some x → x.home.directory ≡ m.e → x.home.place ≡ p → ((m.d ≡ m.e) × (p ≡ z.home.place)) ⊎ ((m.d ≢ m.e) × (place ≡ Some p)) → ⊥
-          here i x far at directory placed (inl w) = far (one_place T i n x z tree at may.at (directory ∙ sym w.0 ∙ sym may.home) (placed ∙ w.1))
-          here i x far at directory placed (inr w) = find_place-none T m.e p i x (taken p w.1).0 (low T i x tree at) at directory placed
+          here : (i : ℕ) (x : Node) → i ≢ n → (T.at i).node ≡ Some x → x.home.directory ≡ m.e → x.home.place ≡ (new_home m z p).place
+              → ((m.d ≡ m.e) × ((new_home m z p).place ≡ z.home.place)) ⊎ ((m.d ≢ m.e) × ((new_home m z p).place ≡ p)) → (place ≡ Some p) ⊎ ((m.d ≡ m.e) × (z.home.place ≡ p)) → ⊥
+          here i x far at directory placed (inl own) _ = far (one_place T i n x z tree at may.at (directory ∙ sym own.0 ∙ sym may.home) (placed ∙ own.1))
+          here i x far at directory placed (inr other) (inl is) = find_place-none T m.e p i x ((taken p is).0 other.0) (low T i x tree at) at directory (placed ∙ other.1)
+          here i x far at directory placed (inr other) (inr own) = absurd (other.0 own.0)
 
-          own : m.d ≡ m.e → ((m.d ≡ m.e) × (p ≡ z.home.place)) ⊎ ((m.d ≢ m.e) × (place ≡ Some p)) → p ≡ z.home.place
-          own same (inl w) = w.1
-          own same (inr w) = absurd (w.0 same)
-
-          within : HasFit T → ((m.d ≡ m.e) × (p ≡ z.home.place)) ⊎ ((m.d ≢ m.e) × (place ≡ Some p)) → p < MOST_PLACES
-          within fit (inl w) = subst (λ (p : ℕ). p < MOST_PLACES) (sym w.1) (fit.nodes n z may.at).place
-          within fit (inr w) = (taken p w.1).1
+          within : HasFit T → (place ≡ Some p) ⊎ ((m.d ≡ m.e) × (z.home.place ≡ p)) → p < MOST_PLACES
+          within fit (inl is) = (taken p is).1
+          within fit (inr own) = subst (λ (p : ℕ). p < MOST_PLACES) own.1 (fit.nodes n z may.at).place
 
   over-right : (n : ℕ) (z : Node) (below : Bool) (place : Option ℕ) → IsMovable n z below place → (j : ℕ) (v : Node) → find T m.e m.name ≡ Some j → (T.at j).node ≡ Some v → v.home.directory ≡ m.e → v.home.name ≡ m.name
-      → IsRight R c now T (IsTrueRenamed T m.d name m.e m.name) (move_over c below place now T m n z j v)
+      → IsRight R c now T (IsTrueRenamed T m.d name m.e m.name) (move_over c below now T m n z j v)
   over-right n z below place may j v found_j at_j in_e named_j =
       right_if R c now T (IsTrueRenamed T m.d name m.e m.name) (j == n) _ _ (λ same. unchanged (eqb-true j n same)) (λ two.
       right_if R c now T (IsTrueRenamed T m.d name m.e m.name) below _ _ (λ _. right_no R c now T (IsTrueRenamed T m.d name m.e m.name) Invalid) (λ apart.
       right_allowed R c now T (IsTrueRenamed T m.d name m.e m.name) (may_take c m.y.attributes v.attributes) _ (λ sticky.
       right_if R c now T (IsTrueRenamed T m.d name m.e m.name) (not (may_replace T z j v)) _ _ (λ _. right_no R c now T (IsTrueRenamed T m.d name m.e m.name) Exists) (λ fits.
-      to-right (new_place m z (Some v) place) (with_node T j None) n z below place may (λ p is.
-      give p apart (eqb-false j n two) sticky (replaced-empty T z j v tree at_j (not-false (may_replace T z j v) fits)) (place-is m z (Some v) place p is))))))
+      to-right (Some (place_over m z v)) (with_node T j None) n z below place may (λ p is.
+      give p apart (eqb-false j n two) sticky (replaced-empty T z j v tree at_j (not-false (may_replace T z j v) fits)) (place-over-is m z v p is))))))
     where
       -- the new name is the node's own
       unchanged : j ≡ n → IsRight R c now T (IsTrueRenamed T m.d name m.e m.name) (Ok (both_unchanged m), T)
@@ -241,12 +246,12 @@ module _ (R : Known) (c : Caller) (now : Time) (T : Tree) (tree : HasTree T) (m 
           })
 
       give : (p : ℕ) → below ≡ false → j ≢ n → may_take c m.y.attributes v.attributes ≡ true → ((i : ℕ) (x : Node) → (T.at i).node ≡ Some x → x.home.directory ≡ j → ⊥)
-          → ((m.d ≡ m.e) × (p ≡ z.home.place)) ⊎ ((m.d ≢ m.e) × (Some v.home.place ≡ Some p)) → IsMoved c T m n z p (with_node T j None)
+          → ((m.d ≡ m.e) × (z.home.place ≡ p)) ⊎ ((m.d ≢ m.e) × (v.home.place ≡ p)) → IsMoved c T m n z p (with_node T j None)
       give p apart two sticky none way = to-moved (with_node T j None) n z below place p may apart without (kept_at m.d m.x (λ q. none n z may.at (may.home ∙ q)) may.source)
           (kept_at m.e m.y (not_itself T j m.e m.y v may.goal at_j in_e none) may.goal) (kept_at n z (λ q. two (sym q)) may.at) (record {
             name = λ i x far at directory named. gone i x at (one_name T i j x v tree (without.kept i x at) at_j (directory ∙ sym in_e) (named ∙ sym named_j));
-            place = λ i x far at directory placed. here i x far at directory placed way;
-          }) (λ same. own same way) (λ fit. within fit way)
+            place = λ i x far at directory placed. here i x far at directory placed (home-place m z p) way;
+          }) (λ fit. within fit way)
         where
           without : IsWithout c T m (with_node T j None)
           without = cut-without c T tree m j v may.goal found_j at_j in_e sticky none
@@ -261,24 +266,22 @@ module _ (R : Known) (c : Caller) (now : Time) (T : Tree) (tree : HasTree T) (m 
               by (inl r) = absurd (cc (sym (ap (λ (s : Slot). s.node) r.1) ∙ at))
               by (inr r) = r.0 q
 
-          here : (i : ℕ) (x : Node) → i ≢ n → ((with_node T j None).at i).node ≡ Some x → x.home.directory ≡ m.e → x.home.place ≡ p → ((m.d ≡ m.e) × (p ≡ z.home.place)) ⊎ ((m.d ≢ m.e) × (Some v.home.place ≡ Some p)) → ⊥
-          here i x far at directory placed (inl w) = far (one_place T i n x z tree (without.kept i x at) may.at (directory ∙ sym w.0 ∙ sym may.home) (placed ∙ w.1))
-          here i x far at directory placed (inr w) = let q : v.home.place ≡ p = cc (w.1) in gone i x at (one_place T i j x v tree (without.kept i x at) at_j (directory ∙ sym in_e) (placed ∙ sym q))
+          here : (i : ℕ) (x : Node) → i ≢ n → ((with_node T j None).at i).node ≡ Some x → x.home.directory ≡ m.e → x.home.place ≡ (new_home m z p).place
+              → ((m.d ≡ m.e) × ((new_home m z p).place ≡ z.home.place)) ⊎ ((m.d ≢ m.e) × ((new_home m z p).place ≡ p)) → ((m.d ≡ m.e) × (z.home.place ≡ p)) ⊎ ((m.d ≢ m.e) × (v.home.place ≡ p)) → ⊥
+          here i x far at directory placed (inl own) _ = far (one_place T i n x z tree (without.kept i x at) may.at (directory ∙ sym own.0 ∙ sym may.home) (placed ∙ own.1))
+          here i x far at directory placed (inr other) (inl own) = absurd (other.0 own.0)
+          here i x far at directory placed (inr other) (inr w) = gone i x at (one_place T i j x v tree (without.kept i x at) at_j (directory ∙ sym in_e) (placed ∙ other.1 ∙ sym w.1))
 
-          own : m.d ≡ m.e → ((m.d ≡ m.e) × (p ≡ z.home.place)) ⊎ ((m.d ≢ m.e) × (Some v.home.place ≡ Some p)) → p ≡ z.home.place
-          own same (inl w) = w.1
-          own same (inr w) = absurd (w.0 same)
-
-          within : HasFit T → ((m.d ≡ m.e) × (p ≡ z.home.place)) ⊎ ((m.d ≢ m.e) × (Some v.home.place ≡ Some p)) → p < MOST_PLACES
-          within fit (inl w) = subst (λ (p : ℕ). p < MOST_PLACES) (sym w.1) (fit.nodes n z may.at).place
-          within fit (inr w) = let q : v.home.place ≡ p = cc (w.1) in subst (λ (p : ℕ). p < MOST_PLACES) q (fit.nodes j v at_j).place
+          within : HasFit T → ((m.d ≡ m.e) × (z.home.place ≡ p)) ⊎ ((m.d ≢ m.e) × (v.home.place ≡ p)) → p < MOST_PLACES
+          within fit (inl w) = subst (λ (p : ℕ). p < MOST_PLACES) w.1 (fit.nodes n z may.at).place
+          within fit (inr w) = subst (λ (p : ℕ). p < MOST_PLACES) w.1 (fit.nodes j v at_j).place
 
   node-right : (n : ℕ) (z : Node) (below : Bool) (place : Option ℕ) → (IsAllowed z → IsMovable n z below place) → IsRight R c now T (IsTrueRenamed T m.d name m.e m.name) (move_node c below place now T m n z)
   node-right n z below place movable = right_allowed R c now T (IsTrueRenamed T m.d name m.e m.name) (may_move c m z) _ (λ may.
       let all = movable (allowed-is z may) in
       right_search R c now T (IsTrueRenamed T m.d name m.e m.name) m.e m.name _ _ (new-right n z below place all) (λ j v found at home named. over-right n z below place all j v found at home named))
 
-pub rename-right : (R : Known) (c : Caller) (now : Time) (T : Tree) (h : Handle) (name : List ℕ) (k : Handle) (new_name : List ℕ) (below : Bool) (place : Option ℕ) → HasTree T → MayTakePlace T k.number place → TellsBelow T h.number name k.number below
+pub rename-right : (R : Known) (c : Caller) (now : Time) (T : Tree) (h : Handle) (name : List ℕ) (k : Handle) (new_name : List ℕ) (below : Bool) (place : Option ℕ) → HasTree T → MayTakePlace T h.number k.number place → TellsBelow T h.number name k.number below
     → IsRight R c now T (IsTrueRenamed T h.number name k.number new_name) (rename_case c below place name new_name now T (target T h) (target T k))
 rename-right R c now T h name k new_name below place tree take tells =
     right_target R c now T G h _ (λ x1 is1. right_target R c now T G k _ (λ y1 at1.

@@ -18,7 +18,7 @@ use Rattle.journal_tree.specs.Calls.{Outcome, refused, node_or_gone, target, nam
 use Rattle.journal_tree.specs.declared.name.NameKind.TheVariants.{Dot, DotDot, NoName, LongName, Name}
 use Rattle.journal_tree.specs.Changes.{touch_place, planted, cut}
 use Rattle.journal_tree.specs.Rule.{stems, IsBelow, HasTree}
-use Rattle.journal_tree.specs.Renames.{Move, moved}
+use Rattle.journal_tree.specs.Renames.{Move, moved, new_home}
 use Rattle.journal_tree.specs.Op.{Call, IsRoom}
 use Rattle.journal_tree.specs.Fit.{IsFit, HasFit, IsCallable, IsCaller}
 use Rattle.journal_tree.specs.Laws.{IsRightful, verifier_of}
@@ -88,8 +88,7 @@ pub record IsMoved (c : Caller) (T : Tree) (m : Move) (n : ℕ) (z : Node) (plac
   pub below_root : n ≢ ROOT
   pub below_source : n ≢ m.d
   pub apart : IsBelow (stems W) n m.e → ⊥
-  pub free : IsFreeHome W n (record { directory = m.e; place = place; name = m.name })
-  pub keeps_place : m.d ≡ m.e → place ≡ z.home.place
+  pub free : IsFreeHome W n (new_home m z place)
   pub name : name_kind m.name ≡ Name
   pub within : HasFit T → place < MOST_PLACES
   pub source_rights : may_rename c m.x.attributes ≡ true

@@ -3,7 +3,7 @@ use Rattle.std.specs.Prelude.{⊤, Bool, true, false, ◌⊎◌, Option, None, �
 use Rattle.journal_tree.specs.declared.limits.TheConstants.{ROOT}
 use Rattle.journal_tree.specs.declared.time.Time.{Time}
 use Rattle.journal_tree.specs.declared.status.Status.{Status}
-use Rattle.journal_tree.specs.declared.status.Status.TheVariants.{NoAccess, Exists}
+use Rattle.journal_tree.specs.declared.status.Status.TheVariants.{NoAccess, Exists, NoSpace}
 use Rattle.journal_tree.specs.declared.settings.CreateMode.TheVariants.{Exclusive}
 use Rattle.journal_tree.specs.declared.reply.Kind.TheVariants.{File}
 use Rattle.journal_tree.specs.declared.reply.Handle.{Handle}
@@ -23,7 +23,7 @@ use Rattle.journal_tree.specs.Fit.{HasFit, IsCaller, IsCallable}
 use Rattle.journal_tree.specs.Calls.{target, told}
 use Rattle.journal_tree.specs.Contents.{read_case, write_case}
 use Rattle.journal_tree.specs.Listing.{IsPage, last_cookie, readdir_case, readdirplus_case, Item, Page, Listed, ListedPlus, Stands, IsIn, Ascends, Step, IsChain, all_told, EachStep, SomeStep}
-use Rattle.journal_tree.specs.Renames.{with_ctime, without_verifier}
+use Rattle.journal_tree.specs.Renames.{with_ctime, without_verifier, is_large}
 use Rattle.journal_tree.specs.Op.Call.{setattr, lookup, write, create, mkdir, symlink, remove, rmdir, rename}
 use Rattle.journal_tree.specs.Op.Reply.{set, found, wrote, made, removed, renamed}
 use Rattle.journal_tree.specs.Op.{Call, Reply, Op, is_refusal}
@@ -113,6 +113,13 @@ pub record IsRenamed (T T2 : Tree) (d : ℕ) (name : List ℕ) (e : ℕ) (new_na
 abbrev pub RenamesWhole : Type 0
 RenamesWhole = (h k : Handle) (name new_name : List ℕ) (c : Caller) (now : Time) (T T2 : Tree) (r : Renamed) → HasTree T
     → Op (rename h name k new_name) c now T (renamed (Ok r)) T2 → (n : ℕ) × (find T h.number name ≡ Some n) × IsRenamed T T2 h.number name k.number new_name n
+
+-- One within a directory that is not large, or to a name that is there, is never refused for lack
+-- of room
+abbrev pub RenamesHaveRoom : Type 0
+RenamesHaveRoom = (h k : Handle) (name new_name : List ℕ) (c : Caller) (now : Time) (T T2 : Tree)
+    → ((h.number ≡ k.number) × ((x : Node) → (T.at k.number).node ≡ Some x → is_large x.body ≡ false)) ⊎ ((j : ℕ) × (find T k.number new_name ≡ Some j))
+    → Op (rename h name k new_name) c now T (renamed (Err NoSpace)) T2 → ⊥
 
 -- ── replies ──
 

@@ -39,10 +39,11 @@ abbrev pub MayTake : Tree → ℕ → Option Room → Type 0
 MayTake T d None = Unit {0}
 MayTake T d (Some room) = IsRoom T d room
 
--- and for the entry of a node that goes to another directory: a place, or nothing
-abbrev pub MayTakePlace : Tree → ℕ → Option ℕ → Type 0
-MayTakePlace T e None = Unit {0}
-MayTakePlace T e (Some place) = (find_place T e place ≡ None) × (place < MOST_PLACES)
+-- and for the entry of a node of directory d that gets a name of directory e: a place, or nothing.
+-- Nothing hangs at a place of another directory
+abbrev pub MayTakePlace : Tree → ℕ → ℕ → Option ℕ → Type 0
+MayTakePlace T d e None = Unit {0}
+MayTakePlace T d e (Some place) = (d ≢ e → find_place T e place ≡ None) × (place < MOST_PLACES)
 
 -- It is told whether directory e is the node of that name, or lies below it
 abbrev pub TellsBelow : Tree → ℕ → List ℕ → ℕ → Bool → Type 0
@@ -119,7 +120,7 @@ pub data Op : Call → Caller → Time → Tree → Reply → Tree → Type 0 wh
   answers_rmdir : (h : Handle) (name : List ℕ) (c : Caller) (now : Time) (T T2 : Tree) (r : Result Changed Status)
       → (r, T2) ≡ rmdir_case c name now T (target T h) → Op (rmdir h name) c now T (removed r) T2
   answers_rename : (h : Handle) (name : List ℕ) (k : Handle) (new_name : List ℕ) (below : Bool) (place : Option ℕ) (c : Caller) (now : Time) (T T2 : Tree) (r : Result Renamed Status)
-      → MayTakePlace T k.number place → TellsBelow T h.number name k.number below
+      → MayTakePlace T h.number k.number place → TellsBelow T h.number name k.number below
       → (r, T2) ≡ rename_case c below place name new_name now T (target T h) (target T k) → Op (rename h name k new_name) c now T (renamed r) T2
   answers_link : (h k : Handle) (name : List ℕ) (c : Caller) (now : Time) (T T2 : Tree) (r : Result ⊥ Status)
       → (r, T2) ≡ link_case c name T (target T h) (target T k) → Op (link h k name) c now T (not_done r) T2

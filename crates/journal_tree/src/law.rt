@@ -1,5 +1,5 @@
 // What holds of the definitions, for all trees, callers and moments.
-ghost use Rattle.journal_tree.specs.Laws.{KeepsTrees, KeepsFit, BeginsAsTree, BeginsFit, NamesOnce, LinksAreTrees, ListsAll, ListsPlaces, TellsPages, TellsPagesPlus, RenamesWhole, RefusalsChangeNothing, RepliesAreTrue, ChangesMoveCtime, NamesMoveCtime, NamesMoveMtime, CallsKeepRights, OwnersReadAndWrite};
+ghost use Rattle.journal_tree.specs.Laws.{KeepsTrees, KeepsFit, BeginsAsTree, BeginsFit, NamesOnce, LinksAreTrees, ListsAll, ListsPlaces, TellsPages, TellsPagesPlus, RenamesWhole, RenamesHaveRoom, RefusalsChangeNothing, RepliesAreTrue, ChangesMoveCtime, NamesMoveCtime, NamesMoveMtime, CallsKeepRights, OwnersReadAndWrite};
 ghost use Rattle.journal_tree.specs.Laws.{ExclusiveMakes, ExclusiveAgain, ExclusiveOther, CallsGiveVerifiers, ChangesTakeVerifiers};
 ghost use Rattle.journal_tree.specs.Walks.{WalkDecides, NoWalkNeeded};
 
@@ -53,6 +53,12 @@ pub fn listings_are_pages()
 /// and none is lost but what stood under the new name.
 pub fn renames_are_whole()
     ensures { RenamesWhole }
+{}
+
+/// A RENAME within a directory of at most 24576 places, or to a name that is there, is never
+/// refused for lack of room. Within a larger directory one to another name may be.
+pub fn renames_have_room()
+    ensures { RenamesHaveRoom }
 {}
 
 /// As many steps from a directory up its parents as there are numbers tell whether it is a node, or

@@ -57,13 +57,13 @@ pub use law::{
     a_walk_decides, calls_keep_bounds, calls_keep_rights, calls_keep_trees, changes_move_times,
     exclusive_calls_come_again, exclusive_calls_make_one, first_is_a_tree, links_are_trees,
     listings_are_pages, listings_miss_nothing, most_renames_need_no_walk, nodes_are_named_once,
-    owners_read_and_write, refusals_change_nothing, renames_are_whole, replies_are_true,
-    verifiers_are_of_creations,
+    owners_read_and_write, refusals_change_nothing, renames_are_whole, renames_have_room,
+    replies_are_true, verifiers_are_of_creations,
 };
 pub use limits::{
-    BLOCK_BYTES, BLOCK_PLACES, DIRECTORY_MODE, ENTRY_BYTES, FILE_MODE, HANDLE_BYTES,
-    LAST_GENERATION, LINK_MODE, MODES, MOST_BLOCKS, MOST_BYTES, MOST_FILE_BLOCKS, MOST_LINK,
-    MOST_NAME, MOST_PLACES, NOBODY, ROOT, TRANSFER_BYTES,
+    BLOCK_BYTES, BLOCK_PLACES, DIRECTORY_MODE, ENTRY_BYTES, FILE_MODE, FIRST_BLOCKS, FIRST_PLACES,
+    HANDLE_BYTES, LAST_GENERATION, LINK_MODE, MODES, MOST_BLOCKS, MOST_BYTES, MOST_FILE_BLOCKS,
+    MOST_LINK, MOST_NAME, MOST_PLACES, NOBODY, ROOT, TRANSFER_BYTES,
 };
 pub use name::NameKind;
 pub use reply::{Attributes, Changed, Found, Free, Handle, Kind, Made, Renamed, Room, Space, Told};

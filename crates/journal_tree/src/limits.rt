@@ -10,7 +10,11 @@ pub const MOST_NAME: usize = 255;
 pub const BLOCK_BYTES: u64 = 4096;
 
 /// The most blocks of a directory.
-pub const MOST_BLOCKS: u64 = 48;
+pub const MOST_BLOCKS: u64 = 388;
+
+/// The first blocks of a directory, in which any name may lie. Each further one is for some names
+/// alone.
+pub const FIRST_BLOCKS: u64 = 48;
 
 /// The most blocks of a file: 48, and 1024 for each of 1024 index blocks.
 pub const MOST_FILE_BLOCKS: u64 = 1048624;
@@ -28,7 +32,11 @@ pub const TRANSFER_BYTES: u32 = 65536;
 pub const BLOCK_PLACES: u64 = 512;
 
 /// The most entries of a directory.
-pub const MOST_PLACES: u64 = 24576;
+pub const MOST_PLACES: u64 = 198656;
+
+/// The entries of the first blocks of a directory. One of more entries may have room for a node,
+/// and none for another name of it.
+pub const FIRST_PLACES: u64 = 24576;
 
 /// The bytes of an entry.
 pub const ENTRY_BYTES: u64 = 8;

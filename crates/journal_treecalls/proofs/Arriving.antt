@@ -1,52 +1,62 @@
 -- A node goes where it was decided: the tree then, and the disk.
-use Rattle.std.proofs.Common.{◌≡◌, ◌≢◌, ℕ, ◌+◌, ◌*◌, ◌/◌, ◌<◌, ◌≤◌, cond, List, get_or, Some, None, refl, sym, ap, subst, ◌⊎◌, inl, inr, ◌∙◌, arith}
+use Rattle.std.proofs.Common.{◌≡◌, ◌≢◌, ℕ, ◌+◌, ◌*◌, ◌/◌, ◌%◌, ◌<◌, ◌≤◌, max, Bool, true, false, cond, List, [], Option, Some, None, refl, sym, ap, subst, ◌⊎◌, inl, inr, ◌∙◌, arith}
 use Rattle.std.proofs.lemmas.Bool.{cases_lt, eq-eqb, ne_eqb, lt-ltb, le-ltb}
 use Rattle.journal_tree.specs.declared.time.Time.{Time}
+use Rattle.journal_tree.specs.declared.reply.Kind.TheVariants.{Directory}
 use Rattle.journal_tree.specs.declared.reply.Told.{Told}
 use Rattle.journal_tree.specs.Times.{IsTime, time_of_names}
-use Rattle.journal_tree.specs.Trees.{Home, Tree, with_node}
+use Rattle.journal_tree.specs.Trees.{Tree, with_node}
 use Rattle.journal_tree.specs.Changes.{with_times, touched, opened, grown_body}
 use Rattle.journal_tree.specs.Calls.{told, kind_of, size_of}
 use Rattle.journal_tree.specs.Renames.{moved, both_changed, both_unchanged}
 use Rattle.journal_tree.specs.Op.{MayTakePlace}
 use Rattle.journal_treestore.specs.declared.entry.Entry.{Entry}
-use Rattle.journal_treestore.specs.Entries.{with_entry, no_entry}
+use Rattle.journal_treestore.specs.Entries.{tag_of, no_entry}
+use Rattle.journal_treestore.specs.Levels.{IsBlockFor}
+use Rattle.journal_treestore.specs.Positions.{Position, IsPosition, with_put, with_puts}
 use Rattle.journal_treestore.specs.declared.inode.Head.{Head}
 use Rattle.journal_treestore.specs.Inodes.{name_from}
-use Rattle.journal_treestore.specs.Views.{View, zero_block, with_inode, with_owner, with_block, held_of, body_of, node_of, tree_of}
+use Rattle.journal_treestore.specs.Views.{Held, View, zero_block, with_inode, held_of, body_of, node_of, tree_of, directory_block, entry_in, entry_by, entry_of, entry_at}
 use Rattle.journal_treestore.specs.Views.Seen.{free, used}
 use Rattle.journal_treestore.specs.Sound.{IsSoundInode, IsSoundView}
-use Rattle.journal_treestore.specs.Steps.{with_moment, Seat, seat_place, IsSeat, Growth, IsGrowth, grown_held, grown_view, IsSameForm, Shows}
-use Rattle.journal_treestore.specs.Moves.{with_put, dropped_view, IsPlaced, rehomed, Goal, goal_place, IsGoal, renamed_view, moved_view, renaming_of}
-use Rattle.journal_treestore.proofs.Indexing.{first-after}
+use Rattle.journal_treestore.specs.Steps.{with_moment, Seat, seat_place, IsPlaced, IsSeat, IsGrowth, IsSameForm, Shows}
+use Rattle.journal_treestore.specs.Moves.{dropped_view, rehomed, IsSecondRoom, Goal, goal_place, IsGoal, renamed_view, moved_view, renaming_of, move_of}
 use Rattle.journal_treestore.proofs.Viewing.{inode-node}
-use Rattle.journal_treestore.proofs.Placed.{at_place}
+use Rattle.journal_treestore.proofs.Changing.{one_inode, position-at}
+use Rattle.journal_treestore.proofs.Planting.{position-inside}
+use Rattle.journal_treestore.proofs.Placed.{not_d, some-position}
 use Rattle.journal_treestore.proofs.Renaming.{renaming-shows}
 use Rattle.journal_treestore.proofs.Moving.{moving-shows}
-use Rattle.journal_treestore.proofs.Merging.{onto-view, further-view}
-use Rattle.journal_treestore.proofs.Following.{goal_of, replacing-renames, replacing-moves, further_goal, further-free, further-moves}
+use Rattle.journal_treestore.proofs.Stepping.{entries-step}
+use Rattle.journal_treestore.proofs.Following.{position_or as store_position, goal_of, dropped-room, replacing-renames, replacing-moves, further-free, further-moves, further-renames}
+use Rattle.journal_treecalls.specs.declared.node.Record.{Record}
 use Rattle.journal_treecalls.specs.declared.search.Hit.{Hit}
+use Rattle.journal_treecalls.specs.declared.growth.Growth.{Growth}
 use Rattle.journal_treecalls.specs.declared.room.FreePlace.{FreePlace}
-use Rattle.journal_treecalls.specs.declared.room.FreeBlock.{FreeBlock}
+use Rattle.journal_treecalls.specs.declared.room.NewPlace.{NewPlace}
 use Rattle.journal_treecalls.specs.declared.room.NewPlace.TheVariants.{Here, Further}
 use Rattle.journal_treecalls.specs.declared.renaming.Side.{Side}
 use Rattle.journal_treecalls.specs.declared.renaming.Way.{Way}
 use Rattle.journal_treecalls.specs.declared.renaming.Destination.{Destination}
 use Rattle.journal_treecalls.specs.declared.renaming.Destination.TheVariants.{Own, OwnOver, Onto, Into}
 use Rattle.journal_treecalls.specs.Targets.{held, told_of, IsHit}
+use Rattle.journal_treecalls.specs.Seats.{home_position, second_position, seat_of}
 use Rattle.journal_treecalls.specs.Names.{moved as moved_head}
-use Rattle.journal_treecalls.specs.Rooms.{HasPlaceOf, HasFurther, with_further, owner_of}
+use Rattle.journal_treecalls.specs.Rooms.{HasPlaceOf, HasGrowth, grown_head, with_growth, further_number, here_number}
 use Rattle.journal_treecalls.specs.Sizes.{changed_told}
-use Rattle.journal_treecalls.specs.Renamings.{IsSide, AreSides, HasNode, move_in, node_in, handed, place_at, without, IsApart, IsReplaced, IsDestination, both_same}
-use Rattle.journal_treecalls.specs.Moves.{changed_both, named_entry, heads_of, with_move, AreTimes}
+use Rattle.journal_treecalls.specs.Renamings.{IsSide, AreSides, HasNode, move_in, node_in, NeedsSecond, found_place, handed, place_at, without, IsApart, IsReplaced, IsSecondPlace, IsDestination, both_same}
+use Rattle.journal_treecalls.specs.Renamings.IsSecondPlace.{as_before, at_free}
+use Rattle.journal_treecalls.specs.Moves.{changed_both, named_entry, with_first, heads_of, position_or, position_over, free_position, with_new_name, without_node, without_over, with_move, AreTimes}
 use Rattle.journal_treecalls.proofs.Cases.{told-is}
-use Rattle.journal_treecalls.proofs.Searching.{entry-there}
-use Rattle.journal_treecalls.proofs.Furthers.{get-set}
+use Rattle.journal_treecalls.proofs.Searching.{own, entry-of-block}
+use Rattle.journal_treecalls.proofs.Seating.{found-is, hit-names, seat-is}
+use Rattle.journal_treecalls.proofs.Growths.{growth-step, growth-position}
+use Rattle.journal_treecalls.proofs.Reordering.{inode-twice, inode-around, puts-inode, named-inode, far-position, far-positions, puts-first, named-first}
 
 -- What a move shows: the place that it takes may be taken, the disk has the tree, and what is told
 -- is so
 pub record Arrives (V W : View) (w : Way) (hit : Hit) (to : Destination) (name new_name : List ℕ) (now : Time) : Type 0 where
-  pub may : MayTakePlace (tree_of V) w.goal.number (handed to)
+  pub may : MayTakePlace (tree_of V) w.source.number w.goal.number (handed hit to)
   pub shows : Shows W (moved (without (tree_of V) to) (move_in V w new_name) hit.number (node_in V hit name) (place_at hit to) now)
   pub form : IsSameForm V W
   pub tells : changed_both w (heads_of w hit to now) ≡ both_changed (move_in V w new_name) (place_at hit to) now
@@ -87,22 +97,26 @@ module _ (V : View) (sound : IsSoundView V) (s : Side) (is : IsSide V s) (now : 
           ∙ sym (ap (λ k. size_of (body_of V k (held s.inode))) is.kind)
 
   -- and in a block that it gets
-  pub side-grown : (b : FreeBlock) → s.inode.head.size ≡ 4096 * b.j → told s.number (opened (512 * b.j + 0) now (node_of V (held s.inode))) ≡ told_of s.number (moved_head (with_further s.inode.head b.j b.block) now)
-  side-grown b whole = λ i. record {
+  pub side-grown : (g : Growth) → told s.number (opened (512 * g.j) now (node_of V (held s.inode))) ≡ told_of s.number (moved_head (grown_head s.inode.head g) now)
+  side-grown g = λ i. record {
     number = s.number;
-    kind = (same-kind (512 * b.j + 0) ∙ ap (λ (t : Told). t.kind) side-told) i;
+    kind = (same-kind (512 * g.j) ∙ ap (λ (t : Told). t.kind) side-told) i;
     size = grown-size i;
     attributes = with_times s.inode.head.attributes (time_of_names s.inode.head.attributes now);
   }
     where
-      after : s.inode.head.size / 8 ≤ 512 * b.j + 0
-      after = omega (arith, whole)
-
-      grown-size : size_of (grown_body (512 * b.j + 0) (body_of V s.inode.head.kind (held s.inode))) ≡ 4096 * (b.j + 1)
+      grown-size : size_of (grown_body (512 * g.j) (body_of V s.inode.head.kind (held s.inode))) ≡ max s.inode.head.size (4096 * (g.j + 1))
       grown-size =
-          ap (λ k. size_of (grown_body (512 * b.j + 0) (body_of V k (held s.inode)))) is.kind
-          ∙ ap (λ t. 8 * cond t (s.inode.head.size / 8) (512 * ((512 * b.j + 0) / 512 + 1))) (le-ltb (512 * b.j + 0) (s.inode.head.size / 8) after)
-          ∙ (let e : 8 * (512 * ((512 * b.j + 0) / 512 + 1)) ≡ 4096 * (b.j + 1) = omega arith in e)
+          ap (λ k. size_of (grown_body (512 * g.j) (body_of V k (held s.inode)))) is.kind
+          ∙ by (cases_lt (512 * g.j) (s.inode.head.size / 8))
+        where
+          by : (512 * g.j < s.inode.head.size / 8) ⊎ (s.inode.head.size / 8 ≤ 512 * g.j) → size_of (grown_body (512 * g.j) (body_of V Directory (held s.inode))) ≡ max s.inode.head.size (4096 * (g.j + 1))
+          by (inl inside) =
+              ap (λ b. 8 * cond b (s.inode.head.size / 8) (512 * (512 * g.j / 512 + 1))) (lt-ltb (512 * g.j) (s.inode.head.size / 8) inside)
+              ∙ (let w = inode.whole is.kind in let e = w.1 in let q : 8 * (s.inode.head.size / 8) ≡ max s.inode.head.size (4096 * (g.j + 1)) = omega (arith, e, inside) in q)
+          by (inr after) =
+              ap (λ b. 8 * cond b (s.inode.head.size / 8) (512 * (512 * g.j / 512 + 1))) (le-ltb (512 * g.j) (s.inode.head.size / 8) after)
+              ∙ (let w = inode.whole is.kind in let e = w.1 in let q : 8 * (512 * (512 * g.j / 512 + 1)) ≡ max s.inode.head.size (4096 * (g.j + 1)) = omega (arith, e, after) in q)
 
   pub side-time : IsTime s.inode.head.attributes.ctime
   side-time = (sound.fit.nodes s.number (node_of V (held s.inode)) (inode-node V s.number (held s.inode) is.is)).ctime
@@ -114,48 +128,39 @@ same-tells V sound w sides now new_name = λ i. record {
   goal = record { before = sym (side-told V sound w.goal sides.goal now) i; after = sym (side-told V sound w.goal sides.goal now) i };
 }
 
--- ── a node that was found ──
+-- ── a place that is free ──
 
 module _ (V : View) (sound : IsSoundView V) (s : Side) (is : IsSide V s) where
-  pub seat-is : (name : List ℕ) (hit : Hit) (found : IsHit V s.inode.head.blocks name hit) → IsPlaced V (record { d = s.number; h = held s.inode; j = found.j; q = found.is.inside.at; n = hit.number; g = held_of hit.head name })
-  seat-is name hit found = record {
-    is = is.is;
-    kind = is.kind;
-    there = found.is.there;
-    low = found.is.inside.low;
-    names = ap (λ (e : Entry). e.number) (entry-there V s.number (held s.inode) found.j found.is.inside.at is.is is.kind found.is.there found.is.inside.low) ∙ found.is.inside.is.entry;
-    some = found.is.inside.is.some;
-    node = found.is.inside.is.inode;
-  }
+  module _ (tag : ℕ) (p : FreePlace) (has : HasPlaceOf V s.inode.head tag p) where
+    pub free-is : IsPosition V (held s.inode) (record { j = p.j; q = p.at; b = p.block })
+    free-is = record {
+      is = own V s.number s.inode [] sound is.is is.kind p.j ∙ sym has.is.block;
+      some = λ z. has.is.there (sym has.is.block ∙ z);
+      low = has.is.low;
+    }
 
-  -- a place of one of its blocks is one of its places
-  pub place-inside : (j q : ℕ) → get_or s.inode.head.blocks j 0 ≢ 0 → q < 512 → 512 * j + q < s.inode.head.size / 8
-  place-inside j q there low = by (cases_lt (4096 * j) s.inode.head.size)
-    where
-      i : IsSoundInode V s.number (held s.inode)
-      i = sound.inodes s.number (held s.inode) is.is
+    pub free-empty : (entry_at V s.number (512 * p.j + p.at)).number ≡ 0
+    free-empty = ap (λ (e : Entry). e.number) (entry-of-block V s.number s.inode [] sound is.is is.kind p.j p.at has.is.there has.is.low) ∙ has.is.empty
 
-      by : (4096 * j < s.inode.head.size) ⊎ (s.inode.head.size ≤ 4096 * j) → 512 * j + q < s.inode.head.size / 8
-      by (inr behind) = absurd (there (first-after V s.number (held s.inode) i j behind))
-      by (inl inside) = let w = i.whole is.kind in let e = w.1 in omega (arith, e, low, inside)
+  -- the directory has none in a block that it has not
+  pub hole-empty : (tag : ℕ) (g : Growth) → HasGrowth V s.inode.head tag g → (q : ℕ) → q < 512 → (entry_at V s.number (512 * g.j + q)).number ≡ 0
+  hole-empty tag g has q low = ap (λ (e : Entry). e.number) (
+      ap (λ y. entry_of V y (512 * g.j + q)) is.is
+      ∙ ap (λ k. entry_by V k (held s.inode) (512 * g.j + q)) is.kind
+      ∙ ap (λ l. entry_in V (directory_block V (held s.inode) l) ((512 * g.j + q) % 512)) (let e : (512 * g.j + q) / 512 ≡ g.j = omega (arith, low) in e)
+      ∙ ap (λ b. entry_in V b ((512 * g.j + q) % 512)) (own V s.number s.inode [] sound is.is is.kind g.j ∙ has.block.none))
 
 -- ── each destination ──
 
 module _ (V : View) (sound : IsSoundView V) (w : Way) (hit : Hit) (name new_name : List ℕ) (now : Time) (node : HasNode V w name hit) where
   abbrev s : Seat
-  s = record { d = w.source.number; h = held w.source.inode; j = node.found.j; q = node.found.is.inside.at; n = hit.number; g = held_of hit.head name }
+  s = seat_of V w.source.number w.source.inode hit name
 
   placed : IsPlaced V s
-  placed = seat-is V sound w.source node.sides.source name hit node.found
+  placed = seat-is V w.source.number w.source.inode name hit sound node.sides.source.is node.sides.source.kind node.found
 
-  block_is : hit.block ≡ get_or w.source.inode.head.blocks node.found.j 0
-  block_is = node.found.is.inside.is.block
-
-  at_is : hit.at ≡ node.found.is.inside.at
-  at_is = node.found.is.inside.is.place
-
-  abbrev own_home : Home
-  own_home = record { directory = hit.head.directory; place = hit.head.place; name = new_name }
+  abbrev entry : Entry
+  entry = named_entry hit.number new_name
 
   source-told : told_of w.source.number w.source.inode.head ≡ told w.source.number (node_of V (held w.source.inode))
   source-told = sym (side-told V sound w.source node.sides.source now)
@@ -166,203 +171,287 @@ module _ (V : View) (sound : IsSoundView V) (w : Way) (hit : Hit) (name new_name
   goal-told : told_of w.goal.number w.goal.inode.head ≡ told w.goal.number (node_of V (held w.goal.inode))
   goal-told = sym (side-told V sound w.goal node.sides.goal now)
 
-  goal-touched : told_of w.goal.number (moved_head w.goal.inode.head now) ≡ told w.goal.number (touched now (node_of V (held w.goal.inode)))
-  goal-touched = sym (side-touched V sound w.goal node.sides.goal now)
-
   -- ── within one directory ──
 
   module _ (one : w.source.number ≡ w.goal.number) where
-    one-tells : (place : ℕ)
-        → record { source = changed_told w.source.number w.source.inode.head (moved_head w.source.inode.head now); goal = changed_told w.goal.number w.goal.inode.head (moved_head w.goal.inode.head now) }
-        ≡ both_changed (move_in V w new_name) place now
-    one-tells place = λ i. record {
-      source = record { before = source-told i; after = source-touched i };
-      goal = record {
-        before = goal-told i;
-        after = (goal-touched ∙ sym (ap (λ b. told w.goal.number (cond b (touched now (node_of V (held w.goal.inode))) (opened place now (node_of V (held w.goal.inode))))) (eq-eqb w.source.number w.goal.number one))) i;
+    same-inode : held w.source.inode ≡ held w.goal.inode
+    same-inode = one_inode V w.source.number w.goal.number (held w.source.inode) (held w.goal.inode) node.sides.source.is node.sides.goal.is one
+
+    one-tells : (place : ℕ) (source goal : Head) → told w.source.number (opened place now (node_of V (held w.source.inode))) ≡ told_of w.source.number source → told w.goal.number (opened place now (node_of V (held w.goal.inode))) ≡ told_of w.goal.number goal
+        → record { source = changed_told w.source.number w.source.inode.head source; goal = changed_told w.goal.number w.goal.inode.head goal } ≡ both_changed (move_in V w new_name) place now
+    one-tells place source goal first second = λ i. record {
+      source = record {
+        before = source-told i;
+        after = (sym first ∙ sym (ap (λ b. told w.source.number (cond b (opened place now (node_of V (held w.source.inode))) (touched now (node_of V (held w.source.inode))))) (eq-eqb w.source.number w.goal.number one))) i;
       };
+      goal = record { before = goal-told i; after = sym second i };
     }
 
+    -- its own place is one of the directory
+    inside : hit.head.place < w.source.inode.head.size / 8
+    inside = subst (λ p. p < w.source.inode.head.size / 8) (sym placed.place) (position-inside V w.source.number (held w.source.inode) (home_position V w.source.inode.head hit) (sound.inodes w.source.number (held w.source.inode) node.sides.source.is) node.sides.source.kind placed.at)
+
+    inside-goal : hit.head.place < w.goal.inode.head.size / 8
+    inside-goal = subst (λ (h : Held). hit.head.place < h.size / 8) same-inode inside
+
+    own-tells : record { source = changed_told w.source.number w.source.inode.head (moved_head w.source.inode.head now); goal = changed_told w.goal.number w.goal.inode.head (moved_head w.goal.inode.head now) }
+        ≡ both_changed (move_in V w new_name) hit.head.place now
+    own-tells = one-tells hit.head.place (moved_head w.source.inode.head now) (moved_head w.goal.inode.head now)
+        (side-opened V sound w.source node.sides.source now hit.head.place inside) (side-opened V sound w.goal node.sides.goal now hit.head.place inside-goal)
+
+    own-may : MayTakePlace (tree_of V) w.source.number w.goal.number (Some hit.head.place)
+    own-may = (
+      (λ two. absurd (two one)),
+      let low = (position-at V (held w.source.inode) (home_position V w.source.inode.head hit) placed.at).1 in omega (arith, low),
+    )
+
     -- the tree is that of a move to the same directory
-    one-tree : (T : Tree) → moved T (renaming_of V s new_name) hit.number (node_in V hit name) hit.head.place now ≡ moved T (move_in V w new_name) hit.number (node_in V hit name) hit.head.place now
-    one-tree T = ap (λ e. moved T (record { d = w.source.number; x = node_of V (held w.source.inode); e = e; y = node_of V (held w.goal.inode); name = new_name }) hit.number (node_in V hit name) hit.head.place now) one
+    one-tree : (T : Tree) (place : ℕ) → moved T (renaming_of V s new_name) hit.number (node_in V hit name) place now ≡ moved T (move_in V w new_name) hit.number (node_in V hit name) place now
+    one-tree T place = ap (λ e. moved T (record { d = w.source.number; x = node_of V (held w.source.inode); e = e; y = node_of V (held w.goal.inode); name = new_name }) hit.number (node_in V hit name) place now) one
 
-    own-view : with_move V w hit Own new_name now ≡ renamed_view V s new_name now
-    own-view = λ i. with_inode (with_inode (with_put V (block_is i) (at_is i) (named_entry hit.number new_name)) w.source.number (used (with_moment (held w.source.inode) now))) hit.number (used (rehomed (held_of hit.head name) own_home now))
-
-    own-arrives : Arrives V (renamed_view V s new_name now) w hit Own name new_name now
-    own-arrives =
-        let shows = renaming-shows V s new_name now sound placed in
+    own-alone : NeedsSecond (tag_of new_name) hit false → Arrives V (renamed_view V s None new_name now) w hit (Own None) name new_name now
+    own-alone block =
+        let shows = renaming-shows V s None new_name now sound placed block in
         record {
-          may = tt;
-          shows = record { tree = shows.tree ∙ one-tree (tree_of V); inodes = shows.inodes; hung = shows.hung };
+          may = own-may;
+          shows = record { tree = shows.tree ∙ one-tree (tree_of V) hit.head.place; inodes = shows.inodes; hung = shows.hung };
           form = record { numbers = refl; first_data = refl; data_blocks = refl };
-          tells = one-tells hit.head.place;
+          tells = own-tells;
         }
+
+    -- with a second entry
+    module _ (needs : NeedsSecond (tag_of new_name) hit true) where
+      abbrev IsRoom : NewPlace → Type 0
+      IsRoom (Here p) = IsSecondRoom V s new_name (Some (record { j = p.j; q = p.at; b = p.block }))
+      IsRoom (Further g) = HasGrowth V w.source.inode.head (tag_of new_name) g
+
+      room-is : (p : NewPlace) → IsSecondPlace V w.source.inode.head (tag_of new_name) hit p → IsRoom p
+      room-is _ (as_before block) = (
+        found-is V w.source.number w.source.inode name hit sound node.sides.source.is node.sides.source.kind node.found,
+        block,
+        needs,
+        inr (hit-names V w.source.number w.source.inode name hit sound node.sides.source.is node.sides.source.kind node.found),
+      )
+      room-is (Further g) (at_free _ has) = has
+      room-is (Here p) (at_free _ has) = (
+        free-is V sound w.source node.sides.source (tag_of new_name) p has,
+        has.block_for,
+        needs,
+        inl (free-empty V sound w.source node.sides.source (tag_of new_name) p has),
+      )
+
+      own-here : (p : FreePlace) → IsSecondRoom V s new_name (Some (record { j = p.j; q = p.at; b = p.block }))
+          → Arrives V (renamed_view V s (Some (record { j = p.j; q = p.at; b = p.block })) new_name now) w hit (Own (Some (Here p))) name new_name now
+      own-here p room =
+          let shows = renaming-shows V s (Some (record { j = p.j; q = p.at; b = p.block })) new_name now sound placed room in
+          record {
+            may = own-may;
+            shows = record { tree = shows.tree ∙ one-tree (tree_of V) hit.head.place; inodes = shows.inodes; hung = shows.hung };
+            form = record { numbers = refl; first_data = refl; data_blocks = refl };
+            tells = own-tells;
+          }
+
+      -- in a block that the directory gets
+      module _ (g : Growth) (has : HasGrowth V w.source.inode.head (tag_of new_name) g) where
+        abbrev K : Held
+        K = held_of (grown_head w.source.inode.head g) (name_from w.source.inode.bytes)
+
+        abbrev W : View
+        W = with_inode (with_growth V w.source.number g zero_block) w.source.number (used (held_of (grown_head w.source.inode.head g) (name_from w.source.inode.bytes)))
+
+        abbrev p : Position
+        p = record { j = g.j; q = 0; b = further_number g }
+
+        growth : IsGrowth V W w.source.number (held w.source.inode) K g.j
+        growth = growth-step V w.source.number w.source.inode (tag_of new_name) g sound node.sides.source.is node.sides.source.kind has
+
+        grown-room : IsSecondRoom W (record { d = w.source.number; h = K; at = home_position V w.source.inode.head hit; more = second_position hit; n = hit.number; g = held_of hit.head name }) new_name (Some p)
+        grown-room = (
+          growth-position V w.source.number w.source.inode (tag_of new_name) g sound node.sides.source.is node.sides.source.kind has 0 (omega arith),
+          has.block.block_for,
+          needs,
+          inl (ap (λ E. (E w.source.number (512 * g.j + 0)).number) (entries-step V W w.source.number (held w.source.inode) K sound growth.step)
+              ∙ hole-empty V sound w.source node.sides.source (tag_of new_name) g has 0 (omega arith)),
+        )
+
+        grown-view : with_move V w hit (Own (Some (Further g))) new_name now ≡ renamed_view W (record { d = w.source.number; h = K; at = home_position V w.source.inode.head hit; more = second_position hit; n = hit.number; g = held_of hit.head name }) (Some p) new_name now
+        grown-view =
+            ap (λ U. with_inode (with_inode U w.source.number (used (with_moment K now))) hit.number (used (rehomed (held_of hit.head name) (record { directory = hit.head.directory; place = hit.head.place; name = new_name }) now)))
+            (named-first V w.source.number w.source.inode (tag_of new_name) g sound node.sides.source.is node.sides.source.kind has (home_position V w.source.inode.head hit) (second_position hit) entry
+            (far-position V w.source.number w.source.inode (tag_of new_name) g sound node.sides.source.is node.sides.source.kind has w.source.number (held w.source.inode) (home_position V w.source.inode.head hit) node.sides.source.is placed.at)
+            (far-positions V w.source.number w.source.inode (tag_of new_name) g sound node.sides.source.is node.sides.source.kind has w.source.number (held w.source.inode) (second_position hit) node.sides.source.is (some-position V sound s placed)))
+            ∙ ap (λ U. with_inode U hit.number (used (rehomed (held_of hit.head name) (record { directory = hit.head.directory; place = hit.head.place; name = new_name }) now)))
+            (sym (
+            ap (λ U. with_inode U w.source.number (used (with_moment K now))) (named-inode (with_growth V w.source.number g zero_block) w.source.number (used K) (home_position V w.source.inode.head hit) (second_position hit) (Some p) entry)
+            ∙ inode-twice (with_new_name (with_growth V w.source.number g zero_block) (home_position V w.source.inode.head hit) (second_position hit) (Some p) entry) w.source.number (used K) (used (with_moment K now))))
+
+        own-further : Arrives V (renamed_view W (record { d = w.source.number; h = K; at = home_position V w.source.inode.head hit; more = second_position hit; n = hit.number; g = held_of hit.head name }) (Some p) new_name now) w hit (Own (Some (Further g))) name new_name now
+        own-further =
+            let shows = further-renames V W w.source.number (held w.source.inode) K g.j sound growth s placed (not_d V sound s placed) p new_name now refl refl grown-room in
+            record {
+              may = ((λ two. absurd (two one)), let low = has.block.few in omega (arith, low));
+              shows = record {
+                tree = shows.tree ∙ one-tree (tree_of V) (512 * g.j + 0) ∙ ap (λ l. moved (tree_of V) (move_in V w new_name) hit.number (node_in V hit name) l now) (let e : 512 * g.j + 0 ≡ 512 * g.j = omega arith in e);
+                inodes = shows.inodes;
+                hung = shows.hung;
+              };
+              form = record { numbers = growth.step.form.numbers; first_data = growth.step.form.first_data; data_blocks = growth.step.form.data_blocks };
+              tells = one-tells (512 * g.j) (moved_head (grown_head w.source.inode.head g) now) (moved_head (grown_head w.goal.inode.head g) now) (side-grown V sound w.source node.sides.source now g) (side-grown V sound w.goal node.sides.goal now g);
+            }
 
   -- ── in another directory ──
 
   apart-tells : w.source.number ≢ w.goal.number → (place : ℕ) (head : Head) → told w.goal.number (opened place now (node_of V (held w.goal.inode))) ≡ told_of w.goal.number head
       → record { source = changed_told w.source.number w.source.inode.head (moved_head w.source.inode.head now); goal = changed_told w.goal.number w.goal.inode.head head } ≡ both_changed (move_in V w new_name) place now
   apart-tells apart place head is = λ i. record {
-    source = record { before = source-told i; after = source-touched i };
-    goal = record {
-      before = goal-told i;
-      after = (sym is ∙ sym (ap (λ b. told w.goal.number (cond b (touched now (node_of V (held w.goal.inode))) (opened place now (node_of V (held w.goal.inode))))) (ne_eqb w.source.number w.goal.number apart))) i;
+    source = record {
+      before = source-told i;
+      after = (source-touched ∙ sym (ap (λ b. told w.source.number (cond b (opened place now (node_of V (held w.source.inode))) (touched now (node_of V (held w.source.inode))))) (ne_eqb w.source.number w.goal.number apart))) i;
     };
+    goal = record { before = goal-told i; after = sym is i };
   }
 
   -- at a place that it has
-  module _ (apart : IsApart w hit) (p : FreePlace) (has : HasPlaceOf V w.goal.inode.head.blocks p) where
+  module _ (apart : IsApart w hit) (p : FreePlace) (has : HasPlaceOf V w.goal.inode.head (tag_of new_name) p) where
     abbrev t : Goal
-    t = record { e = w.goal.number; h = held w.goal.inode; j = has.j; q = p.at }
+    t = record { e = w.goal.number; h = held w.goal.inode; at = record { j = p.j; q = p.at; b = p.block }; more = None }
 
-    t_is : IsGoal V t
+    t_is : IsGoal V t new_name
     t_is = record {
       is = node.sides.goal.is;
       kind = node.sides.goal.kind;
-      there = has.is.there;
-      low = has.is.low;
-      empty = ap (λ (e : Entry). e.number) (entry-there V w.goal.number (held w.goal.inode) has.j p.at node.sides.goal.is node.sides.goal.kind has.is.there has.is.low) ∙ has.is.empty;
+      at = free-is V sound w.goal node.sides.goal (tag_of new_name) p has;
+      empty = free-empty V sound w.goal node.sides.goal (tag_of new_name) p has;
+      more = has.block_for;
     }
-
-    here-view : with_move V w hit (Into (Here p)) new_name now ≡ moved_view V s t new_name now
-    here-view = λ i. with_inode (with_inode (with_inode (with_put (with_put V (block_is i) (at_is i) no_entry) (has.is.block i) p.at (named_entry hit.number new_name))
-        w.source.number (used (with_moment (held w.source.inode) now))) w.goal.number (used (with_moment (held w.goal.inode) now)))
-        hit.number (used (rehomed (held_of hit.head name) (record { directory = w.goal.number; place = has.is.place i; name = new_name }) now))
 
     here-arrives : Arrives V (moved_view V s t new_name now) w hit (Into (Here p)) name new_name now
     here-arrives =
         let shown = moving-shows V s t new_name now sound placed t_is apart.apart apart.other in
         record {
-          may = subst (λ p. MayTakePlace (tree_of V) w.goal.number (Some p)) (sym has.is.place) shown.0;
-          shows = record {
-            tree = shown.1.tree ∙ ap (λ p. moved (tree_of V) (move_in V w new_name) hit.number (node_in V hit name) p now) (sym has.is.place);
-            inodes = shown.1.inodes;
-            hung = shown.1.hung;
-          };
+          may = shown.0;
+          shows = shown.1;
           form = record { numbers = refl; first_data = refl; data_blocks = refl };
-          tells = apart-tells apart.apart p.place (moved_head w.goal.inode.head now) (
-              ap (λ p. told w.goal.number (opened p now (node_of V (held w.goal.inode)))) has.is.place
-              ∙ side-opened V sound w.goal node.sides.goal now (goal_place t) (place-inside V sound w.goal node.sides.goal has.j p.at has.is.there has.is.low));
+          tells = apart-tells apart.apart (here_number p) (moved_head w.goal.inode.head now) (
+              side-opened V sound w.goal node.sides.goal now (here_number p) (position-inside V w.goal.number (held w.goal.inode) (record { j = p.j; q = p.at; b = p.block }) (sound.inodes w.goal.number (held w.goal.inode) node.sides.goal.is) node.sides.goal.kind
+              (free-is V sound w.goal node.sides.goal (tag_of new_name) p has)));
         }
 
   -- at the first place of a block that it gets
-  module _ (apart : IsApart w hit) (b : FreeBlock) (further : HasFurther V w.goal.inode.head b) where
-    abbrev g : Growth
-    g = record { d = w.goal.number; h = held w.goal.inode; j = b.j; b = b.block }
+  module _ (apart : IsApart w hit) (g : Growth) (has : HasGrowth V w.goal.inode.head (tag_of new_name) g) where
+    abbrev K2 : Held
+    K2 = held_of (grown_head w.goal.inode.head g) (name_from w.goal.inode.bytes)
 
-    whole : w.goal.inode.head.size ≡ 4096 * b.j
-    whole = let i = (sound.inodes w.goal.number (held w.goal.inode) node.sides.goal.is).whole node.sides.goal.kind in let e = i.1 in let n = further.next in omega (arith, e, n)
+    abbrev W2 : View
+    W2 = with_inode (with_growth V w.goal.number g zero_block) w.goal.number (used (held_of (grown_head w.goal.inode.head g) (name_from w.goal.inode.bytes)))
 
-    growth : IsGrowth V g
-    growth = record {
-      is = node.sides.goal.is;
+    abbrev t2 : Goal
+    t2 = record { e = w.goal.number; h = held_of (grown_head w.goal.inode.head g) (name_from w.goal.inode.bytes); at = record { j = g.j; q = 0; b = further_number g }; more = None }
+
+    growth2 : IsGrowth V W2 w.goal.number (held w.goal.inode) K2 g.j
+    growth2 = growth-step V w.goal.number w.goal.inode (tag_of new_name) g sound node.sides.goal.is node.sides.goal.kind has
+
+    t2_is : IsGoal W2 t2 new_name
+    t2_is = record {
+      is = growth2.step.new;
       kind = node.sides.goal.kind;
-      next = whole;
-      few = (let l = further.few in omega (arith, l));
-      some = (λ e. let l = further.is.from in let n = sound.no_data in absurd (omega (arith, e, l, n)));
-      from = further.is.from;
-      to = further.is.to;
-      unowned = further.is.unowned;
+      at = growth-position V w.goal.number w.goal.inode (tag_of new_name) g sound node.sides.goal.is node.sides.goal.kind has 0 (omega arith);
+      empty = ap (λ E. (E w.goal.number (512 * g.j + 0)).number) (entries-step V W2 w.goal.number (held w.goal.inode) K2 sound growth2.step)
+          ∙ hole-empty V sound w.goal node.sides.goal (tag_of new_name) g has 0 (omega arith);
+      more = has.block.block_for;
     }
 
-    first_is : 512 * b.j ≡ 512 * b.j + 0
+    first_is : 512 * g.j ≡ 512 * g.j + 0
     first_is = omega arith
 
-    grown-is : held_of (moved_head (with_further w.goal.inode.head b.j b.block) now) (name_from w.goal.inode.bytes) ≡ with_moment (grown_held g) now
-    grown-is = λ z. record {
-      generation = w.goal.inode.head.generation;
-      attributes = with_times w.goal.inode.head.attributes (time_of_names w.goal.inode.head.attributes now);
-      home = record { directory = w.goal.inode.head.directory; place = w.goal.inode.head.place; name = name_from w.goal.inode.bytes };
-      kind = w.goal.inode.head.kind;
-      size = 4096 * (b.j + 1);
-      blocks = λ i. get-set w.goal.inode.head.blocks b.j b.block i (let l = further.few in let n = further.all in omega (arith, l, n)) z;
-      index = w.goal.inode.head.index;
-    }
-
-    further-is-view : with_move V w hit (Into (Further b)) new_name now ≡ moved_view (grown_view V g) s (further_goal g 0) new_name now
-    further-is-view =
-        (λ i. with_inode (with_inode (with_inode (with_owner (with_block (with_put V (block_is i) (at_is i) no_entry) b.block (with_entry zero_block 0 (named_entry hit.number new_name))) b.block (owner_of w.goal.number b.j))
-        w.source.number (used (with_moment (held w.source.inode) now))) w.goal.number (used (grown-is i)))
+    further-view : with_move V w hit (Into (Further g)) new_name now ≡ moved_view W2 s t2 new_name now
+    further-view =
+        ap (λ U. with_inode (with_inode (with_inode U w.source.number (used (with_moment (held w.source.inode) now))) w.goal.number (used (with_moment K2 now))) hit.number (used (rehomed (held_of hit.head name) (record { directory = w.goal.number; place = 512 * g.j; name = new_name }) now)))
+        (puts-first V w.goal.number w.goal.inode (tag_of new_name) g sound node.sides.goal.is node.sides.goal.kind has (home_position V w.source.inode.head hit) (second_position hit) no_entry entry
+        (far-position V w.goal.number w.goal.inode (tag_of new_name) g sound node.sides.goal.is node.sides.goal.kind has w.source.number (held w.source.inode) (home_position V w.source.inode.head hit) node.sides.source.is placed.at)
+        (far-positions V w.goal.number w.goal.inode (tag_of new_name) g sound node.sides.goal.is node.sides.goal.kind has w.source.number (held w.source.inode) (second_position hit) node.sides.source.is (some-position V sound s placed)))
+        ∙ (λ i. with_inode (
+        sym (
+        ap (λ U. with_inode (with_inode U w.source.number (used (with_moment (held w.source.inode) now))) w.goal.number (used (with_moment K2 now)))
+        (ap (λ U. with_puts U (record { j = g.j; q = 0; b = further_number g }) None entry) (puts-inode (with_growth V w.goal.number g zero_block) w.goal.number (used K2) (home_position V w.source.inode.head hit) (second_position hit) no_entry)
+        ∙ puts-inode (with_puts (with_growth V w.goal.number g zero_block) (home_position V w.source.inode.head hit) (second_position hit) no_entry) w.goal.number (used K2) (record { j = g.j; q = 0; b = further_number g }) None entry)
+        ∙ inode-around (with_puts (with_puts (with_growth V w.goal.number g zero_block) (home_position V w.source.inode.head hit) (second_position hit) no_entry) (record { j = g.j; q = 0; b = further_number g }) None entry) w.source.number w.goal.number (used K2)
+        (used (with_moment (held w.source.inode) now)) (used (with_moment K2 now))) i)
         hit.number (used (rehomed (held_of hit.head name) (record { directory = w.goal.number; place = first_is i; name = new_name }) now)))
-        ∙ sym (further-view V g s 0 new_name now sound growth placed)
 
-    further-arrives : Arrives V (moved_view (grown_view V g) s (further_goal g 0) new_name now) w hit (Into (Further b)) name new_name now
+    further-arrives : Arrives V (moved_view W2 s t2 new_name now) w hit (Into (Further g)) name new_name now
     further-arrives =
-        let shows = further-moves V sound g growth 0 (omega arith) s placed apart.apart apart.other new_name now in
+        let shows = further-moves V W2 w.goal.number (held w.goal.inode) K2 g.j sound growth2 s placed apart.other t2 new_name now apart.apart refl refl t2_is in
         record {
-          may = subst (λ p. MayTakePlace (tree_of V) w.goal.number (Some p)) (sym first_is) (further-free V sound g growth 0 (omega arith));
+          may = subst (λ p. MayTakePlace (tree_of V) w.source.number w.goal.number (Some p)) (sym first_is)
+              (further-free V W2 w.goal.number (held w.goal.inode) K2 g.j sound growth2 w.source.number 0 (omega arith) (hole-empty V sound w.goal node.sides.goal (tag_of new_name) g has 0 (omega arith)));
           shows = record {
             tree = shows.tree ∙ ap (λ p. moved (tree_of V) (move_in V w new_name) hit.number (node_in V hit name) p now) (sym first_is);
             inodes = shows.inodes;
             hung = shows.hung;
           };
-          form = record { numbers = refl; first_data = refl; data_blocks = refl };
-          tells = apart-tells apart.apart (512 * b.j) (moved_head (with_further w.goal.inode.head b.j b.block) now) (
-              ap (λ p. told w.goal.number (opened p now (node_of V (held w.goal.inode)))) first_is
-              ∙ side-grown V sound w.goal node.sides.goal now b whole);
+          form = record { numbers = growth2.step.form.numbers; first_data = growth2.step.form.first_data; data_blocks = growth2.step.form.data_blocks };
+          tells = apart-tells apart.apart (512 * g.j) (moved_head (grown_head w.goal.inode.head g) now) (side-grown V sound w.goal node.sides.goal now g);
         }
 
   -- ── over a node ──
 
   module _ (over : Hit) (replaced : IsReplaced V w hit new_name over) where
     abbrev r : Seat
-    r = record { d = w.goal.number; h = held w.goal.inode; j = replaced.found.j; q = replaced.found.is.inside.at; n = over.number; g = held_of over.head new_name }
+    r = seat_of V w.goal.number w.goal.inode over new_name
 
     over_placed : IsPlaced V r
-    over_placed = seat-is V sound w.goal node.sides.goal new_name over replaced.found
+    over_placed = seat-is V w.goal.number w.goal.inode new_name over sound node.sides.goal.is node.sides.goal.kind replaced.found
 
     r_is : IsSeat V r
-    r_is = record {
-      is = over_placed.is;
-      kind = over_placed.kind;
-      there = over_placed.there;
-      low = over_placed.low;
-      names = over_placed.names;
-      some = over_placed.some;
-      node = over_placed.node;
-      bare = replaced.bare;
-    }
-
-    over_block : over.block ≡ get_or w.goal.inode.head.blocks replaced.found.j 0
-    over_block = replaced.found.is.inside.is.block
-
-    over_at : over.at ≡ replaced.found.is.inside.at
-    over_at = replaced.found.is.inside.is.place
+    r_is = record { placed = over_placed; bare = replaced.bare }
 
     two : hit.number ≢ over.number
     two e = replaced.other (sym e)
 
     module _ (one : w.source.number ≡ w.goal.number) where
-      own-over-view : with_move V w hit (OwnOver over) new_name now ≡ renamed_view (dropped_view V r) s new_name now
-      own-over-view = λ i. with_inode (with_inode (with_inode (with_put (with_put V (over_block i) (over_at i) no_entry) (block_is i) (at_is i) (named_entry hit.number new_name)) over.number (free over.head.generation))
-          w.source.number (used (with_moment (held w.source.inode) now))) hit.number (used (rehomed (held_of hit.head name) own_home now))
+      own-over-view : (more : Option Position)
+          → with_inode (with_inode (with_inode (with_new_name (without_over V w over) (home_position V w.source.inode.head hit) (second_position hit) more entry) over.number (free over.head.generation))
+          w.source.number (used (with_moment (held w.source.inode) now))) hit.number (used (rehomed (held_of hit.head name) (record { directory = hit.head.directory; place = hit.head.place; name = new_name }) now))
+          ≡ renamed_view (dropped_view V r) s more new_name now
+      own-over-view more = ap (λ U. with_inode (with_inode U w.source.number (used (with_moment (held w.source.inode) now))) hit.number (used (rehomed (held_of hit.head name) (record { directory = hit.head.directory; place = hit.head.place; name = new_name }) now)))
+          (sym (named-inode (without_over V w over) over.number (free over.head.generation) (home_position V w.source.inode.head hit) (second_position hit) more entry))
 
-      own-over-arrives : Arrives V (renamed_view (dropped_view V r) s new_name now) w hit (OwnOver over) name new_name now
-      own-over-arrives =
-          let shows = replacing-renames V sound r r_is s placed two new_name now in
+      same-position : (p : Position) (o : Option Position) → store_position p o ≡ position_or p o
+      same-position p None = refl
+      same-position p (Some q) = refl
+
+      over-room : (needs : Bool) → NeedsSecond (tag_of new_name) hit needs → IsSecondRoom (dropped_view V r) s new_name (position_over V w over needs)
+      over-room false block = block
+      over-room true needs = subst (λ p. IsSecondRoom (dropped_view V r) s new_name (Some p)) (same-position (home_position V w.goal.inode.head over) (second_position over))
+          (dropped-room V sound r r_is s placed two new_name refl one (same-inode one) needs)
+
+      own-over-arrives : (needs : Bool) → NeedsSecond (tag_of new_name) hit needs → Arrives V (renamed_view (dropped_view V r) s (position_over V w over needs) new_name now) w hit (OwnOver over needs) name new_name now
+      own-over-arrives needs second =
+          let shows = replacing-renames V sound r r_is s placed two (position_over V w over needs) new_name now (over-room needs second) in
           record {
             may = tt;
-            shows = record { tree = shows.tree ∙ one-tree one (with_node (tree_of V) over.number None); inodes = shows.inodes; hung = shows.hung };
+            shows = record { tree = shows.tree ∙ one-tree one (with_node (tree_of V) over.number None) hit.head.place; inodes = shows.inodes; hung = shows.hung };
             form = record { numbers = refl; first_data = refl; data_blocks = refl };
-            tells = one-tells one hit.head.place;
+            tells = own-tells one;
           }
 
     module _ (apart : IsApart w hit) where
       place_is : over.head.place ≡ seat_place r
-      place_is = at_place V sound r over_placed
+      place_is = over_placed.place
 
       onto-is : with_move V w hit (Onto over) new_name now ≡ moved_view (dropped_view V r) s (goal_of r) new_name now
       onto-is =
-          (λ i. with_inode (with_inode (with_inode (with_inode (with_put (with_put V (block_is i) (at_is i) no_entry) (over_block i) (over_at i) (named_entry hit.number new_name)) over.number (free over.head.generation))
+          (λ i. with_inode (with_inode (with_inode (
+          sym (
+          ap (λ U. with_puts U (home_position V w.goal.inode.head over) (second_position over) entry) (puts-inode (without_over V w over) over.number (free over.head.generation) (home_position V w.source.inode.head hit) (second_position hit) no_entry)
+          ∙ puts-inode (with_puts (without_over V w over) (home_position V w.source.inode.head hit) (second_position hit) no_entry) over.number (free over.head.generation) (home_position V w.goal.inode.head over) (second_position over) entry) i)
           w.source.number (used (with_moment (held w.source.inode) now))) w.goal.number (used (with_moment (held w.goal.inode) now)))
           hit.number (used (rehomed (held_of hit.head name) (record { directory = w.goal.number; place = place_is i; name = new_name }) now)))
-          ∙ sym (onto-view V r s new_name now sound r_is placed apart.apart)
 
       onto-arrives : Arrives V (moved_view (dropped_view V r) s (goal_of r) new_name now) w hit (Onto over) name new_name now
       onto-arrives =
-          let shows = replacing-moves V sound r r_is s placed two new_name now apart.apart apart.other in
+          let shows = replacing-moves V sound r r_is s placed two new_name now refl apart.apart apart.other in
           record {
             may = tt;
             shows = record {
@@ -372,19 +461,22 @@ module _ (V : View) (sound : IsSoundView V) (w : Way) (hit : Hit) (name new_name
             };
             form = record { numbers = refl; first_data = refl; data_blocks = refl };
             tells = apart-tells apart.apart over.head.place (moved_head w.goal.inode.head now) (
-                ap (λ p. told w.goal.number (opened p now (node_of V (held w.goal.inode)))) place_is
-                ∙ side-opened V sound w.goal node.sides.goal now (seat_place r) (place-inside V sound w.goal node.sides.goal replaced.found.j replaced.found.is.inside.at over_placed.there over_placed.low));
+                side-opened V sound w.goal node.sides.goal now over.head.place (subst (λ p. p < w.goal.inode.head.size / 8) (sym place_is)
+                (position-inside V w.goal.number (held w.goal.inode) (home_position V w.goal.inode.head over) (sound.inodes w.goal.number (held w.goal.inode) node.sides.goal.is) node.sides.goal.kind over_placed.at)));
           }
 
   -- ── wherever it goes ──
 
   module _ (W : View) where
     pub arrives : (to : Destination) → IsDestination V w hit new_name to → W ≡ with_move V w hit to new_name now → Arrives V W w hit to name new_name now
-    arrives Own one goes = subst (λ W. Arrives V W w hit Own name new_name now) (sym (goes ∙ own-view one)) (own-arrives one)
-    arrives (OwnOver over) is goes = subst (λ W. Arrives V W w hit (OwnOver over) name new_name now) (sym (goes ∙ own-over-view over is.1 is.0)) (own-over-arrives over is.1 is.0)
+    arrives (Own None) is goes = subst (λ W. Arrives V W w hit (Own None) name new_name now) (sym goes) (own-alone is.0 is.1)
+    arrives (Own (Some (Here p))) is goes = subst (λ W. Arrives V W w hit (Own (Some (Here p))) name new_name now) (sym goes) (own-here is.0 is.1.0 p (room-is is.0 is.1.0 (Here p) is.1.1))
+    arrives (Own (Some (Further g))) is goes = subst (λ W. Arrives V W w hit (Own (Some (Further g))) name new_name now) (sym (goes ∙ grown-view is.0 is.1.0 g (room-is is.0 is.1.0 (Further g) is.1.1)))
+        (own-further is.0 is.1.0 g (room-is is.0 is.1.0 (Further g) is.1.1))
+    arrives (OwnOver over needs) is goes = subst (λ W. Arrives V W w hit (OwnOver over needs) name new_name now) (sym (goes ∙ own-over-view over is.1.1 is.0 (position_over V w over needs))) (own-over-arrives over is.1.1 is.0 needs is.1.0)
     arrives (Onto over) is goes = subst (λ W. Arrives V W w hit (Onto over) name new_name now) (sym (goes ∙ onto-is over is.1 is.0)) (onto-arrives over is.1 is.0)
-    arrives (Into (Here p)) is goes = subst (λ W. Arrives V W w hit (Into (Here p)) name new_name now) (sym (goes ∙ here-view is.0 p is.1)) (here-arrives is.0 p is.1)
-    arrives (Into (Further b)) is goes = subst (λ W. Arrives V W w hit (Into (Further b)) name new_name now) (sym (goes ∙ further-is-view is.0 b is.1)) (further-arrives is.0 b is.1)
+    arrives (Into (Here p)) is goes = subst (λ W. Arrives V W w hit (Into (Here p)) name new_name now) (sym goes) (here-arrives is.0 p is.1)
+    arrives (Into (Further g)) is goes = subst (λ W. Arrives V W w hit (Into (Further g)) name new_name now) (sym (goes ∙ further-view is.0 g is.1)) (further-arrives is.0 g is.1)
 
   -- a sound disk has times
   pub times-are : AreTimes w hit

@@ -22,19 +22,34 @@ use Rattle.journal_treestore.specs.Entries.{with_entry, tag_of}
 use Rattle.journal_treestore.specs.Views.{Seen, View, with_inode, with_block, held_of, body_of, node_of, slot_of, tree_of}
 use Rattle.journal_treestore.specs.Views.Seen.{used}
 use Rattle.journal_treestore.specs.Sound.{IsSoundView}
-use Rattle.journal_treestore.specs.Steps.{with_moment, Spot, place_of, IsSpot, new_held, new_body, new_node as spot_node, planted_view, Shows}
+use Rattle.journal_treestore.specs.Positions.{IsPosition}
+use Rattle.journal_treestore.specs.Steps.{with_moment, Spot, place_of, IsSpot, new_held, new_body, new_node as spot_node, planted_view, IsSameForm, IsUnowned, Shows}
 use Rattle.journal_treestore.proofs.Planting.{planting-shows, inside}
 use Rattle.journal_treestore.proofs.Keeping.{calls-stay-sound}
 use Rattle.journal_treecalls.specs.declared.node.Record.{Record}
 use Rattle.journal_treecalls.specs.declared.creation.NewNode.{NewNode}
 use Rattle.journal_treecalls.specs.declared.room.FreeNumber.{FreeNumber}
 use Rattle.journal_treecalls.specs.declared.room.FreePlace.{FreePlace}
+use Rattle.journal_treecalls.specs.declared.room.NewPlace.{NewPlace}
 use Rattle.journal_treecalls.specs.declared.room.NewPlace.TheVariants.{Here}
 use Rattle.journal_treecalls.specs.Targets.{held, told_of, IsNode}
 use Rattle.journal_treecalls.specs.Names.{moved}
-use Rattle.journal_treecalls.specs.Rooms.{new_head, HasFreeNumber, HasPlaceOf, with_new, made_of}
+use Rattle.journal_treecalls.specs.Rooms.{new_head, new_entry, here_number, HasFreeNumber, HasPlaceOf, with_new, made_of}
+use Rattle.journal_treecalls.specs.Symlinks.{IsApart}
 use Rattle.journal_treecalls.proofs.Cases.{node-told}
-use Rattle.journal_treecalls.proofs.Searching.{entry-there}
+use Rattle.journal_treecalls.proofs.Searching.{own, entry-of-block}
+
+-- A node is put at a place of a sound disk, which is the one that was there, or that with a block
+-- that the directory gets
+pub record Ground (V W : View) (d : ℕ) (name : List ℕ) (new : NewNode) (now : Time) (f : FreeNumber) (p : NewPlace) : Type 0 where
+  pub base : View
+  pub spot : Spot
+  pub sound : IsSoundView base
+  pub is_spot : IsSpot base spot name
+  pub view : W ≡ planted_view base spot name new.attributes new.kind new.size now
+  pub form : IsSameForm V base
+  pub number : spot.n ≡ f.number
+  pub unowned : (b : ℕ) → b ≢ 0 → IsUnowned V b → IsApart p b → IsUnowned base b
 
 -- A new node: the room that it took, the answer of a call that makes it, and that the disk after
 -- such a call is sound
@@ -63,32 +78,36 @@ told-born n s name new d place f plain = by new.kind refl
 
 module _ (V W : View) (h : Handle) (r : Record) (name : List ℕ) (new : NewNode) (now : Time) (reply : Made)
     (sound : IsSoundView V) (node : IsNode V h r) (kind : r.head.kind ≡ Directory) (plain : new.kind ≡ Directory → new.size ≡ 0)
-    (f : FreeNumber) (p : FreePlace) (is_free : HasFreeNumber V f) (is_place : HasPlaceOf V r.head.blocks p)
+    (f : FreeNumber) (p : FreePlace) (is_free : HasFreeNumber V f) (is_place : HasPlaceOf V r.head (tag_of name) p)
     (view_is : W ≡ with_new V h.number r f p name new now) (is : reply ≡ made_of h.number r f (Here p) new now) where
   abbrev spot : Spot
-  spot = record { d = h.number; h = held r; j = is_place.j; q = p.at; n = f.number; generation = f.generation }
+  spot = record { d = h.number; h = held r; at = record { j = p.j; q = p.at; b = p.block }; n = f.number; generation = f.generation }
 
-  there : get_or r.head.blocks is_place.j 0 ≢ 0
-  there = is_place.is.there
+  at-place : IsPosition V (held r) (record { j = p.j; q = p.at; b = p.block })
+  at-place = record {
+    is = own V h.number r name sound node.is kind p.j ∙ sym is_place.is.block;
+    some = λ e. is_place.is.there (sym is_place.is.block ∙ e);
+    low = is_place.is.low;
+  }
 
-  is_spot : IsSpot V spot
+  is_spot : IsSpot V spot name
   is_spot = record {
     is = node.is;
     kind = kind;
-    there = there;
-    low = is_place.is.low;
-    empty = ap (λ (e : Entry). e.number) (entry-there V h.number (held r) is_place.j p.at node.is kind there is_place.is.low) ∙ is_place.is.empty;
+    at = at-place;
+    block = is_place.block_for;
+    empty = ap (λ (e : Entry). e.number) (entry-of-block V h.number r name sound node.is kind p.j p.at is_place.is.there is_place.is.low) ∙ is_place.is.empty;
     free_is = is_free.is;
     some = is_free.some;
     on_disk = is_free.on_disk;
     young = is_free.young;
   }
 
-  new-is : held_of (new_head h.number f p.place new) name ≡ new_held spot name new.attributes new.kind new.size
+  new-is : held_of (new_head h.number f (here_number p) new) name ≡ new_held spot name new.attributes new.kind new.size
   new-is = λ i. record {
     generation = f.generation + 1;
     attributes = new.attributes;
-    home = record { directory = h.number; place = is_place.is.place i; name = name };
+    home = record { directory = h.number; place = here_number p; name = name };
     kind = new.kind;
     size = new.size;
     blocks = λ j. zeros-get 48 j i;
@@ -98,8 +117,7 @@ module _ (V W : View) (h : Handle) (r : Record) (name : List ℕ) (new : NewNode
   view : W ≡ planted_view V spot name new.attributes new.kind new.size now
   view =
       view_is
-      ∙ ap (λ b. with_inode (with_inode (with_block V b (with_entry (V.block b) p.at (record { number = f.number; tag = tag_of name }))) h.number (used (with_moment (held r) now))) f.number (used (held_of (new_head h.number f p.place new) name))) is_place.is.block
-      ∙ ap (λ x. with_inode (with_inode (with_block V (spot.h.blocks spot.j) (with_entry (V.block (spot.h.blocks spot.j)) p.at (record { number = f.number; tag = tag_of name }))) h.number (used (with_moment (held r) now))) f.number (used x)) new-is
+      ∙ ap (λ x. with_inode (with_inode (with_block V p.block (with_entry (V.block p.block) p.at (new_entry f name))) h.number (used (with_moment (held r) now))) f.number (used x)) new-is
 
   shown : IsRoom (tree_of V) h.number (record { number = f.number; place = place_of spot })
       × Shows (planted_view V spot name new.attributes new.kind new.size now) (planted (touch_place (tree_of V) h.number (place_of spot) now) f.number (spot_node spot name new.attributes new.kind new.size))
@@ -115,7 +133,7 @@ module _ (V W : View) (h : Handle) (r : Record) (name : List ℕ) (new : NewNode
   same-size : size_of (grown_body (place_of spot) (body_of V r.head.kind (held r))) ≡ size_of (body_of V r.head.kind (held r))
   same-size =
       ap (λ k. size_of (grown_body (place_of spot) (body_of V k (held r)))) kind
-      ∙ ap (λ b. 8 * cond b (r.head.size / 8) (512 * (place_of spot / 512 + 1))) (lt-ltb (place_of spot) (r.head.size / 8) (inside V sound spot is_spot))
+      ∙ ap (λ b. 8 * cond b (r.head.size / 8) (512 * (place_of spot / 512 + 1))) (lt-ltb (place_of spot) (r.head.size / 8) (inside V sound spot name is_spot))
       ∙ sym (ap (λ k. size_of (body_of V k (held r))) kind)
 
   same-kind : kind_of (grown_body (place_of spot) (body_of V r.head.kind (held r))) ≡ kind_of (body_of V r.head.kind (held r))
@@ -136,7 +154,7 @@ module _ (V W : View) (h : Handle) (r : Record) (name : List ℕ) (new : NewNode
       ∙ (λ i. (
         Ok (record {
           generation = f.generation + 1;
-          node = sym (told-born f.number spot name new h.number p.place f plain) i;
+          node = sym (told-born f.number spot name new h.number (here_number p) f plain) i;
           directory = record { before = sym told-before i; after = sym told-after i };
         }),
         shown.1.tree i,
@@ -160,3 +178,15 @@ module _ (V W : View) (h : Handle) (r : Record) (name : List ℕ) (new : NewNode
 
   pub birth-here : Birth V W h r name new now reply
   birth-here = record { room = room; has_room = shown.0; outcome = outcome; stays = stays-sound }
+
+  pub ground-here : Ground V W h.number name new now f (Here p)
+  ground-here = record {
+    base = V;
+    spot = spot;
+    sound = sound;
+    is_spot = is_spot;
+    view = view;
+    form = record { numbers = refl; first_data = refl; data_blocks = refl };
+    number = refl;
+    unowned = λ b some is apart. is;
+  }

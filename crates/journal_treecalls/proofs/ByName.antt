@@ -64,7 +64,7 @@ module _ {A : Type 0} (V : View) where
     at-missed n sound is missed =
         at-named n is
         ∙ at-none (find (tree_of V) h.number name) (none h.number (node_of V (held n.directory))) (some h.number (node_of V (held n.directory)))
-        (hit-missed V h.number n.directory name sound is.searched.node.is is.searched.kind (subst (λ o. Rattle.journal_treecalls.specs.Targets.Hits V n.directory.head.blocks name o) missed is.hits))
+        (hit-missed V h.number n.directory name sound is.searched.node.is is.searched.kind (subst (λ o. Rattle.journal_treecalls.specs.Targets.Hits V n.directory.head name o) missed is.hits))
 
     pub at-hit : (n : Named) (hit : Hit) → IsSoundView V → IsNamed V c h name n → n.hit ≡ Some hit
         → named c name a b (tree_of V) (target (tree_of V) h) none some ≡ some h.number (node_of V (held n.directory)) hit.number (node_of V (held_of hit.head name))
@@ -73,5 +73,5 @@ module _ {A : Type 0} (V : View) where
         ∙ at-some (find (tree_of V) h.number name) hit.number (held_of hit.head name) (none h.number (node_of V (held n.directory))) (some h.number (node_of V (held n.directory)))
         (hit-found V h.number n.directory name sound is.searched.node.is is.searched.kind hit hits) hits.is.inside.is.inode
       where
-        hits : Rattle.journal_treecalls.specs.Targets.IsHit V n.directory.head.blocks name hit
-        hits = subst (λ o. Rattle.journal_treecalls.specs.Targets.Hits V n.directory.head.blocks name o) here is.hits
+        hits : Rattle.journal_treecalls.specs.Targets.IsHit V n.directory.head name hit
+        hits = subst (λ o. Rattle.journal_treecalls.specs.Targets.Hits V n.directory.head name o) here is.hits

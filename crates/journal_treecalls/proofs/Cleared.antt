@@ -21,7 +21,7 @@ use Rattle.journal_treecalls.specs.declared.named.Named.{Named}
 use Rattle.journal_treecalls.specs.Disks.{Write, written, Learns, Does}
 use Rattle.journal_treecalls.specs.Targets.{held}
 use Rattle.journal_treecalls.specs.Names.{IsNamed, IsNameFor, TakesOut}
-use Rattle.journal_treecalls.specs.Directories.{IsEntryOfBlocks, rmdir_status, RemovesBare, RemovesDirectoryHit, IsRmdir, RemovesDirectory}
+use Rattle.journal_treecalls.specs.Directories.{IsEntryOf, rmdir_status, RemovesBare, RemovesDirectoryHit, IsRmdir, RemovesDirectory}
 use Rattle.journal_treecalls.specs.Directories.IsBareRemoval.{full, taken}
 use Rattle.journal_treecalls.specs.Directories.IsDirectoryRemoval.{kept, tried}
 use Rattle.journal_treecalls.specs.Directories.IsRmdir.{missed, found as there}
@@ -29,14 +29,14 @@ use Rattle.journal_treecalls.proofs.Learning.{does-reads}
 use Rattle.journal_treecalls.proofs.Learned.{AreSound}
 use Rattle.journal_treecalls.proofs.Clearing.{rmdir-unnamed, rmdir-missed, rmdir-refused, rmdir-full, rmdir-done, rmdir-sound}
 
-module _ (first old : View → Type 0) (d : ℕ) (r : Record) (hit : Hit) (now : Time) (o : Option ℕ) (l : Learns first old (λ V. IsEntryOfBlocks V hit.head.blocks o)) where
+module _ (first old : View → Type 0) (d : ℕ) (r : Record) (hit : Hit) (now : Time) (o : Option ℕ) (l : Learns first old (λ V. IsEntryOf V hit.head o)) where
   pub bare-full : (ws : List Write) (m : ℕ) → ws ≡ [] → o ≡ Some m → RemovesBare first old ws d r hit now (Err NotEmpty)
-  bare-full ws m none is = record { same = l.before; is = λ time V m2. full m (subst (IsEntryOfBlocks V hit.head.blocks) is (l.now V m2)) (ap (λ ws. written ws V) none) }
+  bare-full ws m none is = record { same = l.before; is = λ time V m2. full m (subst (IsEntryOf V hit.head) is (l.now V m2)) (ap (λ ws. written ws V) none) }
 
   pub bare-taken : (new : View → Type 0) (ws : List Write) (changed : Changed) → o ≡ None → TakesOut old new ws d r hit now changed → RemovesBare first new ws d r hit now (Ok changed)
   bare-taken new ws changed is t = record {
     same = λ V m. l.before V (t.same V m);
-    is = λ time V m. taken changed (subst (IsEntryOfBlocks V hit.head.blocks) is (l.now V (t.same V m))) (t.written_is time V m) (t.told time);
+    is = λ time V m. taken changed (subst (IsEntryOf V hit.head) is (l.now V (t.same V m))) (t.written_is time V m) (t.told time);
   }
 
 pub dir-kept : (may : View → Type 0) (ws : List Write) (c : Caller) (d : ℕ) (r : Record) (hit : Hit) (now : Time) (o : Option Status) (status : Status) → ws ≡ [] → o ≡ rmdir_status c r.head hit.head → o ≡ Some status → RemovesDirectoryHit may may ws c d r hit now (Err status)

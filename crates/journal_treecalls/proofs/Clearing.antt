@@ -1,6 +1,6 @@
 -- RMDIR of a directory without entries.
 use Rattle.std.proofs.Common.{◌≡◌, ℕ, Bool, true, false, not, cond, List, Some, None, Ok, Err, refl, sym, ap, subst, ◌∙◌}
-use Rattle.std.specs.Prelude.{◌&&◌, is_some, length}
+use Rattle.std.specs.Prelude.{◌&&◌, is_some}
 use Rattle.journal_tree.specs.declared.time.Time.{Time}
 use Rattle.journal_tree.specs.declared.reply.Changed.{Changed}
 use Rattle.journal_tree.specs.declared.reply.Handle.{Handle}
@@ -26,10 +26,10 @@ use Rattle.journal_treecalls.specs.declared.search.Hit.{Hit}
 use Rattle.journal_treecalls.specs.declared.named.Named.{Named}
 use Rattle.journal_treecalls.specs.Targets.{held, IsHit, Hits}
 use Rattle.journal_treecalls.specs.Names.{IsNamed, IsUnnamed, is_directory_kind, changed_of, without_hit}
-use Rattle.journal_treecalls.specs.Directories.{HasNoneInBlocks, HasEntry, rmdir_status}
+use Rattle.journal_treecalls.specs.Directories.{HasNone, HasEntry, rmdir_status}
 use Rattle.journal_treecalls.proofs.ByName.{at-unnamed, at-missed, at-hit}
 use Rattle.journal_treecalls.proofs.Cutting.{cut-outcome, cut-sound}
-use Rattle.journal_treecalls.proofs.Emptying.{nothing-hangs, all-bare, all-blank, one-hangs}
+use Rattle.journal_treecalls.proofs.Emptying.{own-blocks, nothing-hangs, all-bare, all-blank, one-hangs}
 
 module _ (V : View) (h : Handle) (c : Caller) (name : List ℕ) (now : Time) where
   -- what is answered where the name is there
@@ -90,20 +90,20 @@ module _ (V : View) (h : Handle) (c : Caller) (name : List ℕ) (now : Time) whe
             ((passes (may_rename c d.attributes && may_take c d.attributes hit.head.attributes) (is_directory_kind hit.head.kind) on).1 i)
             (any_is i))
 
-        hits : IsHit V n.directory.head.blocks name hit
-        hits = subst (λ o. Hits V n.directory.head.blocks name o) here is.hits
+        hits : IsHit V n.directory.head name hit
+        hits = subst (λ o. Hits V n.directory.head name o) here is.hits
 
-        pub rmdir-full : (m : ℕ) → HasEntry V hit.head.blocks m → Op (rmdir h name) c now (tree_of V) (removed_reply (Err NotEmpty)) (tree_of V)
+        pub rmdir-full : (m : ℕ) → HasEntry V hit.head m → Op (rmdir h name) c now (tree_of V) (removed_reply (Err NotEmpty)) (tree_of V)
         rmdir-full m e = answers_rmdir h name c now (tree_of V) (tree_of V) (Err NotEmpty) (sym (
-            found-on true (one-hangs V sound hit.number (held_of hit.head name) hits.is.inside.is.inode a_directory hit.head.blocks (λ j. refl) m e)))
+            found-on true (one-hangs V sound hit.number (held_of hit.head name) hits.is.inside.is.inode a_directory hit.head refl (own-blocks V hit.head name) m e)))
 
-        module _ (none : HasNoneInBlocks V hit.head.blocks (length hit.head.blocks)) (W : View) (goes : W ≡ without_hit V h.number n.directory hit now) where
+        module _ (none : HasNone V hit.head) (W : View) (goes : W ≡ without_hit V h.number n.directory hit now) where
           pub rmdir-done : Op (rmdir h name) c now (tree_of V) (removed_reply (Ok (changed_of h.number n.directory.head now))) (tree_of W)
           rmdir-done = answers_rmdir h name c now (tree_of V) (tree_of W) (Ok (changed_of h.number n.directory.head now))
-              (cut-outcome V h name now n.directory hit sound is.searched.node is.searched.kind hits (all-blank V sound hit.number (held_of hit.head name) hits.is.inside.is.inode a_directory hit.head.blocks (λ j. refl) none) W goes
-              ∙ sym (found-on false (nothing-hangs V sound hit.number (held_of hit.head name) hits.is.inside.is.inode (all-bare V sound hit.number (held_of hit.head name) hits.is.inside.is.inode a_directory hit.head.blocks (λ j. refl) none))))
+              (cut-outcome V h name now n.directory hit sound is.searched.node is.searched.kind hits (all-blank V sound hit.number (held_of hit.head name) hits.is.inside.is.inode a_directory hit.head refl (own-blocks V hit.head name) none) W goes
+              ∙ sym (found-on false (nothing-hangs V sound hit.number (held_of hit.head name) hits.is.inside.is.inode (all-bare V sound hit.number (held_of hit.head name) hits.is.inside.is.inode a_directory hit.head refl (own-blocks V hit.head name) none))))
 
           pub rmdir-sound : IsCaller c → IsTime now → IsSoundView W
           rmdir-sound caller time =
-              cut-sound V h name now n.directory hit sound is.searched.node is.searched.kind hits (all-blank V sound hit.number (held_of hit.head name) hits.is.inside.is.inode a_directory hit.head.blocks (λ j. refl) none) W goes
+              cut-sound V h name now n.directory hit sound is.searched.node is.searched.kind hits (all-blank V sound hit.number (held_of hit.head name) hits.is.inside.is.inode a_directory hit.head refl (own-blocks V hit.head name) none) W goes
               (rmdir h name) c tt caller time rmdir-done

@@ -1,5 +1,6 @@
 -- A node that was found is taken out of its directory: the tree then, and the disk.
-use Rattle.std.proofs.Common.{◌≡◌, ℕ, List, Ok, refl, sym, ap, subst, ◌∙◌}
+use Rattle.std.proofs.Common.{◌≡◌, ◌≢◌, ℕ, cond, List, Option, Some, None, Ok, refl, sym, ap, subst, ◌∙◌}
+use Rattle.std.proofs.lemmas.Bool.{ne_eqb}
 use Rattle.journal_tree.specs.declared.time.Time.{Time}
 use Rattle.journal_tree.specs.declared.reply.Handle.{Handle}
 use Rattle.journal_tree.specs.declared.reply.Kind.TheVariants.{Directory}
@@ -11,8 +12,8 @@ use Rattle.journal_tree.specs.Names.{removed}
 use Rattle.journal_tree.specs.Op.{Call, Op}
 use Rattle.journal_tree.specs.Op.Reply.{removed as removed_reply}
 use Rattle.journal_tree.specs.Fit.{IsCaller, IsCallable}
-use Rattle.journal_treestore.specs.declared.entry.Entry.{Entry}
 use Rattle.journal_treestore.specs.Entries.{with_entry, no_entry}
+use Rattle.journal_treestore.specs.Positions.{Position, with_put, with_puts}
 use Rattle.journal_treestore.specs.Views.{View, with_inode, with_block, held_of, node_of, tree_of, entry_of}
 use Rattle.journal_treestore.specs.Views.Seen.{free, used}
 use Rattle.journal_treestore.specs.Sound.{IsSoundView}
@@ -22,33 +23,31 @@ use Rattle.journal_treestore.proofs.Keeping.{calls-stay-sound}
 use Rattle.journal_treecalls.specs.declared.node.Record.{Record}
 use Rattle.journal_treecalls.specs.declared.search.Hit.{Hit}
 use Rattle.journal_treecalls.specs.Targets.{held, told_of, IsHit, IsNode}
-use Rattle.journal_treecalls.specs.Names.{moved, changed_of, without_hit}
+use Rattle.journal_treecalls.specs.Seats.{home_position, second_position, seat_of}
+use Rattle.journal_treecalls.specs.Names.{moved, changed_of, without_entries, without_hit}
 use Rattle.journal_treecalls.proofs.Cases.{node-told}
-use Rattle.journal_treecalls.proofs.Searching.{entry-there}
+use Rattle.journal_treecalls.proofs.Seating.{seat-is, second-apart}
 
-module _ (V : View) (h : Handle) (name : List ℕ) (now : Time) (r : Record) (hit : Hit) (sound : IsSoundView V) (node : IsNode V h r) (kind : r.head.kind ≡ Directory) (hits : IsHit V r.head.blocks name hit)
+-- two entries that go lie in two blocks
+entries-go : (V : View) (p : Position) (o : Option Position) → ((q : Position) → o ≡ Some q → q.b ≢ p.b) → without_entries V p o ≡ with_puts V p o no_entry
+entries-go V p None apart = refl
+entries-go V p (Some q) apart = ap (λ v. with_block (with_put V p.b p.q no_entry) q.b (with_entry v q.q no_entry))
+    (sym (ap (λ t. cond t (with_entry (V.block p.b) p.q no_entry) (V.block q.b)) (ne_eqb q.b p.b (apart q refl))))
+
+module _ (V : View) (h : Handle) (name : List ℕ) (now : Time) (r : Record) (hit : Hit) (sound : IsSoundView V) (node : IsNode V h r) (kind : r.head.kind ≡ Directory) (hits : IsHit V r.head name hit)
     (bare : (place : ℕ) → entry_of V (used (held_of hit.head name)) place ≡ no_entry) (W : View) (goes : W ≡ without_hit V h.number r hit now) where
   abbrev seat : Seat
-  seat = record { d = h.number; h = held r; j = hits.j; q = hits.is.inside.at; n = hit.number; g = held_of hit.head name }
+  seat = seat_of V h.number r hit name
 
   is_seat : IsSeat V seat
-  is_seat = record {
-    is = node.is;
-    kind = kind;
-    there = hits.is.there;
-    low = hits.is.inside.low;
-    names = ap (λ (e : Entry). e.number) (entry-there V h.number (held r) hits.j hits.is.inside.at node.is kind hits.is.there hits.is.inside.low) ∙ hits.is.inside.is.entry;
-    some = hits.is.inside.is.some;
-    node = hits.is.inside.is.inode;
-    bare = bare;
-  }
+  is_seat = record { placed = seat-is V h.number r name hit sound node.is kind hits; bare = bare }
 
   -- the disk after it is what the step says
   view : W ≡ cut_view V seat now
   view =
       goes
-      ∙ ap (λ b. with_inode (with_inode (with_block V b (with_entry (V.block b) hit.at no_entry)) h.number (used (with_moment (held r) now))) hit.number (free hit.head.generation)) hits.is.inside.is.block
-      ∙ ap (λ q. with_inode (with_inode (with_block V (seat.h.blocks seat.j) (with_entry (V.block (seat.h.blocks seat.j)) q no_entry)) h.number (used (with_moment (held r) now))) hit.number (free hit.head.generation)) hits.is.inside.is.place
+      ∙ ap (λ V. with_inode (with_inode V h.number (used (with_moment (held r) now))) hit.number (free hit.head.generation))
+      (entries-go V (home_position V r.head hit) (second_position hit) (second-apart V h.number r name hit sound node.is kind hits))
 
   shows : Shows (cut_view V seat now) (cut (tree_of V) h.number hit.number now)
   shows = cutting-shows V seat now sound is_seat

@@ -28,7 +28,8 @@ use Rattle.journal_treecalls.specs.declared.lines.Line.{Line}
 use Rattle.journal_treecalls.specs.declared.lines.Room.{Room}
 use Rattle.journal_treecalls.specs.declared.listing.ListReply.{ListReply}
 use Rattle.journal_treecalls.specs.Disks.{Write, Learns, Does}
-use Rattle.journal_treecalls.specs.Targets.{held, told_of, IsNode}
+use Rattle.journal_treecalls.specs.Targets.{held, told_of, IsNode, block_of}
+use Rattle.journal_treecalls.specs.Seats.{block_count}
 use Rattle.journal_treecalls.specs.Replies.{number_above}
 use Rattle.journal_treecalls.specs.Lines.{item_of, beside_of, AreTrue}
 use Rattle.journal_treecalls.specs.Walks.{all_items}
@@ -46,7 +47,7 @@ module _ (V : View) (sound : IsSoundView V) (d : ℕ) (r : Record) (is : V.inode
   abbrev x : Node
   x = node_of V (held r)
 
-  places : (cookie : ℕ) → entries (tree_of V) d cookie (Rattle.journal_tree.specs.Listing.all_places (body_of V r.head.kind (held r)) - cookie) ≡ all_items V cookie r.head.blocks 48
+  places : (cookie : ℕ) → entries (tree_of V) d cookie (Rattle.journal_tree.specs.Listing.all_places (body_of V r.head.kind (held r)) - cookie) ≡ all_items V cookie (λ j. (block_of V r.head j).number) (block_count r.head)
   places cookie = ap (λ k. entries (tree_of V) d cookie (Rattle.journal_tree.specs.Listing.all_places (body_of V k (held r)) - cookie)) kind ∙ sym (entries-are V sound d r is kind cookie)
 
   pub lines-are : (cookie : ℕ) → items_above (tree_of V) d (node_of V (held r)) cookie ≡ items_after V d r cookie
@@ -58,8 +59,8 @@ module _ (V : View) (sound : IsSoundView V) (d : ℕ) (r : Record) (is : V.inode
       ∙ ap (λ es. dot_dot_item d (node_of V (held r)) ∷ es) (places 0)
   lines-are (suc (suc p)) =
       places p
-      ∙ ap (λ q. all_items V q r.head.blocks 48) (let e : p ≡ suc (suc p) - 2 = omega arith in e)
-      ∙ (λ i. none i ++ others i ++ all_items V (suc (suc p) - 2) r.head.blocks 48)
+      ∙ ap (λ q. all_items V q (λ j. (block_of V r.head j).number) (block_count r.head)) (let e : p ≡ suc (suc p) - 2 = omega arith in e)
+      ∙ (λ i. none i ++ others i ++ all_items V (suc (suc p) - 2) (λ j. (block_of V r.head j).number) (block_count r.head))
     where
       none : [] ≡ dot_items d (suc (suc p))
       none = sym (ap (λ t. cond t (dot_item d ∷ []) []) (ne_eqb (suc (suc p)) 0 (λ e. absurd (omega (arith, e)))))

@@ -3,7 +3,7 @@ use Rattle.std.proofs.Common.{◌≡◌, ◌≢◌, ℕ, zero, suc, ◌<◌, Boo
 use Rattle.std.proofs.lemmas.Bool.{cases_eq, eq-eqb, ne_eqb}
 use Rattle.journal_treestore.specs.declared.owner.Owner.{Owner}
 use Rattle.journal_treestore.specs.Views.{View, with_owner, with_block}
-use Rattle.journal_treecalls.specs.Rooms.{owner_of}
+use Rattle.journal_treecalls.specs.Blocks.{owner_of}
 use Rattle.journal_treecalls.specs.Overlays.{Laying, lay, lay_at, laid}
 
 -- ── one block ──

@@ -30,15 +30,17 @@ use Rattle.journal_treestore.specs.Sound.{IsSoundView}
 use Rattle.journal_treestore.proofs.Viewing.{inode-node}
 use Rattle.journal_treecalls.specs.declared.node.Record.{Record}
 use Rattle.journal_treecalls.specs.declared.search.Hit.{Hit}
+use Rattle.journal_treecalls.specs.declared.search.DirectoryBlock.{DirectoryBlock}
+use Rattle.journal_treecalls.specs.Fetches.{file_index}
 use Rattle.journal_treecalls.specs.declared.attributes.AccessReply.{AccessReply}
 use Rattle.journal_treecalls.specs.Disks.{Write, inode_seen, Learns, Does}
-use Rattle.journal_treecalls.specs.Targets.{held, IsInode, IsNode, IsTarget, current_of, told_of, IsDirectoryFor, directory_by, directory_of, NamedBy, HasName, IsHitOf, IsHitAt, has_tag, HasNoHit, HitsIn, HitsBlock, HasNoHitIn, Hits}
+use Rattle.journal_treecalls.specs.Targets.{held, IsInode, IsNode, IsTarget, current_of, told_of, IsDirectoryFor, directory_by, directory_of, NamedBy, HasName, IsHitOf, IsHitAt, has_tag, HasNoHit, HitsIn, HitsBlock, direct_block, HasNoHitIn, HitsFirst, level_number, HasNoHitBelow, HitsNumbers, HitsLevels, Hits}
 use Rattle.journal_treecalls.specs.Targets.IsUnsearched.{stale, other_kind, no_right}
 use Rattle.journal_treecalls.specs.Replies.{access_of, access_told, found_of, number_above, LooksUp, LooksUpParent, LooksUpName}
 use Rattle.journal_treecalls.proofs.Learning.{learns-as, learns-then, does-reads}
 use Rattle.journal_treecalls.proofs.Cases.{target-free, target-old, target-high, told-is}
 use Rattle.journal_treecalls.proofs.Reading.{getattr-gone, getattr-node, access-gone, access-node, lookup-unsearched, lookup-searched}
-use Rattle.journal_treecalls.proofs.Searching.{no_hit-more, no_hit_in-more, hit-found, hit-missed}
+use Rattle.journal_treecalls.proofs.Searching.{no_hit-more, no_hit_in-more, no_hit_below-more, levels-by, levels-none, hits-first, hits-all, hit-found, hit-missed}
 
 -- each disk that may be there is sound
 abbrev pub AreSound : (View → Type 0) → Type 0
@@ -152,17 +154,17 @@ module _ (old new : View → Type 0) (sound : AreSound new) (d : ℕ) (r : Recor
       ∙ ap (λ (y : Seen). some_node (slot_of V y).node (refused NoEntry (tree_of V)) (found (tree_of V) d (node_of V (held r)) above)) (at.1 ∙ ap (λ x. seen x at.0) kind))
 
   module _ (name : List ℕ) where
-    pub name-hit : (o : Option Hit) (hit : Hit) (reply : Found) → Learns old new (λ V. Hits V r.head.blocks name o) → o ≡ Some hit → reply ≡ found_of d r.head hit.number hit.head → Learns old new (λ V. LooksUpName V d r name (Ok reply))
+    pub name-hit : (o : Option Hit) (hit : Hit) (reply : Found) → Learns old new (λ V. Hits V r.head name o) → o ≡ Some hit → reply ≡ found_of d r.head hit.number hit.head → Learns old new (λ V. LooksUpName V d r name (Ok reply))
     name-hit o hit reply l is tells = learns-as old new _ _ l (λ V m h is_d dir.
-        let it = subst (Hits V r.head.blocks name) is h in
+        let it = subst (Hits V r.head name) is h in
         ap (λ o. on_found (tree_of V) o (refused NoEntry (tree_of V)) (found (tree_of V) d (node_of V (held r)))) (hit-found V d r name (sound V m) is_d dir hit it)
         ∙ ap (λ o. some_node o (refused NoEntry (tree_of V)) (found (tree_of V) d (node_of V (held r)) hit.number)) (inode-node V hit.number (held_of hit.head name) it.is.inside.is.inode)
         ∙ found-is V hit.number (held_of hit.head name) hit.head name (sound V m) is_d it.is.inside.is.inode
         ∙ ap (λ t. (Ok t, tree_of V)) (sym tells))
 
-    pub name-missed : (o : Option Hit) → Learns old new (λ V. Hits V r.head.blocks name o) → o ≡ None → Learns old new (λ V. LooksUpName V d r name (Err NoEntry))
+    pub name-missed : (o : Option Hit) → Learns old new (λ V. Hits V r.head name o) → o ≡ None → Learns old new (λ V. LooksUpName V d r name (Err NoEntry))
     name-missed o l is = learns-as old new _ _ l (λ V m h is_d dir.
-        ap (λ o. on_found (tree_of V) o (refused NoEntry (tree_of V)) (found (tree_of V) d (node_of V (held r)))) (hit-missed V d r name (sound V m) is_d dir (subst (Hits V r.head.blocks name) is h)))
+        ap (λ o. on_found (tree_of V) o (refused NoEntry (tree_of V)) (found (tree_of V) d (node_of V (held r)))) (hit-missed V d r name (sound V m) is_d dir (subst (Hits V r.head name) is h)))
 
     -- by the kind of the name
     module _ (kind : NameKind) (kind_is : kind ≡ name_kind name) where
@@ -211,10 +213,11 @@ module _ (old new : View → Type 0) where
   pub named-free : (n : ℕ) (name bytes : List ℕ) (x : Inode) (f : ℕ) → Learns old new (λ V. V.inode n ≡ inode_seen bytes) → x ≡ inode_from bytes → x ≡ Free f → Learns old new (λ V. HasName V n name None)
   named-free n name bytes x f l is kind = learns-as old new _ _ l (λ V m at g here. absurd (cc (sym here ∙ at ∙ ap (λ x. seen x (name_from bytes)) (sym is ∙ kind))))
 
-  module _ (b : ℕ) (v : List ℕ) (tag : ℕ) (name : List ℕ) (at : ℕ) (e : Entry) (e_is : e ≡ entry_from v at) where
-    pub hit-some : (o : Option Head) (head : Head) (hit : Hit) → Learns old new (λ V. HasName V e.number name o) → has_tag e tag ≡ true → o ≡ Some head → hit ≡ record { number = e.number; head = head; block = b; at = at }
+  module _ (b : DirectoryBlock) (v : List ℕ) (tag : ℕ) (name : List ℕ) (at : ℕ) (e : Entry) (e_is : e ≡ entry_from v at) where
+    pub hit-some : (o : Option Head) (head : Head) (hit : Hit) → Learns old new (λ V. HasName V e.number name o) → has_tag e tag ≡ true → o ≡ Some head → hit ≡ record { number = e.number; head = head; j = b.j; block = b.number; at = at }
         → Learns old new (λ V. IsHitAt V b v tag name at (Some hit))
     hit-some o head hit l tagged is made = learns-as old new _ _ l (λ V m n. subst (IsHitOf V b v name at) (sym made) (record {
+      which = refl;
       block = refl;
       place = refl;
       entry = ap (λ (e : Entry). e.number) (sym e_is);
@@ -228,12 +231,12 @@ module _ (old new : View → Type 0) where
     pub hit-none : (o : Option Head) → Learns old new (λ V. HasName V e.number name o) → o ≡ None → Learns old new (λ V. IsHitAt V b v tag name at None)
     hit-none o l is = learns-as old new _ _ l (λ V m n some same g here. subst (HasName V e.number name) is n g (ap (λ (e : Entry). V.inode e.number) e_is ∙ here))
 
-  pub block-hits : (b tag : ℕ) (name v w : List ℕ) (o : Option Hit) (last : View → Type 0) → b ≢ 0 → w ≡ v → Learns old new (λ V. V.block b ≡ v) → Learns new last (λ V. HitsIn V b w tag name o) → Learns old last (λ V. HitsBlock V b tag name o)
+  pub block-hits : (b : DirectoryBlock) (tag : ℕ) (name v w : List ℕ) (o : Option Hit) (last : View → Type 0) → b.number ≢ 0 → w ≡ v → Learns old new (λ V. V.block b.number ≡ v) → Learns new last (λ V. HitsIn V b w tag name o) → Learns old last (λ V. HitsBlock V b tag name o)
   block-hits b tag name v w (Some hit) last there same l k = learns-then old new last _ _ l k _ (λ V m is hits. record { there = there; inside = subst (λ v. HitsIn V b v tag name (Some hit)) (same ∙ sym is) hits })
   block-hits b tag name v w None last there same l k = learns-then old new last _ _ l k _ (λ V m is hits some. subst (λ v. HitsIn V b v tag name None) (same ∙ sym is) hits)
 
 -- not tagged
-pub hit-untagged : (may : View → Type 0) (b : ℕ) (v : List ℕ) (tag : ℕ) (name : List ℕ) (at : ℕ) (e : Entry) → e ≡ entry_from v at → has_tag e tag ≡ false → Learns may may (λ V. IsHitAt V b v tag name at None)
+pub hit-untagged : (may : View → Type 0) (b : DirectoryBlock) (v : List ℕ) (tag : ℕ) (name : List ℕ) (at : ℕ) (e : Entry) → e ≡ entry_from v at → has_tag e tag ≡ false → Learns may may (λ V. IsHitAt V b v tag name at None)
 hit-untagged may b v tag name at e e_is not_tagged = record {
   before = λ V m. m;
   now = λ V m some same g here. absurd (false≢true (sym not_tagged ∙ tagged (λ z. some (ap (λ (e : Entry). e.number) (sym e_is) ∙ z)) (ap (λ (e : Entry). e.tag) e_is ∙ same)));
@@ -242,21 +245,49 @@ hit-untagged may b v tag name at e e_is not_tagged = record {
     tagged : e.number ≢ 0 → e.tag ≡ tag → has_tag e tag ≡ true
     tagged some same = Rattle.std.proofs.lemmas.Bool.and_from (not (e.number == 0)) (e.tag == tag) (ap not (Rattle.std.proofs.lemmas.Bool.ne_eqb e.number 0 some)) (eq-eqb e.tag tag same)
 
-pub no-block : (may : View → Type 0) (b tag : ℕ) (name : List ℕ) → b ≡ 0 → Learns may may (λ V. HitsBlock V b tag name None)
+pub no-block : (may : View → Type 0) (b : DirectoryBlock) (tag : ℕ) (name : List ℕ) → b.number ≡ 0 → Learns may may (λ V. HitsBlock V b tag name None)
 no-block may b tag name none = record { before = λ V m. m; now = λ V m some. absurd (some none) }
 
 -- ── loops ──
 
-module _ (first old new : View → Type 0) (b : ℕ) (v : List ℕ) (tag : ℕ) (name : List ℕ) (at : ℕ) (o : Option Hit) (before : Learns first old (λ V. HasNoHit V b v tag name at)) (one : Learns old new (λ V. IsHitAt V b v tag name at o)) where
+module _ (first old new : View → Type 0) (b : DirectoryBlock) (v : List ℕ) (tag : ℕ) (name : List ℕ) (at : ℕ) (o : Option Hit) (before : Learns first old (λ V. HasNoHit V b v tag name at)) (one : Learns old new (λ V. IsHitAt V b v tag name at o)) where
   pub at-more : o ≡ None → Learns first new (λ V. HasNoHit V b v tag name (at + 1))
   at-more is = learns-then first old new _ _ before one _ (λ V m none here. no_hit-more V b v tag name at none (subst (IsHitAt V b v tag name at) is here))
 
   pub at-hit : (hit : Hit) → at < 512 → o ≡ Some hit → Learns first new (λ V. HitsIn V b v tag name (Some hit))
   at-hit hit low is = learns-then first old new _ _ before one _ (λ V m none here. record { at = at; low = low; is = subst (IsHitAt V b v tag name at) is here })
 
-module _ (first old new : View → Type 0) (bs : List ℕ) (name : List ℕ) (j : ℕ) (o : Option Hit) (before : Learns first old (λ V. HasNoHitIn V bs (tag_of name) name j)) (one : Learns old new (λ V. HitsBlock V (get_or bs j 0) (tag_of name) name o)) where
-  pub block-more : o ≡ None → Learns first new (λ V. HasNoHitIn V bs (tag_of name) name (j + 1))
-  block-more is = learns-then first old new _ _ before one _ (λ V m none here. no_hit_in-more V bs (tag_of name) name j none (subst (HitsBlock V (get_or bs j 0) (tag_of name) name) is here))
+module _ (first old new : View → Type 0) (bs : List ℕ) (tag : ℕ) (name : List ℕ) (j : ℕ) (o : Option Hit) (before : Learns first old (λ V. HasNoHitIn V bs tag name j)) (one : Learns old new (λ V. HitsBlock V (direct_block bs j) tag name o)) where
+  pub block-more : o ≡ None → Learns first new (λ V. HasNoHitIn V bs tag name (j + 1))
+  block-more is = learns-then first old new _ _ before one _ (λ V m none here. no_hit_in-more V bs tag name j none (subst (HitsBlock V (direct_block bs j) tag name) is here))
 
-  pub block-hit : (hit : Hit) → j < length bs → o ≡ Some hit → Learns first new (λ V. Hits V bs name (Some hit))
-  block-hit hit low is = learns-then first old new _ _ before one _ (λ V m none here. record { j = j; low = low; is = subst (HitsBlock V (get_or bs j 0) (tag_of name) name) is here })
+  pub block-hit : (hit : Hit) → j < 48 → o ≡ Some hit → Learns first new (λ V. HitsFirst V bs tag name (Some hit))
+  block-hit hit low is = learns-then first old new _ _ before one _ (λ V m none here. record { j = j; low = low; is = subst (HitsBlock V (direct_block bs j) tag name) is here })
+
+module _ (first old new : View → Type 0) (v : List ℕ) (tag : ℕ) (name : List ℕ) (level : ℕ) (b : DirectoryBlock) (o : Option Hit) (which : b ≡ level_number v tag level) (before : Learns first old (λ V. HasNoHitBelow V v tag name level))
+    (one : Learns old new (λ V. HitsBlock V b tag name o)) where
+  pub level-more : o ≡ None → Learns first new (λ V. HasNoHitBelow V v tag name (level + 1))
+  level-more is = learns-then first old new _ _ before one _ (λ V m none here. no_hit_below-more V v tag name level none (subst (λ b. HitsBlock V b tag name None) which (subst (HitsBlock V b tag name) is here)))
+
+  pub level-hit : (hit : Hit) → level < 4 → o ≡ Some hit → Learns first new (λ V. HitsNumbers V v tag name (Some hit))
+  level-hit hit low is = learns-then first old new _ _ before one _ (λ V m none here. record { level = level; low = low; is = subst (λ b. HitsBlock V b tag name (Some hit)) which (subst (HitsBlock V b tag name) is here) })
+
+-- ── the first blocks, and then the levels ──
+
+module _ (first old : View → Type 0) (h : Head) (tag : ℕ) (name : List ℕ) (o : Option Hit) (tag_is : tag ≡ tag_of name) (direct : Learns first old (λ V. HitsFirst V h.blocks tag name o)) where
+  pub find-hit : (hit : Hit) → o ≡ Some hit → Learns first old (λ V. Hits V h name (Some hit))
+  find-hit hit is = learns-as first old _ _ direct (λ V m here. hits-first V h name hit (subst (HitsFirst V h.blocks tag name) is here))
+
+  pub find-rest : (new : View → Type 0) (p : Option Hit) → o ≡ None → Learns old new (λ V. HitsLevels V h tag name p) → Learns first new (λ V. Hits V h name p)
+  find-rest new p is above = learns-then first old new _ _ direct above _ (λ V m here levels.
+      hits-all V h name p (subst (λ t. HitsFirst V h.blocks t name None) tag_is (subst (HitsFirst V h.blocks tag name) is here)) (subst (λ t. HitsLevels V h t name p) tag_is levels))
+
+-- by the numbers in the first index block
+module _ (first old : View → Type 0) (h : Head) (tag leaf : ℕ) (name : List ℕ) (index : Learns first old (λ V. file_index V h 0 ≡ leaf)) where
+  pub above-none : leaf ≡ 0 → Learns first old (λ V. HitsLevels V h tag name None)
+  above-none none = learns-as first old _ _ index (λ V m is. levels-none V h tag name leaf is none)
+
+  pub above-some : (new last : View → Type 0) (v w : List ℕ) (o : Option Hit) → leaf ≢ 0 → w ≡ v → Learns old new (λ V. V.block leaf ≡ v) → Learns new last (λ V. HitsNumbers V w tag name o) → Learns first last (λ V. HitsLevels V h tag name o)
+  above-some new last v w o some same block numbers =
+      learns-then first old last _ _ index (learns-then old new last _ _ block numbers (λ V. (V.block leaf ≡ v) × HitsNumbers V w tag name o) (λ V m is here. (is, here))) _
+      (λ V m is both. levels-by V h tag name leaf v o is some both.0 (subst (λ v. HitsNumbers V v tag name o) same both.1))

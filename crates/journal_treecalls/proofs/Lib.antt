@@ -5,10 +5,13 @@ pub mod Numbers
 pub mod Naming
 pub mod Searching
 pub mod Learned
+pub mod BlockNumbers
+pub mod Seating
 pub mod ByName
 pub mod Cutting
 pub mod Removing
 pub mod Removed
+pub mod Rooming
 pub mod Births
 pub mod Furthers
 pub mod Unowned
@@ -20,7 +23,6 @@ pub mod Cleared
 pub mod Telling
 pub mod Refusing
 pub mod Holding
-pub mod Stepping
 pub mod Zeroing
 pub mod Resizing
 pub mod Tailing
@@ -33,6 +35,7 @@ pub mod Taking
 pub mod Laying
 pub mod Overlaying
 pub mod Rows
+pub mod Growths
 pub mod Counting
 pub mod Writes
 pub mod Texts
@@ -40,7 +43,9 @@ pub mod Linked
 pub mod Takeovers
 pub mod Retelling
 pub mod Upward
+pub mod Putting
 pub mod Going
+pub mod Reordering
 pub mod Arriving
 pub mod Deciding
 pub mod Renames

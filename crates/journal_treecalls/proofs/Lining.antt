@@ -21,8 +21,10 @@ use Rattle.journal_treecalls.specs.declared.lines.Line.{Line}
 use Rattle.journal_treecalls.specs.declared.lines.Room.{Room}
 use Rattle.journal_treecalls.specs.declared.lines.Page.{Page}
 use Rattle.journal_treecalls.specs.declared.listing.ListReply.{ListReply}
+use Rattle.journal_treecalls.specs.declared.seats.BlockNumbers.{BlockNumbers}
 use Rattle.journal_treecalls.specs.Disks.{Learns}
-use Rattle.journal_treecalls.specs.Targets.{told_of, IsInode, IsTarget}
+use Rattle.journal_treecalls.specs.Targets.{told_of, IsInode, IsTarget, block_of}
+use Rattle.journal_treecalls.specs.Seats.{number_of, HasBlocks, block_count}
 use Rattle.journal_treecalls.specs.Replies.{number_above}
 use Rattle.journal_treecalls.specs.Lines.{item_of, beside_of, IsLine, left_after, with_line, Adds, Shows}
 use Rattle.journal_treecalls.specs.Walks.{IsNodeLine, all_items, ShowsBlocks}
@@ -31,7 +33,7 @@ use Rattle.journal_treecalls.specs.Listings.ListsNode.{kept, listing}
 use Rattle.journal_treecalls.specs.Listings.Lists.{stale, of_node}
 use Rattle.journal_treecalls.proofs.Learning.{learns-as, learns-then}
 use Rattle.journal_treecalls.proofs.Cases.{told-is}
-use Rattle.journal_treecalls.proofs.Walking.{shows-none, shows-append, shows-line}
+use Rattle.journal_treecalls.proofs.Walking.{shows-none, shows-append, shows-line, all-same}
 
 -- ── a line ──
 
@@ -104,18 +106,20 @@ dots-free first last d r cookie above x g old new l k kind is few line adds = le
 
 -- ── a listing ──
 
-pub directory-listed : (first one two last : View → Type 0) (d : ℕ) (r : Record) (cookie begin : ℕ) (room : Room) (fresh a b c : Page) (t : Told) (reply : Result ListReply Status) → fresh.lines.items ≡ [] → fresh.room ≡ Some room → Learns first one (λ V. ShowsDot V d r.head cookie fresh a) → Learns one two (λ V. ShowsDotDot V d r cookie a b)
-    → begin ≡ cookie - 2 → Learns two last (λ V. ShowsBlocks V begin r.head.blocks 48 b c) → t ≡ told_of d r.head → IsReplyOf t c reply → Learns first last (λ V. ListsDirectory V d r cookie room reply)
-directory-listed first one two last d r cookie begin room fresh a b c t reply bare all dot dots begin_is blocks tells replies = record {
-  before = λ V m. dot.before V (dots.before V (blocks.before V m));
+pub directory-listed : (first one two three last : View → Type 0) (d : ℕ) (r : Record) (cookie begin : ℕ) (room : Room) (fresh a b c : Page) (t : Told) (reply : Result ListReply Status) → fresh.lines.items ≡ [] → fresh.room ≡ Some room → Learns first one (λ V. ShowsDot V d r.head cookie fresh a) → Learns one two (λ V. ShowsDotDot V d r cookie a b)
+    → begin ≡ cookie - 2 → (numbers : BlockNumbers) (count : ℕ) → count ≡ block_count r.head → Learns two three (λ V. HasBlocks V r.head numbers) → Learns three last (λ V. ShowsBlocks V begin numbers count b c) → t ≡ told_of d r.head → IsReplyOf t c reply → Learns first last (λ V. ListsDirectory V d r cookie room reply)
+directory-listed first one two three last d r cookie begin room fresh a b c t reply bare all dot dots begin_is numbers count count_is read blocks tells replies = record {
+  before = λ V m. dot.before V (dots.before V (read.before V (blocks.before V m)));
   now = λ V m sound at. record {
     fresh = fresh;
     page = c;
     bare = bare;
     all = all;
-    shown = shows-append V fresh b c (dot_items d cookie ++ dot_dot_items (number_above d r) cookie) (all_items V (cookie - 2) r.head.blocks 48)
-        (shows-append V fresh a b (dot_items d cookie) (dot_dot_items (number_above d r) cookie) (dot.now V (dots.before V (blocks.before V m)) sound (Rattle.journal_treestore.specs.Inodes.name_from r.bytes) at) (dots.now V (blocks.before V m) sound))
-        (subst (λ n. Shows V b c (all_items V n r.head.blocks 48)) begin_is (blocks.now V m sound));
+    shown = shows-append V fresh b c (dot_items d cookie ++ dot_dot_items (number_above d r) cookie) (all_items V (cookie - 2) (λ j. (block_of V r.head j).number) (block_count r.head))
+        (shows-append V fresh a b (dot_items d cookie) (dot_dot_items (number_above d r) cookie) (dot.now V (dots.before V (read.before V (blocks.before V m))) sound (Rattle.journal_treestore.specs.Inodes.name_from r.bytes) at) (dots.now V (read.before V (blocks.before V m)) sound))
+        (subst (λ n. Shows V b c (all_items V n (λ j. (block_of V r.head j).number) (block_count r.head))) begin_is (
+        subst (λ n. Shows V b c (all_items V begin (λ j. (block_of V r.head j).number) n)) count_is (
+        subst (Shows V b c) (all-same V begin (number_of numbers) (λ j. (block_of V r.head j).number) (read.now V (blocks.before V m)) count) (blocks.now V m sound))));
     told = subst (λ t. IsReplyOf t c reply) tells replies;
   };
 }

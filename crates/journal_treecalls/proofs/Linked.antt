@@ -27,6 +27,7 @@ use Rattle.journal_tree.specs.Op.Call.{symlink, readlink}
 use Rattle.journal_tree.specs.Op.Reply.{made as made_reply, link_read}
 use Rattle.journal_tree.specs.Op.Op.{answers_symlink, answers_readlink}
 use Rattle.journal_tree.specs.Fit.{IsAsked, IsCaller, IsFitBody}
+use Rattle.journal_treestore.specs.Entries.{tag_of}
 use Rattle.journal_treestore.specs.declared.inode.Head.{Head}
 use Rattle.journal_treestore.specs.Bytes.{with_piece}
 use Rattle.journal_treestore.specs.Owners.{owner_from}
@@ -48,10 +49,10 @@ use Rattle.journal_treecalls.specs.Disks.{Write, inode_seen, written, Learns, Do
 use Rattle.journal_treecalls.specs.Disks.Write.{inode_write, owner_write, block_write}
 use Rattle.journal_treecalls.specs.Targets.{held, IsNode, IsTarget}
 use Rattle.journal_treecalls.specs.Names.{IsNamed, IsUnnamed, IsNameFor}
-use Rattle.journal_treecalls.specs.Rooms.{IsRoomFor, HasRoomFor, owner_of, new_head, place_number, widened_head, with_placed, Plants}
-use Rattle.journal_treecalls.specs.Overlays.{IsOther}
+use Rattle.journal_treecalls.specs.Blocks.{owner_of}
+use Rattle.journal_treecalls.specs.Rooms.{IsRoomFor, HasRoomFor, new_head, place_number, with_placed, Plants}
 use Rattle.journal_treecalls.specs.Portions.{HasPortion, reach_of}
-use Rattle.journal_treecalls.specs.Symlinks.{linking_status, link_plan, refusal_by, link_refusal, with_first, with_text, PutsText, PutsLink, IsLinkedIn, LinksWithin, LinksNode, IsLinking, LinksFound, link_told, ReadsLink}
+use Rattle.journal_treecalls.specs.Symlinks.{IsOther, linking_status, link_plan, refusal_by, link_refusal, with_first, with_text, PutsText, PutsLink, IsLinkedIn, LinksWithin, LinksNode, IsLinking, LinksFound, link_told, ReadsLink}
 use Rattle.journal_treecalls.specs.Symlinks.IsLinkingWithin.{full, links}
 use Rattle.journal_treecalls.specs.Symlinks.IsLinkingNode.{crowded, within}
 use Rattle.journal_treecalls.specs.Symlinks.IsLinking.{kept, tried}
@@ -152,7 +153,7 @@ module _ (V : View) (h : Handle) (c : Caller) (name : List ℕ) (s : Settings) (
   -- a link is made
   module _ (n : Named) (sound : IsSoundView V) (is : IsNamed V c h name n) (text : List ℕ) (none : n.hit ≡ None) (on : linking_status c s text n.directory.head.attributes ≡ None)
       (W : View) (new : NewNode) (room : FreeRoom) (reply : Made) (a : new.attributes ≡ new_attributes c s n.directory.head.attributes Link LINK_MODE now) (k : new.kind ≡ Link) (z : new.size ≡ length text)
-      (has : HasRoomFor V n.directory.head room) (linked : IsLinkedIn V W h.number n.directory name new text room now reply) (asked : IsAsked s) (caller : IsCaller c) (time : IsTime now) where
+      (has : HasRoomFor V n.directory.head (tag_of name) room) (linked : IsLinkedIn V W h.number n.directory name new text room now reply) (asked : IsAsked s) (caller : IsCaller c) (time : IsTime now) where
     abbrev W1 : View
     W1 = with_placed V h.number n.directory room.number room.place name new now
 
@@ -206,13 +207,13 @@ puts-link old mid new before after d r name node text room b now made bare place
 pub within-none : (first new : View → Type 0) (ws : List Write) (d : ℕ) (r : Record) (name : List ℕ) (node : NewNode) (text : List ℕ) (room : FreeRoom) (now : Time) → ((V : View) → new V → first V) → ws ≡ [] → LinksWithin first new ws d r name node text room now (Err NoSpace)
 within-none first new ws d r name node text room now same none = record { same = same; is = λ time V m. full (ap (λ ws. written ws V) none) }
 
-pub within-some : (first old new : View → Type 0) (ws : List Write) (d : ℕ) (r : Record) (name : List ℕ) (node : NewNode) (text : List ℕ) (room : FreeRoom) (b : ℕ) (now : Time) (o : Option ℕ) (grown : Head) (made : Made)
-    → Learns first old (λ V. IsOther V grown.blocks o) → o ≡ Some b → grown ≡ widened_head r.head room.place → PutsLink old new ws d r name node text room b now made → LinksWithin first new ws d r name node text room now (Ok made)
-within-some first old new ws d r name node text room b now o grown made l is grown_is puts = record {
+pub within-some : (first old new : View → Type 0) (ws : List Write) (d : ℕ) (r : Record) (name : List ℕ) (node : NewNode) (text : List ℕ) (room : FreeRoom) (b : ℕ) (now : Time) (o : Option ℕ) (made : Made)
+    → Learns first old (λ V. IsOther V room.place o) → o ≡ Some b → PutsLink old new ws d r name node text room b now made → LinksWithin first new ws d r name node text room now (Ok made)
+within-some first old new ws d r name node text room b now o made l is puts = record {
   same = λ V m. l.before V (puts.same V m);
   is = λ time V m. links made (record {
     block = b;
-    is_block = subst (λ (x : Head). IsOther V x.blocks (Some b)) grown_is (subst (IsOther V grown.blocks) is (l.now V (puts.same V m)));
+    is_block = subst (IsOther V room.place) is (l.now V (puts.same V m));
     view = puts.written_is time V m;
     is = puts.told time;
   });
@@ -221,11 +222,11 @@ within-some first old new ws d r name node text room b now o grown made l is gro
 pub room-none : (first new : View → Type 0) (ws : List Write) (d : ℕ) (r : Record) (name : List ℕ) (node : NewNode) (text : List ℕ) (now : Time) → ((V : View) → new V → first V) → ws ≡ [] → LinksNode first new ws d r name node text now (Err NoSpace)
 room-none first new ws d r name node text now same none = record { same = same; is = λ time V m. crowded (ap (λ ws. written ws V) none) }
 
-pub room-some : (first old new : View → Type 0) (ws : List Write) (d : ℕ) (r : Record) (name : List ℕ) (node : NewNode) (text : List ℕ) (room : FreeRoom) (now : Time) (o : Option FreeRoom) (reply : Result Made Status)
-    → Learns first old (λ V. IsRoomFor V r.head o) → o ≡ Some room → LinksWithin old new ws d r name node text room now reply → LinksNode first new ws d r name node text now reply
-room-some first old new ws d r name node text room now o reply l is k = record {
+pub room-some : (first old new : View → Type 0) (ws : List Write) (d : ℕ) (r : Record) (name : List ℕ) (node : NewNode) (text : List ℕ) (room : FreeRoom) (now : Time) (o : Option FreeRoom) (reply : Result Made Status) (tag : ℕ)
+    → Learns first old (λ V. IsRoomFor V r.head tag o) → tag ≡ tag_of name → o ≡ Some room → LinksWithin old new ws d r name node text room now reply → LinksNode first new ws d r name node text now reply
+room-some first old new ws d r name node text room now o reply tag l tag_is is k = record {
   same = λ V m. l.before V (k.same V m);
-  is = λ time V m. within room reply (subst (IsRoomFor V r.head) is (l.now V (k.same V m))) (k.is time V m);
+  is = λ time V m. within room reply (subst (IsRoomFor V r.head (tag_of name)) is (subst (λ t. IsRoomFor V r.head t o) tag_is (l.now V (k.same V m)))) (k.is time V m);
 }
 
 pub link-kept : (may : View → Type 0) (ws : List Write) (d : ℕ) (n : Named) (name : List ℕ) (plan : Plan) (text : List ℕ) (now : Time) (o : Option Status) (status : Status) → ws ≡ [] → o ≡ link_refusal n plan → o ≡ Some status

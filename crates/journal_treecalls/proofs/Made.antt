@@ -1,8 +1,6 @@
 -- Each step of MKDIR and CREATE: its knowledge, and its writes.
 use Rattle.std.proofs.Common.{◌≡◌, ◌≢◌, ℕ, ◌+◌, ◌*◌, ◌/◌, ◌<◌, Bool, true, false, cond, List, [], ◌∷◌, length, Option, Some, None, Ok, Err, refl, sym, ap, subst, ◌∙◌}
-use Rattle.std.specs.Prelude.{Result, nat_lt}
-use Rattle.std.proofs.lemmas.Bool.{ltb-true}
-use Rattle.journal_tree.specs.declared.limits.TheConstants.{LAST_GENERATION, MOST_BLOCKS}
+use Rattle.std.specs.Prelude.{Result}
 use Rattle.journal_tree.specs.declared.time.Time.{Time}
 use Rattle.journal_tree.specs.declared.reply.Handle.{Handle}
 use Rattle.journal_tree.specs.declared.reply.Made.{Made}
@@ -18,24 +16,19 @@ use Rattle.journal_tree.specs.Op.Call.{create, mkdir}
 use Rattle.journal_tree.specs.Op.Reply.{made as made_reply}
 use Rattle.journal_treestore.specs.declared.entry.Entry.{Entry}
 use Rattle.journal_treestore.specs.declared.inode.Head.{Head}
-use Rattle.journal_treestore.specs.declared.inode.Inode.{Inode}
-use Rattle.journal_treestore.specs.declared.inode.Inode.TheVariants.{Free}
-use Rattle.journal_treestore.specs.declared.inode.TheConstants.{DIRECT_BLOCKS}
 use Rattle.journal_treestore.specs.Entries.{with_entry, tag_of}
 use Rattle.journal_treestore.specs.Inodes.{name_from}
-use Rattle.journal_treestore.specs.Owners.{owner_from}
-use Rattle.journal_treestore.specs.Views.{View, zero_block, with_inode, with_owner, with_block, held_of, seen, node_of, tree_of}
+use Rattle.journal_treestore.specs.Views.{View, zero_block, with_inode, with_block, held_of, node_of, tree_of}
 use Rattle.journal_treestore.specs.Views.Seen.{used}
 use Rattle.journal_treestore.specs.Sound.{IsSoundView}
 use Rattle.journal_treestore.specs.Steps.{with_moment}
 use Rattle.journal_treestore.proofs.Viewing.{inode-node}
-use Rattle.journal_tree.proofs.Hanging.{low}
 use Rattle.journal_treecalls.specs.declared.node.Record.{Record}
 use Rattle.journal_treecalls.specs.declared.search.Hit.{Hit}
 use Rattle.journal_treecalls.specs.declared.named.Named.{Named}
 use Rattle.journal_treecalls.specs.declared.room.FreeNumber.{FreeNumber}
 use Rattle.journal_treecalls.specs.declared.room.FreePlace.{FreePlace}
-use Rattle.journal_treecalls.specs.declared.room.FreeBlock.{FreeBlock}
+use Rattle.journal_treecalls.specs.declared.growth.Growth.{Growth}
 use Rattle.journal_treecalls.specs.declared.room.NewPlace.{NewPlace}
 use Rattle.journal_treecalls.specs.declared.room.NewPlace.TheVariants.{Here, Further}
 use Rattle.journal_treecalls.specs.declared.room.FreeRoom.{FreeRoom}
@@ -44,112 +37,68 @@ use Rattle.journal_treecalls.specs.declared.creation.Making.{Making}
 use Rattle.journal_treecalls.specs.declared.creation.Making.TheVariants.{Mkdir, Create}
 use Rattle.journal_treecalls.specs.declared.creation.Plan.{Plan}
 use Rattle.journal_treecalls.specs.Disks.{Write, inode_seen, written, Learns, Does}
-use Rattle.journal_treecalls.specs.Disks.Write.{inode_write, owner_write, block_write}
-use Rattle.journal_treecalls.specs.Targets.{held, IsInode}
+use Rattle.journal_treecalls.specs.Disks.Write.{inode_write, block_write}
+use Rattle.journal_treecalls.specs.Targets.{held}
 use Rattle.journal_treecalls.specs.Names.{moved, IsNamed, IsNameFor}
-use Rattle.journal_treecalls.specs.Rooms.{IsFreeNumber, if_young, IsYoung, IsEmptyIn, IsPlaceIn, IsPlaceOf, HasFreeNumber, IsFreeBlock, IsPlaceFor, IsFitPlace, HasRoomFor, IsRoomFor, IsFitRoom, room_of, owner_of, with_further, new_head, with_new, with_new_block, making_call, mkdir_plan, create_plan, plan_for, Plants, IsMakingNode, MakesNode, MakesPlanned, IsMaking, Makes}
+use Rattle.journal_treecalls.specs.Reaches.{reach_count}
+use Rattle.journal_treecalls.specs.Overlays.{laid, laying_at, LaysBlocks}
+use Rattle.journal_treecalls.specs.Rooms.{HasRoomFor, IsRoomFor, new_head, new_entry, here_number, grown_head, with_growth, with_new, with_new_block, making_call, mkdir_plan, create_plan, plan_for, Plants, IsMakingNode, MakesNode, MakesPlanned, IsMaking, Makes}
 use Rattle.journal_treecalls.specs.Rooms.IsMakingNode.{full, makes}
 use Rattle.journal_treecalls.specs.Rooms.IsMakingPlanned.{kept, tried}
 use Rattle.journal_treecalls.specs.Rooms.IsMaking.{there, missing}
-use Rattle.journal_treecalls.proofs.Learning.{learns-as, learns-then, does-reads}
+use Rattle.journal_treecalls.proofs.Learning.{does-reads}
 use Rattle.journal_treecalls.proofs.Learned.{AreSound}
 use Rattle.journal_treecalls.proofs.Making.{mkdir-unnamed, create-unnamed, mkdir-there, create-there, mkdir-refused, create-refused, mkdir-no_room, create-no_room, mkdir-done, create-done, mkdir-sound, create-sound}
 
--- ── a number that is free ──
-
-pub young-number : (number generation : ℕ) (o : Option FreeNumber) → o ≡ if_young number generation → IsYoung o
-young-number number generation o is = subst IsYoung (sym is) (by (nat_lt generation LAST_GENERATION) refl)
-  where
-    by : (b : Bool) → nat_lt generation LAST_GENERATION ≡ b → IsYoung (cond b (Some (record { number = number; generation = generation })) None)
-    by true low = ltb-true generation LAST_GENERATION low
-    by false low = tt
-
-pub free-number : (old new : View → Type 0) (number count index generation : ℕ) (x : Inode) (o : Option FreeNumber) → Learns old new (λ V. IsInode V number x) → x ≡ Free generation → o ≡ if_young number generation
-    → number ≢ 0 → ((V : View) → old V → V.numbers ≡ count) → index ≡ number → index < count → Learns old new (λ V. IsFreeNumber V o)
-free-number old new number count index generation x o l kind is some counts index_is low = record {
-  before = l.before;
-  now = λ V m. subst (IsFreeNumber V) (sym is) (by V m (nat_lt generation LAST_GENERATION) refl);
-}
-  where
-    by : (V : View) → new V → (b : Bool) → nat_lt generation LAST_GENERATION ≡ b → IsFreeNumber V (cond b (Some (record { number = number; generation = generation })) None)
-    by V m false low_is = tt
-    by V m true low_is = record {
-      some = some;
-      on_disk = subst (λ n. number < n) (sym (counts V (l.before V m))) (subst (λ n. n < count) index_is low);
-      is = let at = l.now V m in at.1 ∙ ap (λ x. seen x at.0) kind;
-      young = ltb-true generation LAST_GENERATION low_is;
-    }
-
--- ── a place that is free ──
-
-pub place-some : (old new : View → Type 0) (b j : ℕ) (v w : List ℕ) (o : Option ℕ) (at place : ℕ) → Learns old new (λ V. V.block b ≡ v) → w ≡ v → b ≢ 0 → IsEmptyIn w o → o ≡ Some at → place ≡ 512 * j + at
-    → Learns old new (λ V. IsPlaceIn V b j (Some (record { block = b; at = at; place = place })))
-place-some old new b j v w o at place l same some empty is place_is = learns-as old new _ _ l (λ V m block.
-    let e = subst (IsEmptyIn w) is empty in
-    record { block = refl; there = some; low = e.0; place = place_is; empty = ap (λ v. (Rattle.journal_treestore.specs.Entries.entry_from v at).number) (block ∙ sym same) ∙ e.1 })
-
-pub place-here : (old new : View → Type 0) (h : Head) (o : Option FreePlace) (p : FreePlace) → Learns old new (λ V. IsPlaceOf V h.blocks o) → o ≡ Some p → Learns old new (λ V. IsPlaceFor V h (Some (Here p)))
-place-here old new h o p l is = learns-as old new _ _ l (λ V m at. subst (IsPlaceOf V h.blocks) is at)
-
-pub place-further : (old new : View → Type 0) (h : Head) (j b : ℕ) (o : Option ℕ) → Learns old new (λ V. IsFreeBlock V o) → o ≡ Some b → j ≡ h.size / 4096 → j < MOST_BLOCKS → length h.blocks ≡ DIRECT_BLOCKS
-    → Learns old new (λ V. IsPlaceFor V h (Some (Further (record { block = b; j = j }))))
-place-further old new h j b o l is next few all = learns-as old new _ _ l (λ V m k. record { few = few; next = next; all = all; is = subst (IsFreeBlock V) is k })
-
--- ── room ──
-
-pub room-some : (first old new : View → Type 0) (h : Head) (o : Option FreeNumber) (f : FreeNumber) (p : Option NewPlace) (room : Option FreeRoom) → Learns first old (λ V. IsFreeNumber V o) → o ≡ Some f → Learns old new (λ V. IsPlaceFor V h p)
-    → room ≡ room_of f p → Learns first new (λ V. IsRoomFor V h room)
-room-some first old new h o f p room l is k room_is = learns-then first old new _ _ l k _ (λ V m number place. subst (IsRoomFor V h) (sym room_is) (by V (subst (IsFreeNumber V) is number) p place))
-  where
-    by : (V : View) → HasFreeNumber V f → (p : Option NewPlace) → IsPlaceFor V h p → IsRoomFor V h (room_of f p)
-    by V number None place = tt
-    by V number (Some p) place = record { number = number; place = place }
-
-pub room-fits : (o : Option FreeNumber) (f : FreeNumber) (p : Option NewPlace) (room : Option FreeRoom) → IsYoung o → o ≡ Some f → IsFitPlace p → room ≡ room_of f p → IsFitRoom room
-room-fits o f p room young is fits room_is = subst IsFitRoom (sym room_is) (by p fits)
-  where
-    by : (p : Option NewPlace) → IsFitPlace p → IsFitRoom (room_of f p)
-    by None fits = tt
-    by (Some p) fits = (subst IsYoung is young, fits)
-
 -- ── the writes ──
 
-pub with-new : (ws : List Write) (V : View) (d : ℕ) (r : Record) (f : FreeNumber) (p : FreePlace) (name : List ℕ) (node : NewNode) (now : Time) (v w db nb : List ℕ) (e : Entry) (head new : Head)
-    → ws ≡ inode_write f.number nb ∷ inode_write d db ∷ block_write p.block w ∷ [] → V.block p.block ≡ v → w ≡ with_entry v p.at e → e ≡ record { number = f.number; tag = tag_of name }
-    → head ≡ moved r.head now → inode_seen db ≡ used (held_of head (name_from r.bytes)) → new ≡ new_head d f p.place node → inode_seen nb ≡ used (held_of new name) → written ws V ≡ with_new V d r f p name node now
-with-new ws V d r f p name node now v w db nb e head new is at put entry head_is shown new_is new_shown =
+pub with-new : (ws : List Write) (V : View) (d : ℕ) (r : Record) (f : FreeNumber) (p : FreePlace) (name : List ℕ) (node : NewNode) (now : Time) (v w db nb : List ℕ) (e : Entry) (head new : Head) (place : ℕ)
+    → ws ≡ inode_write f.number nb ∷ inode_write d db ∷ block_write p.block w ∷ [] → V.block p.block ≡ v → w ≡ with_entry v p.at e → e ≡ new_entry f name
+    → head ≡ moved r.head now → inode_seen db ≡ used (held_of head (name_from r.bytes)) → new ≡ new_head d f place node → place ≡ here_number p → inode_seen nb ≡ used (held_of new name) → written ws V ≡ with_new V d r f p name node now
+with-new ws V d r f p name node now v w db nb e head new place is at put entry head_is shown new_is place_is new_shown =
     ap (λ ws. written ws V) is
     ∙ (λ i. with_inode (with_inode (with_block V p.block (entries i)) d (moved_in i)) f.number (new_in i))
   where
-    entries : w ≡ with_entry (V.block p.block) p.at (record { number = f.number; tag = tag_of name })
+    entries : w ≡ with_entry (V.block p.block) p.at (new_entry f name)
     entries = put ∙ ap (λ v. with_entry v p.at e) (sym at) ∙ ap (with_entry (V.block p.block) p.at) entry
 
     moved_in : inode_seen db ≡ used (with_moment (held r) now)
     moved_in = shown ∙ ap (λ (x : Head). used (held_of x (name_from r.bytes))) head_is
 
-    new_in : inode_seen nb ≡ used (held_of (new_head d f p.place node) name)
-    new_in = new_shown ∙ ap (λ (x : Head). used (held_of x name)) new_is
+    new_in : inode_seen nb ≡ used (held_of (new_head d f (here_number p) node) name)
+    new_in = new_shown ∙ ap (λ (x : Head). used (held_of x name)) (new_is ∙ ap (λ place. new_head d f place node) place_is)
 
-pub with-new-block : (ws : List Write) (V : View) (d : ℕ) (r : Record) (f : FreeNumber) (b : FreeBlock) (name : List ℕ) (node : NewNode) (now : Time) (v w db nb ob : List ℕ) (e : Entry) (grown head new : Head)
-    → ws ≡ inode_write f.number nb ∷ inode_write d db ∷ owner_write b.block ob ∷ block_write b.block w ∷ [] → v ≡ zero_block → w ≡ with_entry v 0 e → e ≡ record { number = f.number; tag = tag_of name } → owner_from ob ≡ owner_of d b.j
-    → grown ≡ with_further r.head b.j b.block → head ≡ moved grown now → inode_seen db ≡ used (held_of head (name_from r.bytes)) → new ≡ new_head d f (512 * b.j) node → inode_seen nb ≡ used (held_of new name)
-    → written ws V ≡ with_new_block V d r f b name node now
-with-new-block ws V d r f b name node now v w db nb ob e grown head new is zeros put entry owner grown_is head_is shown new_is new_shown =
+-- two writes more, the last first
+pub writes-two : (before first second : List Write) (a b : Write) → first ≡ a ∷ before → second ≡ b ∷ first → second ≡ b ∷ a ∷ before
+writes-two before first second a b x y = y ∙ ap (λ ws. b ∷ ws) x
+
+-- the blocks are the first writes
+pub begun : (old new : View → Type 0) (before after : List Write) (d : ℕ) (g : Growth) (x : List ℕ) (m : ℕ) → LaysBlocks old new before after d (laying_at g.change x) m → before ≡ [] → (V : View) → written after V ≡ laid V d (laying_at g.change x) m
+begun old new before after d g x m lays none V = lays.is V ∙ ap (λ ws. laid (written ws V) d (laying_at g.change x) m) none
+
+pub with-new-block : (before ws : List Write) (V : View) (d : ℕ) (r : Record) (f : FreeNumber) (g : Growth) (name : List ℕ) (node : NewNode) (now : Time) (v w x db nb : List ℕ) (e : Entry) (larger head new : Head)
+    → ws ≡ inode_write f.number nb ∷ inode_write d db ∷ before → written before V ≡ laid V d (laying_at g.change x) (reach_count g.change.reach) → v ≡ zero_block → w ≡ with_entry v 0 e → x ≡ w → e ≡ new_entry f name
+    → larger ≡ grown_head r.head g → head ≡ moved larger now → inode_seen db ≡ used (held_of head (name_from r.bytes)) → new ≡ new_head d f (512 * g.j) node → inode_seen nb ≡ used (held_of new name)
+    → written ws V ≡ with_new_block V d r f g name node now
+with-new-block before ws V d r f g name node now v w x db nb e larger head new is lays zeros put same entry grown_is head_is shown new_is new_shown =
     ap (λ ws. written ws V) is
-    ∙ (λ i. with_inode (with_inode (with_owner (with_block V b.block (entries i)) b.block (owner i)) d (moved_in i)) f.number (new_in i))
+    ∙ (λ i. with_inode (with_inode (blocks i) d (moved_in i)) f.number (new_in i))
   where
-    entries : w ≡ with_entry zero_block 0 (record { number = f.number; tag = tag_of name })
-    entries = put ∙ ap (λ v. with_entry v 0 e) zeros ∙ ap (with_entry zero_block 0) entry
+    entries : x ≡ with_entry zero_block 0 (new_entry f name)
+    entries = same ∙ put ∙ ap (λ v. with_entry v 0 e) zeros ∙ ap (with_entry zero_block 0) entry
 
-    moved_in : inode_seen db ≡ used (held_of (moved (with_further r.head b.j b.block) now) (name_from r.bytes))
+    blocks : written before V ≡ with_growth V d g (with_entry zero_block 0 (new_entry f name))
+    blocks = lays ∙ ap (with_growth V d g) entries
+
+    moved_in : inode_seen db ≡ used (held_of (moved (grown_head r.head g) now) (name_from r.bytes))
     moved_in = shown ∙ ap (λ (x : Head). used (held_of x (name_from r.bytes))) (head_is ∙ ap (λ (x : Head). moved x now) grown_is)
 
-    new_in : inode_seen nb ≡ used (held_of (new_head d f (512 * b.j) node) name)
+    new_in : inode_seen nb ≡ used (held_of (new_head d f (512 * g.j) node) name)
     new_in = new_shown ∙ ap (λ (x : Head). used (held_of x name)) new_is
 
 -- the time of a directory that grows is its own
-pub time-of-grown : (h grown : Head) (j b : ℕ) → grown ≡ with_further h j b → IsTime h.attributes.ctime → IsTime grown.attributes.ctime
-time-of-grown h grown j b is time = subst (λ (x : Head). IsTime x.attributes.ctime) (sym is) time
+pub time-of-grown : (h larger : Head) (g : Growth) → larger ≡ grown_head h g → IsTime h.attributes.ctime → IsTime larger.attributes.ctime
+time-of-grown h larger g is time = subst (λ (x : Head). IsTime x.attributes.ctime) (sym is) time
 
 -- ── from room to a node ──
 
@@ -160,14 +109,14 @@ plants-at old new ws d r name node f place p now made is k = subst (λ p. Plants
 pub node-none : (first new : View → Type 0) (ws : List Write) (d : ℕ) (r : Record) (name : List ℕ) (node : NewNode) (now : Time) → ((V : View) → new V → first V) → ws ≡ [] → MakesNode first new ws d r name node now (Err NoSpace)
 node-none first new ws d r name node now same none = record { same = same; is = λ time V m. full (ap (λ ws. written ws V) none) }
 
-pub node-some : (first old new : View → Type 0) (ws : List Write) (d : ℕ) (r : Record) (name : List ℕ) (node : NewNode) (room : FreeRoom) (now : Time) (o : Option FreeRoom) (made : Made)
-    → Learns first old (λ V. IsRoomFor V r.head o) → o ≡ Some room → Plants old new ws d r name node room.number room.place now made → MakesNode first new ws d r name node now (Ok made)
-node-some first old new ws d r name node room now o made l is plants = record {
+pub node-some : (first old new : View → Type 0) (ws : List Write) (d : ℕ) (r : Record) (name : List ℕ) (node : NewNode) (room : FreeRoom) (now : Time) (o : Option FreeRoom) (made : Made) (tag : ℕ)
+    → Learns first old (λ V. IsRoomFor V r.head tag o) → tag ≡ tag_of name → o ≡ Some room → Plants old new ws d r name node room.number room.place now made → MakesNode first new ws d r name node now (Ok made)
+node-some first old new ws d r name node room now o made tag l tag_is is plants = record {
   same = λ V m. l.before V (plants.same V m);
-  is = λ time V m. by time V m (subst (IsRoomFor V r.head) is (l.now V (plants.same V m)));
+  is = λ time V m. by time V m (subst (IsRoomFor V r.head (tag_of name)) is (subst (λ t. IsRoomFor V r.head t o) tag_is (l.now V (plants.same V m))));
 }
   where
-    by : IsTime r.head.attributes.ctime → (V : View) → new V → HasRoomFor V r.head room → IsMakingNode V (written ws V) d r name node now (Ok made)
+    by : IsTime r.head.attributes.ctime → (V : View) → new V → HasRoomFor V r.head (tag_of name) room → IsMakingNode V (written ws V) d r name node now (Ok made)
     by time V m k = makes made (record { number = room.number; place = room.place; is_free = k.number; is_place = k.place; view = plants.written_is time V m; is = plants.told time })
 
 pub planned-kept : (may : View → Type 0) (ws : List Write) (d : ℕ) (r : Record) (name : List ℕ) (plan : Plan) (now : Time) (status : Status) → ws ≡ [] → plan.refusal ≡ Some status → MakesPlanned may may ws d r name plan now (Err status)

@@ -5,7 +5,7 @@ use Rattle.std.specs.Prelude.{nat_lt, nat_le}
 use Rattle.std.proofs.lemmas.Bool.{cases_eq, cases_lt, eq-eqb, ne_eqb, eqb-true, eqb-false, lt-ltb, ltb-true, lt-leb, leb-false, and_from, and_parts, false≢true}
 use Rattle.std.proofs.lemmas.List.{length-take-le, length-drop, length-replicate, get_or_append_left, get_or-append_right, get_or-take, get_or-drop, get_or-replicate, get_or_past, ext_get_or}
 use Rattle.journal_tree.specs.declared.time.Time.{Time}
-use Rattle.journal_tree.specs.declared.reply.Kind.TheVariants.{File}
+use Rattle.journal_tree.specs.declared.reply.Kind.TheVariants.{Directory, File}
 use Rattle.journal_tree.specs.declared.caller.Caller.{Caller}
 use Rattle.journal_tree.specs.Times.{IsTime}
 use Rattle.journal_tree.specs.Trees.Body.{file}
@@ -13,7 +13,7 @@ use Rattle.journal_tree.specs.Contents.{overlaid, written as written_node}
 use Rattle.journal_treestore.specs.declared.inode.Head.{Head}
 use Rattle.journal_treestore.specs.Bytes.{word_at}
 use Rattle.journal_treestore.specs.Inodes.{name_from}
-use Rattle.journal_treestore.specs.Views.{Held, View, with_inode, with_block, held_of, number_in, index_block, block_at, begin_at, bytes_in, content, body_of, node_of, entry_by}
+use Rattle.journal_treestore.specs.Views.{Held, View, with_inode, with_block, held_of, number_in, index_block, block_at, begin_at, bytes_in, content, body_of, node_of, entry_by, entry_of}
 use Rattle.journal_treestore.specs.Views.Seen.{used}
 use Rattle.journal_treestore.specs.Sound.{IsSoundInode, IsSoundView}
 use Rattle.journal_treestore.proofs.Indexing.{PlaceOf, place_kind, at-direct, at-indexed, at-index, at-leaf, at-none, begin-content, same-named}
@@ -24,13 +24,13 @@ use Rattle.journal_treecalls.specs.declared.node.Record.{Record}
 use Rattle.journal_treecalls.specs.declared.reach.Numbers.{Numbers}
 use Rattle.journal_treecalls.specs.declared.setting.Tail.{Tail}
 use Rattle.journal_treecalls.specs.Targets.{held}
-use Rattle.journal_treecalls.specs.Rooms.{HasFreeBlock}
+use Rattle.journal_treecalls.specs.Blocks.{HasFreeBlock}
 use Rattle.journal_treecalls.specs.Fetches.{is_in, file_blocks}
 use Rattle.journal_treecalls.specs.Sizes.{cleared}
 use Rattle.journal_treecalls.specs.Overlays.{begin_of, image_bytes, IsImage, piece_of, IsWrittenHead, gap_of, with_gap, Laying, laid}
 use Rattle.journal_treecalls.proofs.Cases.{length-content}
 use Rattle.journal_treecalls.proofs.Holding.{byte_at, in-some, in-none, content-at}
-use Rattle.journal_treecalls.proofs.Stepping.{IsNodeStep}
+use Rattle.journal_treestore.specs.Steps.{IsNodeStep}
 use Rattle.journal_treecalls.proofs.Zeroing.{cleared-long, cleared-front, cleared-back}
 use Rattle.journal_treecalls.proofs.Fetching.{range-at}
 use Rattle.journal_treecalls.proofs.Laying.{laid-keeps, block-unlaid, block-laid, owner-unlaid, owner-laid}
@@ -88,10 +88,10 @@ in-both from to j before after = and_from (nat_lt (4096 * j) to) (nat_lt from (4
 -- ── blocks of a row ──
 
 -- One of the first of a row is put at a place
-record IsAt (row : ℕ → Laying) (count p : ℕ) : Type 0 where
-  i : ℕ
-  low : i < count
-  is : (row i).place ≡ p
+pub record IsAt (row : ℕ → Laying) (count p : ℕ) : Type 0 where
+  pub i : ℕ
+  pub low : i < count
+  pub is : (row i).place ≡ p
 
 is-at : (row : ℕ → Laying) (count p : ℕ) → IsAt row count p ⊎ ((i : ℕ) → i < count → (row i).place ≢ p)
 is-at row zero p = inr (λ i low. absurd (omega (arith, low)))
@@ -135,7 +135,7 @@ pub record IsIndexed (V : View) (H : Held) (N : ℕ → ℕ) (row : ℕ → Layi
 
 -- ── the step ──
 
-module _ (V : View) (n : ℕ) (r : Record) (k : Head) (offset : ℕ) (bs image : List ℕ) (N : ℕ → ℕ) (row : ℕ → Laying) (count : ℕ) (sound : IsSoundView V) (is : V.inode n ≡ used (held r)) (a_file : r.head.kind ≡ File)
+module _ (V : View) (n : ℕ) (r : Record) (k : Head) (offset : ℕ) (bs image : List ℕ) (N : ℕ → ℕ) (row : ℕ → Laying) (count : ℕ) (sound : IsSoundView V) (is : V.inode n ≡ used (held r))
     (some : 0 < length bs) (fits : offset + length bs ≤ 4295163904) (small : r.head.size ≤ 4295163904) (lays : IsOverlay V (held r) N row count offset (offset + length bs) image) where
   abbrev H : Held
   H = held r
@@ -171,16 +171,16 @@ module _ (V : View) (n : ℕ) (r : Record) (k : Head) (offset : ℕ) (bs image :
 
   -- ── which blocks are whose ──
 
-  free-some : (i : ℕ) → i < count → block_at V (held r) (row i).place ≡ 0 → N (row i).place ≢ 0
+  pub free-some : (i : ℕ) → i < count → block_at V (held r) (row i).place ≡ 0 → N (row i).place ≢ 0
   free-some i low none e = let l = (lays.free i low none).from in let d = sound.no_data in absurd (omega (arith, e, l, d))
 
-  stale : (p : ℕ) → block_at V (held r) p ≢ 0 → N p ≡ block_at V (held r) p
+  pub stale : (p : ℕ) → block_at V (held r) p ≢ 0 → N p ≡ block_at V (held r) p
   stale p had = lays.kept p (λ i low same. had)
 
-  unreached : (p : ℕ) → ((i : ℕ) → i < count → (row i).place ≢ p) → N p ≡ block_at V (held r) p
+  pub unreached : (p : ℕ) → ((i : ℕ) → i < count → (row i).place ≢ p) → N p ≡ block_at V (held r) p
   unreached p other = lays.kept p (λ i low same. absurd (other i low same))
 
-  place-some : (i : ℕ) → i < count → N (row i).place ≢ 0
+  pub place-some : (i : ℕ) → i < count → N (row i).place ≢ 0
   place-some i low = by (cases_eq (O (row i).place) 0)
     where
       by : (O (row i).place ≡ 0) ⊎ (O (row i).place ≡ 0 → ⊥) → N (row i).place ≢ 0
@@ -188,7 +188,7 @@ module _ (V : View) (n : ℕ) (r : Record) (k : Head) (offset : ℕ) (bs image :
       by (inr had) = λ e. had (sym (stale (row i).place had) ∙ e)
 
   -- a place is one that gets a block, or has what it had
-  fresh-or : (p : ℕ) → ((f : IsAt row count p) × (block_at V (held r) p ≡ 0)) ⊎ (N p ≡ block_at V (held r) p)
+  pub fresh-or : (p : ℕ) → ((f : IsAt row count p) × (block_at V (held r) p ≡ 0)) ⊎ (N p ≡ block_at V (held r) p)
   fresh-or p = by (cases_eq (O p) 0) (is-at row count p)
     where
       by : (O p ≡ 0) ⊎ (O p ≡ 0 → ⊥) → IsAt row count p ⊎ ((i : ℕ) → i < count → (row i).place ≢ p) → ((f : IsAt row count p) × (O p ≡ 0)) ⊎ (N p ≡ O p)
@@ -197,7 +197,7 @@ module _ (V : View) (n : ℕ) (r : Record) (k : Head) (offset : ℕ) (bs image :
       by (inl none) (inr other) = inr (unreached p other)
 
   -- no other node has one of them
-  apart : (i : ℕ) (g : Held) (p m : ℕ) → i ≢ n → V.inode i ≡ used g → block_at V g p ≢ 0 → m < count → block_at V g p ≢ N (row m).place
+  pub apart : (i : ℕ) (g : Held) (p m : ℕ) → i ≢ n → V.inode i ≡ used g → block_at V g p ≢ 0 → m < count → block_at V g p ≢ N (row m).place
   apart i g p m other at there low = by (cases_eq (O (row m).place) 0)
     where
       by : (O (row m).place ≡ 0) ⊎ (O (row m).place ≡ 0 → ⊥) → block_at V g p ≢ N (row m).place
@@ -205,7 +205,7 @@ module _ (V : View) (n : ℕ) (r : Record) (k : Head) (offset : ℕ) (bs image :
       by (inr had) = λ e. other (sym (one_owner V n i H g (row m).place p was (sound.inodes i g at) had (sym (e ∙ stale (row m).place had))).0)
 
   -- and the file has none of them twice
-  apart-own : (p m : ℕ) → m < count → (row m).place ≢ p → N p ≢ 0 → N p ≢ N (row m).place
+  pub apart-own : (p m : ℕ) → m < count → (row m).place ≢ p → N p ≢ 0 → N p ≢ N (row m).place
   apart-own p m low other there = by (cases_eq (O (row m).place) 0) (fresh-or p)
     where
       by : (O (row m).place ≡ 0) ⊎ (O (row m).place ≡ 0 → ⊥) → ((f : IsAt row count p) × (O p ≡ 0)) ⊎ (N p ≡ O p) → N p ≢ N (row m).place
@@ -214,7 +214,7 @@ module _ (V : View) (n : ℕ) (r : Record) (k : Head) (offset : ℕ) (bs image :
       by (inr had) (inl f) = λ e. nobody_has V (N (row f.0.i).place) sound (free-some f.0.i f.0.low (ap O f.0.is ∙ f.1)) (lays.free f.0.i f.0.low (ap O f.0.is ∙ f.1)).unowned n H (row m).place is (sym (stale (row m).place had) ∙ sym e ∙ ap N (sym f.0.is))
       by (inr had) (inr kept) = λ e. other (sym (one_owner V n n H H p (row m).place was was (λ z. there (kept ∙ z)) (sym kept ∙ e ∙ stale (row m).place had)).1)
 
-  rows-apart : (i m : ℕ) → i < count → m < count → m ≢ i → (row i).block ≢ (row m).block
+  pub rows-apart : (i m : ℕ) → i < count → m < count → m ≢ i → (row i).block ≢ (row m).block
   rows-apart i m low inside other e = apart-own (row i).place m inside (lays.once m i inside low other) (place-some i low) (sym (lays.block i low) ∙ e ∙ lays.block m inside)
 
   -- ── the block in which the file ended ──
@@ -276,16 +276,16 @@ module _ (V : View) (n : ℕ) (r : Record) (k : Head) (offset : ℕ) (bs image :
       by None = refl
       by (Some t) = blocks V t.block (cleared (V.block t.block) t.from)
 
-  inodes-are : (laid (with_gap V (gap_of V r.head offset)) n row count).inode ≡ V.inode
+  pub inodes-are : (laid (with_gap V (gap_of V r.head offset)) n row count).inode ≡ V.inode
   inodes-are = laid-keeps V1 n row (λ (X : View). X.inode) (λ X b v. refl) (λ X b o. refl) count ∙ gap-keeps (λ (X : View). X.inode) (λ X b v. refl)
 
-  numbers-are : (laid (with_gap V (gap_of V r.head offset)) n row count).numbers ≡ V.numbers
+  pub numbers-are : (laid (with_gap V (gap_of V r.head offset)) n row count).numbers ≡ V.numbers
   numbers-are = laid-keeps V1 n row (λ (X : View). X.numbers) (λ X b v. refl) (λ X b o. refl) count ∙ gap-keeps (λ (X : View). X.numbers) (λ X b v. refl)
 
-  first-is : (laid (with_gap V (gap_of V r.head offset)) n row count).first_data ≡ V.first_data
+  pub first-is : (laid (with_gap V (gap_of V r.head offset)) n row count).first_data ≡ V.first_data
   first-is = laid-keeps V1 n row (λ (X : View). X.first_data) (λ X b v. refl) (λ X b o. refl) count ∙ gap-keeps (λ (X : View). X.first_data) (λ X b v. refl)
 
-  many-are : (laid (with_gap V (gap_of V r.head offset)) n row count).data_blocks ≡ V.data_blocks
+  pub many-are : (laid (with_gap V (gap_of V r.head offset)) n row count).data_blocks ≡ V.data_blocks
   many-are = laid-keeps V1 n row (λ (X : View). X.data_blocks) (λ X b v. refl) (λ X b o. refl) count ∙ gap-keeps (λ (X : View). X.data_blocks) (λ X b v. refl)
 
   owners-before : (with_gap V (gap_of V r.head offset)).owner ≡ V.owner
@@ -299,11 +299,11 @@ module _ (V : View) (n : ℕ) (r : Record) (k : Head) (offset : ℕ) (bs image :
   block-own-out p out there = block-out (N p) (λ m low. apart-own p m low (out m low) there)
 
   -- an index block that is not written, and any block but the last one
-  block-stays : (p : ℕ) → ((m : ℕ) → m < count → (row m).place ≢ p) → block_at V (held r) p ≢ 0 → p ≢ r.head.size / 4096 → W.block (block_at V (held r) p) ≡ V.block (block_at V (held r) p)
+  pub block-stays : (p : ℕ) → ((m : ℕ) → m < count → (row m).place ≢ p) → block_at V (held r) p ≢ 0 → p ≢ r.head.size / 4096 → W.block (block_at V (held r) p) ≡ V.block (block_at V (held r) p)
   block-stays p out there other = subst (λ b. W.block b ≡ V1.block b) (unreached p out) (block-own-out p out (λ z. there (sym (unreached p out) ∙ z))) ∙ before-own p there other
 
   -- what is
-  block-at : (m : ℕ) → m < count → W.block (N (row m).place) ≡ (row m).bytes
+  pub block-at : (m : ℕ) → m < count → W.block (N (row m).place) ≡ (row m).bytes
   block-at m low = by (row m).stays refl
     where
       differ : (i : ℕ) → (row m).stays ≡ true → (row i).stays ≡ false → i ≢ m
@@ -381,11 +381,8 @@ module _ (V : View) (n : ℕ) (r : Record) (k : Head) (offset : ℕ) (bs image :
         by (PlaceOf.leaf_place i low same) = ap (block_at W K) same ∙ at-leaf W K i low ∙ leaf-is i low ∙ ap N (sym same)
         by (PlaceOf.no_place past other far) = at-none W K p past other far ∙ sym (numbers.none p past other far)
 
-    module _ (c : Caller) (now : Time) (s : Numbers) (set : IsWrittenHead c now r.head s (offset + length bs) k) where
+    module _ (size-is : k.size ≡ max r.head.size (offset + length bs)) where
       -- ── the inode is sound ──
-
-      size-is : k.size ≡ max r.head.size (offset + length bs)
-      size-is = set.size
 
       -- a new block is written, and its record
       writes : (i : ℕ) → i < count → block_at V (held r) (row i).place ≡ 0 → (row i).stays ≡ false
@@ -445,32 +442,32 @@ module _ (V : View) (n : ℕ) (r : Record) (k : Head) (offset : ℕ) (bs image :
           by (inl f) = ap (λ p. length (W.block (N p))) (sym f.is) ∙ ap length (block-at f.i f.low) ∙ lays.whole f.i f.low
           by (inr out) = ap length (block-own-out p out there) ∙ before-sized (N p) (ap (λ x. length (V.block x)) (unreached p out) ∙ was.sized p (λ z. there (unreached p out ∙ z)))
 
-      sound-written : IsSoundInode W n (held_of k (name_from r.bytes))
-      sound-written = record {
+      sound-grown : (k.kind ≡ Directory → (blocks : ℕ) × (k.size ≡ 4096 * blocks)) → IsSoundInode W n (held_of k (name_from r.bytes))
+      sound-grown whole = record {
         owned = λ p there. subst (λ b. W.owner b ≡ record { number = n; place = p }) (sym (blocks-are p)) (owned p (λ z. there (blocks-are p ∙ z)));
         there = λ p there. subst (λ b. (W.first_data ≤ b) × (b < W.first_data + W.data_blocks)) (sym (blocks-are p))
             (subst (λ f. (f ≤ N p) × (N p < f + W.data_blocks)) (sym first-is) (subst (λ d. (V.first_data ≤ N p) × (N p < V.first_data + d)) (sym many-are) (within p (λ z. there (blocks-are p ∙ z)))));
         after = λ p far. blocks-are p ∙ after p far;
         sized = λ p there. ap (λ b. length (W.block b)) (blocks-are p) ∙ sized p (λ z. there (blocks-are p ∙ z));
-        whole = λ d. absurd (cc (sym d ∙ set.kind ∙ a_file));
-        plain = λ other. absurd (other (set.kind ∙ a_file));
+        whole = whole;
         first = λ j past. get_or_past k.blocks j 0 (let l = numbers.count_is in omega (arith, l, past));
       }
 
       -- ── the step ──
 
-      pub step-written : IsNodeStep V W n (held r) (held_of k (name_from r.bytes))
-      step-written = record {
+      pub step-grown : (k.kind ≡ Directory → (blocks : ℕ) × (k.size ≡ 4096 * blocks)) → (held_of k (name_from r.bytes)).home ≡ (held r).home → k.generation ≡ r.head.generation
+          → ((place : ℕ) → entry_of W (used (held_of k (name_from r.bytes))) place ≡ entry_of V (used (held r)) place) → IsNodeStep V W n (held r) (held_of k (name_from r.bytes))
+      step-grown whole home generation entries = record {
         form = record { numbers = numbers-are; first_data = first-is; data_blocks = many-are };
         is = is;
         new = inode-same U n (used K);
         others = λ i other. inode-other U n i (used K) other ∙ ap (λ f. f i) inodes-are;
         blocks = λ i g p other at there. block-out (block_at V g p) (λ m low. apart i g p m other at there low) ∙ before-other (block_at V g p) (λ t g_is same. apart-gap i g p other at there t g_is same);
         owners = λ i g p other at there. owner-unlaid V1 n row (block_at V g p) count (λ m low _ none e. apart i g p m other at there low (e ∙ lays.block m low)) ∙ ap (λ o. o (block_at V g p)) owners-before;
-        sound = sound-written;
-        home = λ z. record { directory = set.directory z; place = set.place z; name = name_from r.bytes };
-        generation = set.generation;
-        entries = λ place. ap (λ kind. entry_by W kind K place) (set.kind ∙ a_file) ∙ sym (ap (λ kind. entry_by V kind H place) a_file);
+        sound = sound-grown whole;
+        home = home;
+        generation = generation;
+        entries = entries;
       }
         where
           apart-gap : (i : ℕ) (g : Held) (p : ℕ) → i ≢ n → V.inode i ≡ used g → block_at V g p ≢ 0 → (t : Tail) → gap_of V r.head offset ≡ Some t → block_at V g p ≡ t.block → ⊥
@@ -478,160 +475,173 @@ module _ (V : View) (n : ℕ) (r : Record) (k : Head) (offset : ℕ) (bs image :
               let e : block_at V g p ≡ O last = same ∙ (gap-some t g_is).2 in
               other (sym (one_owner V n i H g last p was (sound.inodes i g at) (gap-some t g_is).1 (sym e)).0)
 
-      -- ── its bytes ──
+      -- ── of a file ──
 
-      module _ (im : IsImage V r.head offset bs image) (long : length image ≡ image_bytes offset (offset + length bs)) where
-        byte-is : (i : ℕ) → byte_at W (held_of k (name_from r.bytes)) i ≡ get_or (bytes_in W (N (i / 4096))) (i % 4096) 0
-        byte-is i = ap (λ b. get_or (bytes_in W b) (i % 4096) 0) (blocks-are (i / 4096))
+      module _ (a_file : r.head.kind ≡ File) (c : Caller) (now : Time) (s : Numbers) (set : IsWrittenHead c now r.head s (offset + length bs) k) where
+        no-directory : k.kind ≡ Directory → (blocks : ℕ) × (k.size ≡ 4096 * blocks)
+        no-directory d = absurd (cc (sym d ∙ set.kind ∙ a_file))
 
-        -- in a block in which bytes lie
-        byte-in : (i : ℕ) → is_in offset (offset + length bs) (i / 4096) ≡ true → get_or (bytes_in W (N (i / 4096))) (i % 4096) 0 ≡ get_or image (i - begin_of offset) 0
-        byte-in i in_it =
-            let p = in-parts offset to (i / 4096) in_it in let a = p.0 in let b = p.1 in
-            let q = lays.at (i / 4096) in_it in
-            in-some W (N (i / 4096)) (i % 4096) (λ z. place-some (i / 4096 - offset / 4096) q.0 (ap N q.1 ∙ z))
-            ∙ ap (λ p. get_or (W.block (N p)) (i % 4096) 0) (sym q.1)
-            ∙ ap (λ v. get_or v (i % 4096) 0) (block-at (i / 4096 - offset / 4096) q.0 ∙ lays.piece (i / 4096) in_it)
-            ∙ range-at image (4096 * (i / 4096) - begin_of offset) (4096 * (i / 4096) - begin_of offset + 4096) (i % 4096) (omega arith)
-            ∙ ap (λ k. get_or image k 0) (let e : 4096 * (i / 4096) - begin_of offset + i % 4096 ≡ i - begin_of offset = omega (arith, a, b) in e)
+        sound-written : IsSoundInode W n (held_of k (name_from r.bytes))
+        sound-written = sound-grown no-directory
 
-        out-at : (i : ℕ) → i < 4295163904 → is_in offset (offset + length bs) (i / 4096) ≡ false → (m : ℕ) → m < count → (row m).place ≢ i / 4096
-        out-at i low out = lays.out (i / 4096) out (omega (arith, low))
+        pub step-written : IsNodeStep V W n (held r) (held_of k (name_from r.bytes))
+        step-written = step-grown no-directory (λ z. record { directory = set.directory z; place = set.place z; name = name_from r.bytes }) set.generation
+            (λ place. ap (λ kind. entry_by W kind K place) (set.kind ∙ a_file) ∙ sym (ap (λ kind. entry_by V kind H place) a_file))
 
-        -- in another, before the file's end as it was
-        byte-out : (i : ℕ) → is_in offset (offset + length bs) (i / 4096) ≡ false → i < r.head.size → get_or (bytes_in W (N (i / 4096))) (i % 4096) 0 ≡ byte_at V (held r) i
-        byte-out i out inside = ap (λ b. get_or (bytes_in W b) (i % 4096) 0) (unreached (i / 4096) others) ∙ by (cases_eq (O (i / 4096)) 0)
-          where
-            others : (m : ℕ) → m < count → (row m).place ≢ i / 4096
-            others = out-at i (omega (arith, inside, small)) out
+        -- ── its bytes ──
 
-            same-block : O (i / 4096) ≢ 0 → W.block (O (i / 4096)) ≡ V1.block (O (i / 4096))
-            same-block there = subst (λ b. W.block b ≡ V1.block b) (unreached (i / 4096) others) (block-own-out (i / 4096) others (λ z. there (sym (unreached (i / 4096) others) ∙ z)))
+        module _ (im : IsImage V r.head offset bs image) (long : length image ≡ image_bytes offset (offset + length bs)) where
+          byte-is : (i : ℕ) → byte_at W (held_of k (name_from r.bytes)) i ≡ get_or (bytes_in W (N (i / 4096))) (i % 4096) 0
+          byte-is i = ap (λ b. get_or (bytes_in W b) (i % 4096) 0) (blocks-are (i / 4096))
 
-            before-is : O (i / 4096) ≢ 0 → get_or (V1.block (O (i / 4096))) (i % 4096) 0 ≡ get_or (V.block (O (i / 4096))) (i % 4096) 0
-            before-is there = at (cases_eq (i / 4096) last) (gap_of V r.head offset) refl
-              where
-                at : (i / 4096 ≡ last) ⊎ (i / 4096 ≡ last → ⊥) → (o : Option Tail) → gap_of V r.head offset ≡ o → get_or (V1.block (O (i / 4096))) (i % 4096) 0 ≡ get_or (V.block (O (i / 4096))) (i % 4096) 0
-                at (inr other) o g = ap (λ v. get_or v (i % 4096) 0) (before-own (i / 4096) there other)
-                at (inl same) None g = ap (λ o. get_or ((with_gap V o).block (O (i / 4096))) (i % 4096) 0) g
-                at (inl same) (Some t) g =
-                    ap (λ p. get_or (V1.block (O p)) (i % 4096) 0) same
-                    ∙ ap (λ v. get_or v (i % 4096) 0) (before-gap t g)
-                    ∙ cleared-front (V.block (O last)) (r.head.size % 4096) (i % 4096) (was.sized last (gap-some t g).1) (omega arith) (omega (arith, same, inside))
-                    ∙ ap (λ p. get_or (V.block (O p)) (i % 4096) 0) (sym same)
+          -- in a block in which bytes lie
+          byte-in : (i : ℕ) → is_in offset (offset + length bs) (i / 4096) ≡ true → get_or (bytes_in W (N (i / 4096))) (i % 4096) 0 ≡ get_or image (i - begin_of offset) 0
+          byte-in i in_it =
+              let p = in-parts offset to (i / 4096) in_it in let a = p.0 in let b = p.1 in
+              let q = lays.at (i / 4096) in_it in
+              in-some W (N (i / 4096)) (i % 4096) (λ z. place-some (i / 4096 - offset / 4096) q.0 (ap N q.1 ∙ z))
+              ∙ ap (λ p. get_or (W.block (N p)) (i % 4096) 0) (sym q.1)
+              ∙ ap (λ v. get_or v (i % 4096) 0) (block-at (i / 4096 - offset / 4096) q.0 ∙ lays.piece (i / 4096) in_it)
+              ∙ range-at image (4096 * (i / 4096) - begin_of offset) (4096 * (i / 4096) - begin_of offset + 4096) (i % 4096) (omega arith)
+              ∙ ap (λ k. get_or image k 0) (let e : 4096 * (i / 4096) - begin_of offset + i % 4096 ≡ i - begin_of offset = omega (arith, a, b) in e)
 
-            by : (O (i / 4096) ≡ 0) ⊎ (O (i / 4096) ≡ 0 → ⊥) → get_or (bytes_in W (O (i / 4096))) (i % 4096) 0 ≡ byte_at V H i
-            by (inl none) = in-none W (O (i / 4096)) (i % 4096) none (omega arith) ∙ sym (in-none V (O (i / 4096)) (i % 4096) none (omega arith))
-            by (inr there) =
-                in-some W (O (i / 4096)) (i % 4096) there
-                ∙ ap (λ v. get_or v (i % 4096) 0) (same-block there)
-                ∙ before-is there
-                ∙ sym (in-some V (O (i / 4096)) (i % 4096) there)
+          out-at : (i : ℕ) → i < 4295163904 → is_in offset (offset + length bs) (i / 4096) ≡ false → (m : ℕ) → m < count → (row m).place ≢ i / 4096
+          out-at i low out = lays.out (i / 4096) out (omega (arith, low))
 
-        -- and after it
-        byte-gap : (i : ℕ) → is_in offset (offset + length bs) (i / 4096) ≡ false → r.head.size ≤ i → i < offset → get_or (bytes_in W (N (i / 4096))) (i % 4096) 0 ≡ 0
-        byte-gap i out past low = ap (λ b. get_or (bytes_in W b) (i % 4096) 0) (unreached (i / 4096) others) ∙ by (cases_eq (O (i / 4096)) 0)
-          where
-            others : (m : ℕ) → m < count → (row m).place ≢ i / 4096
-            others = out-at i (omega (arith, low, fits)) out
+          -- in another, before the file's end as it was
+          byte-out : (i : ℕ) → is_in offset (offset + length bs) (i / 4096) ≡ false → i < r.head.size → get_or (bytes_in W (N (i / 4096))) (i % 4096) 0 ≡ byte_at V (held r) i
+          byte-out i out inside = ap (λ b. get_or (bytes_in W b) (i % 4096) 0) (unreached (i / 4096) others) ∙ by (cases_eq (O (i / 4096)) 0)
+            where
+              others : (m : ℕ) → m < count → (row m).place ≢ i / 4096
+              others = out-at i (omega (arith, inside, small)) out
 
-            begins : O (i / 4096) ≢ 0 → 4096 * (i / 4096) < r.head.size
-            begins there = at (cases_lt (4096 * (i / 4096)) r.head.size)
-              where
-                at : (4096 * (i / 4096) < r.head.size) ⊎ (r.head.size ≤ 4096 * (i / 4096)) → 4096 * (i / 4096) < r.head.size
-                at (inl before) = before
-                at (inr far) = absurd (there (was.after (i / 4096) (subst (λ b. r.head.size ≤ b) (sym (begin-content (i / 4096) (omega (arith, low, fits)))) far)))
+              same-block : O (i / 4096) ≢ 0 → W.block (O (i / 4096)) ≡ V1.block (O (i / 4096))
+              same-block there = subst (λ b. W.block b ≡ V1.block b) (unreached (i / 4096) others) (block-own-out (i / 4096) others (λ z. there (sym (unreached (i / 4096) others) ∙ z)))
 
-            same : O (i / 4096) ≢ 0 → i / 4096 ≡ r.head.size / 4096
-            same there = let l = begins there in omega (arith, l, past)
+              before-is : O (i / 4096) ≢ 0 → get_or (V1.block (O (i / 4096))) (i % 4096) 0 ≡ get_or (V.block (O (i / 4096))) (i % 4096) 0
+              before-is there = at (cases_eq (i / 4096) last) (gap_of V r.head offset) refl
+                where
+                  at : (i / 4096 ≡ last) ⊎ (i / 4096 ≡ last → ⊥) → (o : Option Tail) → gap_of V r.head offset ≡ o → get_or (V1.block (O (i / 4096))) (i % 4096) 0 ≡ get_or (V.block (O (i / 4096))) (i % 4096) 0
+                  at (inr other) o g = ap (λ v. get_or v (i % 4096) 0) (before-own (i / 4096) there other)
+                  at (inl same) None g = ap (λ o. get_or ((with_gap V o).block (O (i / 4096))) (i % 4096) 0) g
+                  at (inl same) (Some t) g =
+                      ap (λ p. get_or (V1.block (O p)) (i % 4096) 0) same
+                      ∙ ap (λ v. get_or v (i % 4096) 0) (before-gap t g)
+                      ∙ cleared-front (V.block (O last)) (r.head.size % 4096) (i % 4096) (was.sized last (gap-some t g).1) (omega arith) (omega (arith, same, inside))
+                      ∙ ap (λ p. get_or (V.block (O p)) (i % 4096) 0) (sym same)
 
-            before_it : O (i / 4096) ≢ 0 → r.head.size / 4096 < offset / 4096
-            before_it there = at (cases_lt last (offset / 4096))
-              where
-                at : (last < offset / 4096) ⊎ (offset / 4096 ≤ last) → last < offset / 4096
-                at (inl l) = l
-                at (inr l) = absurd (false≢true (sym out ∙ in-both offset to (i / 4096) (omega (arith, low)) (let s = same there in omega (arith, s, l))))
+              by : (O (i / 4096) ≡ 0) ⊎ (O (i / 4096) ≡ 0 → ⊥) → get_or (bytes_in W (O (i / 4096))) (i % 4096) 0 ≡ byte_at V H i
+              by (inl none) = in-none W (O (i / 4096)) (i % 4096) none (omega arith) ∙ sym (in-none V (O (i / 4096)) (i % 4096) none (omega arith))
+              by (inr there) =
+                  in-some W (O (i / 4096)) (i % 4096) there
+                  ∙ ap (λ v. get_or v (i % 4096) 0) (same-block there)
+                  ∙ before-is there
+                  ∙ sym (in-some V (O (i / 4096)) (i % 4096) there)
 
-            is-zero : O (i / 4096) ≢ 0 → (o : Option Tail) → gap_of V r.head offset ≡ o → get_or (bytes_in W (O (i / 4096))) (i % 4096) 0 ≡ 0
-            is-zero there None g = absurd (there (ap O (same there) ∙ gap-none 0 g (before_it there)))
-            is-zero there (Some t) g =
-                in-some W (O (i / 4096)) (i % 4096) there
-                ∙ ap (λ v. get_or v (i % 4096) 0) (subst (λ b. W.block b ≡ V1.block b) (unreached (i / 4096) others) (block-own-out (i / 4096) others (λ z. there (sym (unreached (i / 4096) others) ∙ z))))
-                ∙ ap (λ p. get_or (V1.block (O p)) (i % 4096) 0) (same there)
-                ∙ ap (λ v. get_or v (i % 4096) 0) (before-gap t g)
-                ∙ cleared-back (V.block (O last)) (r.head.size % 4096) (i % 4096) (was.sized last (gap-some t g).1) (omega arith) (let s = same there in omega (arith, s, past)) (omega arith)
+          -- and after it
+          byte-gap : (i : ℕ) → is_in offset (offset + length bs) (i / 4096) ≡ false → r.head.size ≤ i → i < offset → get_or (bytes_in W (N (i / 4096))) (i % 4096) 0 ≡ 0
+          byte-gap i out past low = ap (λ b. get_or (bytes_in W b) (i % 4096) 0) (unreached (i / 4096) others) ∙ by (cases_eq (O (i / 4096)) 0)
+            where
+              others : (m : ℕ) → m < count → (row m).place ≢ i / 4096
+              others = out-at i (omega (arith, low, fits)) out
 
-            by : (O (i / 4096) ≡ 0) ⊎ (O (i / 4096) ≡ 0 → ⊥) → get_or (bytes_in W (O (i / 4096))) (i % 4096) 0 ≡ 0
-            by (inl none) = in-none W (O (i / 4096)) (i % 4096) none (omega arith)
-            by (inr there) = is-zero there (gap_of V r.head offset) refl
+              begins : O (i / 4096) ≢ 0 → 4096 * (i / 4096) < r.head.size
+              begins there = at (cases_lt (4096 * (i / 4096)) r.head.size)
+                where
+                  at : (4096 * (i / 4096) < r.head.size) ⊎ (r.head.size ≤ 4096 * (i / 4096)) → 4096 * (i / 4096) < r.head.size
+                  at (inl before) = before
+                  at (inr far) = absurd (there (was.after (i / 4096) (subst (λ b. r.head.size ≤ b) (sym (begin-content (i / 4096) (omega (arith, low, fits)))) far)))
 
-        held-long : length (content V (held r)) ≡ r.head.size
-        held-long = length-content V n (held r) was
+              same : O (i / 4096) ≢ 0 → i / 4096 ≡ r.head.size / 4096
+              same there = let l = begins there in omega (arith, l, past)
 
-        each : (i : ℕ) → i < k.size → get_or (content W (held_of k (name_from r.bytes))) i 0 ≡ get_or (overlaid (content V (held r)) offset bs) i 0
-        each i low = content-at W n K sound-written i low ∙ byte-is i ∙ by (cases_lt i offset) (cases_lt i (offset + length bs)) (cases_lt i r.head.size) (is_in offset (offset + length bs) (i / 4096)) refl
-          where
-            there : is_in offset (offset + length bs) (i / 4096) ≡ true → i - begin_of offset < length image
-            there in_it = let p = in-parts offset (offset + length bs) (i / 4096) in_it in let a = p.0 in let b = p.1 in omega (arith, long, a, b)
+              before_it : O (i / 4096) ≢ 0 → r.head.size / 4096 < offset / 4096
+              before_it there = at (cases_lt last (offset / 4096))
+                where
+                  at : (last < offset / 4096) ⊎ (offset / 4096 ≤ last) → last < offset / 4096
+                  at (inl l) = l
+                  at (inr l) = absurd (false≢true (sym out ∙ in-both offset to (i / 4096) (omega (arith, low)) (let s = same there in omega (arith, s, l))))
 
-            back : is_in offset (offset + length bs) (i / 4096) ≡ true → begin_of offset + (i - begin_of offset) ≡ i
-            back in_it = let p = in-parts offset (offset + length bs) (i / 4096) in_it in let b = p.1 in omega (arith, b)
+              is-zero : O (i / 4096) ≢ 0 → (o : Option Tail) → gap_of V r.head offset ≡ o → get_or (bytes_in W (O (i / 4096))) (i % 4096) 0 ≡ 0
+              is-zero there None g = absurd (there (ap O (same there) ∙ gap-none 0 g (before_it there)))
+              is-zero there (Some t) g =
+                  in-some W (O (i / 4096)) (i % 4096) there
+                  ∙ ap (λ v. get_or v (i % 4096) 0) (subst (λ b. W.block b ≡ V1.block b) (unreached (i / 4096) others) (block-own-out (i / 4096) others (λ z. there (sym (unreached (i / 4096) others) ∙ z))))
+                  ∙ ap (λ p. get_or (V1.block (O p)) (i % 4096) 0) (same there)
+                  ∙ ap (λ v. get_or v (i % 4096) 0) (before-gap t g)
+                  ∙ cleared-back (V.block (O last)) (r.head.size % 4096) (i % 4096) (was.sized last (gap-some t g).1) (omega arith) (let s = same there in omega (arith, s, past)) (omega arith)
 
-            -- where it was before
-            stays : (i < offset) ⊎ (offset + length bs ≤ i) → i < r.head.size → (t : Bool) → is_in offset (offset + length bs) (i / 4096) ≡ t → get_or (bytes_in W (N (i / 4096))) (i % 4096) 0 ≡ byte_at V H i
-            stays beside inside false out = byte-out i out inside
-            stays beside inside true in_it =
-                let e = back in_it in
-                byte-in i in_it
-                ∙ im.old (i - begin_of offset) (there in_it) (subst (λ k. (k < offset) ⊎ (offset + length bs ≤ k)) (sym e) beside) (subst (λ k. k < r.head.size) (sym e) inside)
-                ∙ ap (λ i. get_or (bytes_in V (file_blocks V r.head (i / 4096))) (i % 4096) 0) e
-                ∙ ap (λ b. get_or (bytes_in V b) (i % 4096) 0) (file-is (i / 4096))
+              by : (O (i / 4096) ≡ 0) ⊎ (O (i / 4096) ≡ 0 → ⊥) → get_or (bytes_in W (O (i / 4096))) (i % 4096) 0 ≡ 0
+              by (inl none) = in-none W (O (i / 4096)) (i % 4096) none (omega arith)
+              by (inr there) = is-zero there (gap_of V r.head offset) refl
 
-            goes : i < offset → r.head.size ≤ i → (t : Bool) → is_in offset (offset + length bs) (i / 4096) ≡ t → get_or (bytes_in W (N (i / 4096))) (i % 4096) 0 ≡ 0
-            goes before past false out = byte-gap i out past before
-            goes before past true in_it =
-                let e = back in_it in
-                byte-in i in_it
-                ∙ im.blank (i - begin_of offset) (there in_it) (subst (λ k. (k < offset) ⊎ (offset + length bs ≤ k)) (sym e) (inl before)) (subst (λ k. r.head.size ≤ k) (sym e) past)
+          held-long : length (content V (held r)) ≡ r.head.size
+          held-long = length-content V n (held r) was
 
-            -- where it is new
-            comes : offset ≤ i → i < offset + length bs → get_or (bytes_in W (N (i / 4096))) (i % 4096) 0 ≡ get_or bs (i - offset) 0
-            comes past before =
-                let in_it = in-both offset (offset + length bs) (i / 4096) (omega (arith, before)) (omega (arith, past)) in
-                let e = back in_it in
-                byte-in i in_it
-                ∙ im.new (i - begin_of offset) (there in_it) (subst (λ k. offset ≤ k) (sym e) past) (subst (λ k. k < offset + length bs) (sym e) before)
-                ∙ ap (λ k. get_or bs (k - offset) 0) e
+          each : (i : ℕ) → i < k.size → get_or (content W (held_of k (name_from r.bytes))) i 0 ≡ get_or (overlaid (content V (held r)) offset bs) i 0
+          each i low = content-at W n K sound-written i low ∙ byte-is i ∙ by (cases_lt i offset) (cases_lt i (offset + length bs)) (cases_lt i r.head.size) (is_in offset (offset + length bs) (i / 4096)) refl
+            where
+              there : is_in offset (offset + length bs) (i / 4096) ≡ true → i - begin_of offset < length image
+              there in_it = let p = in-parts offset (offset + length bs) (i / 4096) in_it in let a = p.0 in let b = p.1 in omega (arith, long, a, b)
 
-            was-inside : i < r.head.size → i < length (content V H)
-            was-inside inside = let l = held-long in omega (arith, l, inside)
+              back : is_in offset (offset + length bs) (i / 4096) ≡ true → begin_of offset + (i - begin_of offset) ≡ i
+              back in_it = let p = in-parts offset (offset + length bs) (i / 4096) in_it in let b = p.1 in omega (arith, b)
 
-            was-past : r.head.size ≤ i → length (content V H) ≤ i
-            was-past past = let l = held-long in omega (arith, l, past)
+              -- where it was before
+              stays : (i < offset) ⊎ (offset + length bs ≤ i) → i < r.head.size → (t : Bool) → is_in offset (offset + length bs) (i / 4096) ≡ t → get_or (bytes_in W (N (i / 4096))) (i % 4096) 0 ≡ byte_at V H i
+              stays beside inside false out = byte-out i out inside
+              stays beside inside true in_it =
+                  let e = back in_it in
+                  byte-in i in_it
+                  ∙ im.old (i - begin_of offset) (there in_it) (subst (λ k. (k < offset) ⊎ (offset + length bs ≤ k)) (sym e) beside) (subst (λ k. k < r.head.size) (sym e) inside)
+                  ∙ ap (λ i. get_or (bytes_in V (file_blocks V r.head (i / 4096))) (i % 4096) 0) e
+                  ∙ ap (λ b. get_or (bytes_in V b) (i % 4096) 0) (file-is (i / 4096))
 
-            by : (i < offset) ⊎ (offset ≤ i) → (i < offset + length bs) ⊎ (offset + length bs ≤ i) → (i < r.head.size) ⊎ (r.head.size ≤ i) → (t : Bool) → is_in offset (offset + length bs) (i / 4096) ≡ t
-                → get_or (bytes_in W (N (i / 4096))) (i % 4096) 0 ≡ get_or (overlaid (content V H) offset bs) i 0
-            by (inl before) _ (inl inside) t is_t = stays (inl before) inside t is_t ∙ sym (overlaid-front (content V H) offset bs i before (was-inside inside) ∙ content-at V n H was i inside)
-            by (inl before) _ (inr past) t is_t = goes before past t is_t ∙ sym (overlaid-gap (content V H) offset bs i before (was-past past))
-            by (inr after_it) (inl before) _ t is_t = comes after_it before ∙ sym (overlaid-new (content V H) offset bs i after_it before)
-            by (inr after_it) (inr past) (inl inside) t is_t = stays (inr past) inside t is_t ∙ sym (overlaid-back (content V H) offset bs i past ∙ content-at V n H was i inside)
-            by (inr after_it) (inr past) (inr far) t is_t = let s = size-is in absurd (omega (arith, s, low, past, far))
+              goes : i < offset → r.head.size ≤ i → (t : Bool) → is_in offset (offset + length bs) (i / 4096) ≡ t → get_or (bytes_in W (N (i / 4096))) (i % 4096) 0 ≡ 0
+              goes before past false out = byte-gap i out past before
+              goes before past true in_it =
+                  let e = back in_it in
+                  byte-in i in_it
+                  ∙ im.blank (i - begin_of offset) (there in_it) (subst (λ k. (k < offset) ⊎ (offset + length bs ≤ k)) (sym e) (inl before)) (subst (λ k. r.head.size ≤ k) (sym e) past)
 
-        bytes-are : content W (held_of k (name_from r.bytes)) ≡ overlaid (content V (held r)) offset bs
-        bytes-are = ext_get_or 0 (content W K) (overlaid (content V H) offset bs) (is_long ∙ sym new_long) (λ i low. each i (let l = is_long in omega (arith, l, low)))
-          where
-            is_long : length (content W K) ≡ k.size
-            is_long = length-content W n K sound-written
+              -- where it is new
+              comes : offset ≤ i → i < offset + length bs → get_or (bytes_in W (N (i / 4096))) (i % 4096) 0 ≡ get_or bs (i - offset) 0
+              comes past before =
+                  let in_it = in-both offset (offset + length bs) (i / 4096) (omega (arith, before)) (omega (arith, past)) in
+                  let e = back in_it in
+                  byte-in i in_it
+                  ∙ im.new (i - begin_of offset) (there in_it) (subst (λ k. offset ≤ k) (sym e) past) (subst (λ k. k < offset + length bs) (sym e) before)
+                  ∙ ap (λ k. get_or bs (k - offset) 0) e
 
-            new_long : length (overlaid (content V H) offset bs) ≡ k.size
-            new_long = overlaid-long (content V H) offset bs ∙ ap (λ n. max n (offset + length bs)) held-long ∙ sym size-is
+              was-inside : i < r.head.size → i < length (content V H)
+              was-inside inside = let l = held-long in omega (arith, l, inside)
 
-        ctime : IsTime r.head.attributes.ctime
-        ctime = (sound.fit.nodes n (node_of V (held r)) (inode-node V n (held r) is)).ctime
+              was-past : r.head.size ≤ i → length (content V H) ≤ i
+              was-past past = let l = held-long in omega (arith, l, past)
 
-        pub node-written : node_of W (held_of k (name_from r.bytes)) ≡ written_node c (node_of V (held r)) (overlaid (content V (held r)) offset bs) now
-        node-written = λ z. record {
-          attributes = set.attributes ctime z;
-          home = record { directory = set.directory z; place = set.place z; name = name_from r.bytes };
-          body = (ap (λ kind. body_of W kind K) (set.kind ∙ a_file) ∙ ap file bytes-are) z;
-        }
+              by : (i < offset) ⊎ (offset ≤ i) → (i < offset + length bs) ⊎ (offset + length bs ≤ i) → (i < r.head.size) ⊎ (r.head.size ≤ i) → (t : Bool) → is_in offset (offset + length bs) (i / 4096) ≡ t
+                  → get_or (bytes_in W (N (i / 4096))) (i % 4096) 0 ≡ get_or (overlaid (content V H) offset bs) i 0
+              by (inl before) _ (inl inside) t is_t = stays (inl before) inside t is_t ∙ sym (overlaid-front (content V H) offset bs i before (was-inside inside) ∙ content-at V n H was i inside)
+              by (inl before) _ (inr past) t is_t = goes before past t is_t ∙ sym (overlaid-gap (content V H) offset bs i before (was-past past))
+              by (inr after_it) (inl before) _ t is_t = comes after_it before ∙ sym (overlaid-new (content V H) offset bs i after_it before)
+              by (inr after_it) (inr past) (inl inside) t is_t = stays (inr past) inside t is_t ∙ sym (overlaid-back (content V H) offset bs i past ∙ content-at V n H was i inside)
+              by (inr after_it) (inr past) (inr far) t is_t = let s = size-is in absurd (omega (arith, s, low, past, far))
+
+          bytes-are : content W (held_of k (name_from r.bytes)) ≡ overlaid (content V (held r)) offset bs
+          bytes-are = ext_get_or 0 (content W K) (overlaid (content V H) offset bs) (is_long ∙ sym new_long) (λ i low. each i (let l = is_long in omega (arith, l, low)))
+            where
+              is_long : length (content W K) ≡ k.size
+              is_long = length-content W n K sound-written
+
+              new_long : length (overlaid (content V H) offset bs) ≡ k.size
+              new_long = overlaid-long (content V H) offset bs ∙ ap (λ n. max n (offset + length bs)) held-long ∙ sym size-is
+
+          ctime : IsTime r.head.attributes.ctime
+          ctime = (sound.fit.nodes n (node_of V (held r)) (inode-node V n (held r) is)).ctime
+
+          pub node-written : node_of W (held_of k (name_from r.bytes)) ≡ written_node c (node_of V (held r)) (overlaid (content V (held r)) offset bs) now
+          node-written = λ z. record {
+            attributes = set.attributes ctime z;
+            home = record { directory = set.directory z; place = set.place z; name = name_from r.bytes };
+            body = (ap (λ kind. body_of W kind K) (set.kind ∙ a_file) ∙ ap file bytes-are) z;
+          }

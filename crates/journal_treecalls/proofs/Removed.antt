@@ -1,6 +1,6 @@
 -- Each step of REMOVE: its knowledge, and its writes.
-use Rattle.std.proofs.Common.{◌≡◌, ℕ, List, [], ◌∷◌, Option, Some, None, Ok, Err, refl, sym, ap, subst, ◌∙◌}
-use Rattle.std.specs.Prelude.{Result}
+use Rattle.std.proofs.Common.{◌≡◌, ℕ, List, [], ◌∷◌, ◌/◌, ◌%◌, Bool, true, false, cond, Option, Some, None, Ok, Err, refl, sym, ap, subst, ◌∙◌}
+use Rattle.std.specs.Prelude.{Result, option_map}
 use Rattle.journal_tree.specs.declared.time.Time.{Time}
 use Rattle.journal_tree.specs.declared.reply.Changed.{Changed}
 use Rattle.journal_tree.specs.declared.reply.Handle.{Handle}
@@ -24,11 +24,15 @@ use Rattle.journal_treestore.specs.Steps.{with_moment}
 use Rattle.journal_treestore.proofs.Viewing.{inode-node}
 use Rattle.journal_treecalls.specs.declared.node.Record.{Record}
 use Rattle.journal_treecalls.specs.declared.search.Hit.{Hit}
+use Rattle.journal_treecalls.specs.declared.seats.BlockNumbers.{BlockNumbers}
+use Rattle.journal_treecalls.specs.declared.seats.EntryPlace.{EntryPlace}
+use Rattle.journal_treecalls.specs.declared.seats.EntryPlaces.{EntryPlaces}
 use Rattle.journal_treecalls.specs.declared.named.Named.{Named}
 use Rattle.journal_treecalls.specs.Disks.{Write, inode_seen, written, Learns, Does}
 use Rattle.journal_treecalls.specs.Disks.Write.{inode_write, block_write}
 use Rattle.journal_treecalls.specs.Targets.{held, IsDirectoryFor, Hits}
-use Rattle.journal_treecalls.specs.Names.{name_status, IsNamed, IsNameFor, IsFoundIn, IsUnrefused, HasKind, removal_status, moved, without_hit, TakesOut, RemovesHit, IsRemoval, Removes}
+use Rattle.journal_treecalls.specs.Seats.{HasBlocks, is_at_home, home_place, second_place, places_of, position_of, home_position, second_position}
+use Rattle.journal_treecalls.specs.Names.{name_status, IsNamed, IsNameFor, IsFoundIn, IsUnrefused, HasKind, removal_status, moved, without_entries, without_hit, ClearsEntries, TakesOut, RemovesHit, IsRemoval, Removes}
 use Rattle.journal_treecalls.specs.Names.IsUnnamed.{unsearched, no_name}
 use Rattle.journal_treecalls.specs.Names.IsRemoval.{missed, kept, taken}
 use Rattle.journal_treecalls.proofs.Learning.{learns-as, learns-then, does-reads}
@@ -41,7 +45,7 @@ use Rattle.journal_treecalls.proofs.Removing.{remove-unnamed, remove-missed, rem
 pub found-refused : (may : View → Type 0) (r : Record) (name : List ℕ) (o : Option Status) (status : Status) → o ≡ Some status → Learns may may (λ V. IsFoundIn V r name o (Err status))
 found-refused may r name o status is = record { before = λ V m. m; now = λ V m. is }
 
-pub found-hit : (old new : View → Type 0) (r : Record) (name : List ℕ) (o : Option Status) (hit : Option Hit) → Learns old new (λ V. Hits V r.head.blocks name hit) → o ≡ None
+pub found-hit : (old new : View → Type 0) (r : Record) (name : List ℕ) (o : Option Status) (hit : Option Hit) → Learns old new (λ V. Hits V r.head name hit) → o ≡ None
     → Learns old new (λ V. IsFoundIn V r name o (Ok (record { directory = r; hit = hit })))
 found-hit old new r name o hit l is = learns-as old new _ _ l (λ V m h. record { directory = refl; unrefused = is; hits = h })
 
@@ -57,7 +61,7 @@ module _ (first old : View → Type 0) (c : Caller) (h : Handle) (name : List �
       by V s (Ok n) f = record {
         searched = subst (Rattle.journal_treecalls.specs.Targets.IsSearched V c h) (sym f.directory) s;
         named = sym kind_is ∙ is-name kind a b (sym status_is ∙ f.unrefused);
-        hits = subst (λ (d : Record). Hits V d.head.blocks name n.hit) (sym f.directory) f.hits;
+        hits = subst (λ (d : Record). Hits V d.head name n.hit) (sym f.directory) f.hits;
       }
       by V s (Err status) f = no_name r s (ap (λ k. name_status k a b) (sym kind_is) ∙ sym status_is ∙ f)
 
@@ -67,15 +71,58 @@ kind-ok name kind a b o kind_is status_is (Err status) none = tt
 
 -- ── the writes ──
 
-pub without-hit : (ws : List Write) (V : View) (d : ℕ) (r : Record) (hit : Hit) (now : Time) (v w db fb : List ℕ) (head : Head)
-    → ws ≡ inode_write hit.number fb ∷ inode_write d db ∷ block_write hit.block w ∷ [] → V.block hit.block ≡ v → w ≡ with_entry v hit.at no_entry → head ≡ moved r.head now
-    → inode_seen db ≡ used (held_of head (name_from r.bytes)) → inode_seen fb ≡ free hit.head.generation → written ws V ≡ without_hit V d r hit now
-without-hit ws V d r hit now v w db fb head is at put head_is shown is_free =
-    ap (λ ws. written ws V) is
-    ∙ (λ i. with_inode (with_inode (with_block V hit.block (entries i)) d (new i)) hit.number (is_free i))
+-- one entry goes
+pub clears-one : (first old new : View → Type 0) (before ws : List Write) (p : EntryPlaces) (v w : List ℕ) → p.second ≡ None → before ≡ [] → ws ≡ block_write p.home.block w ∷ before
+    → Learns first old (λ V. V.block p.home.block ≡ v) → w ≡ with_entry v p.home.at no_entry → ((V : View) → new V → old V) → ClearsEntries first new ws p
+clears-one first old new before ws p v w one none is l put same = record {
+  same = λ V m. l.before V (same V m);
+  is = λ V m.
+      ap (λ ws. written ws V) (is ∙ ap (λ ws. block_write p.home.block w ∷ ws) none)
+      ∙ ap (with_block V p.home.block) (put ∙ ap (λ v. with_entry v p.home.at no_entry) (sym (l.now V (same V m))))
+      ∙ ap (λ o. without_entries V (position_of p.home) (option_map position_of o)) (sym one);
+}
+
+-- and so does another
+pub clears-two : (first old mid new : View → Type 0) (before one ws : List Write) (p : EntryPlaces) (q : EntryPlace) (v w x y : List ℕ) → p.second ≡ Some q → before ≡ [] → one ≡ block_write p.home.block w ∷ before → ws ≡ block_write q.block y ∷ one
+    → Learns first old (λ V. V.block p.home.block ≡ v) → w ≡ with_entry v p.home.at no_entry → Learns old mid (λ V. V.block q.block ≡ x) → y ≡ with_entry x q.at no_entry → ((V : View) → new V → mid V) → ClearsEntries first new ws p
+clears-two first old mid new before one ws p q v w x y two none one_is is l put k other same = record {
+  same = λ V m. l.before V (k.before V (same V m));
+  is = λ V m.
+      ap (λ ws. written ws V) (is ∙ ap (λ ws. block_write q.block y ∷ ws) (one_is ∙ ap (λ ws. block_write p.home.block w ∷ ws) none))
+      ∙ (λ i. with_block (with_block V p.home.block (home V m i)) q.block (second V m i))
+      ∙ ap (λ o. without_entries V (position_of p.home) (option_map position_of o)) (sym two);
+}
   where
-    entries : w ≡ with_entry (V.block hit.block) hit.at no_entry
-    entries = put ∙ ap (λ v. with_entry v hit.at no_entry) (sym at)
+    home : (V : View) → new V → w ≡ with_entry (V.block p.home.block) p.home.at no_entry
+    home V m = put ∙ ap (λ v. with_entry v p.home.at no_entry) (sym (l.now V (k.before V (same V m))))
+
+    second : (V : View) → new V → y ≡ with_entry (V.block q.block) q.at no_entry
+    second V m = other ∙ ap (λ v. with_entry v q.at no_entry) (sym (k.now V (same V m)))
+
+-- the places of a hit on a disk
+home-at : (V : View) (r : Record) (hit : Hit) (numbers : BlockNumbers) → HasBlocks V r.head numbers → position_of (home_place numbers hit) ≡ home_position V r.head hit
+home-at V r hit numbers has = λ z. record { j = hit.head.place / 512; q = hit.head.place % 512; b = has (hit.head.place / 512) z }
+
+second-at : (hit : Hit) → option_map position_of (second_place hit) ≡ second_position hit
+second-at hit = by (is_at_home hit)
+  where
+    by : (b : Bool) → option_map position_of (cond b None (Some (record { j = hit.j; block = hit.block; at = hit.at }))) ≡ cond b None (Some (record { j = hit.j; q = hit.at; b = hit.block }))
+    by true = refl
+    by false = refl
+
+pub without-hit : (before one ws : List Write) (V : View) (d : ℕ) (r : Record) (hit : Hit) (now : Time) (numbers : BlockNumbers) (p : EntryPlaces) (db fb : List ℕ) (head : Head)
+    → HasBlocks V r.head numbers → p ≡ places_of numbers hit → written before V ≡ without_entries V (position_of p.home) (option_map position_of p.second)
+    → one ≡ inode_write d db ∷ before → ws ≡ inode_write hit.number fb ∷ one → head ≡ moved r.head now
+    → inode_seen db ≡ used (held_of head (name_from r.bytes)) → inode_seen fb ≡ free hit.head.generation → written ws V ≡ without_hit V d r hit now
+without-hit before one ws V d r hit now numbers p db fb head has places cleared one_is is head_is shown is_free =
+    ap (λ ws. written ws V) (is ∙ ap (λ ws. inode_write hit.number fb ∷ ws) one_is)
+    ∙ (λ i. with_inode (with_inode (entries i) d (new i)) hit.number (is_free i))
+  where
+    entries : written before V ≡ without_entries V (home_position V r.head hit) (second_position hit)
+    entries =
+        cleared
+        ∙ ap (λ (p : EntryPlaces). without_entries V (position_of p.home) (option_map position_of p.second)) places
+        ∙ (λ i. without_entries V (home-at V r hit numbers has i) (second-at hit i))
 
     new : inode_seen db ≡ used (with_moment (held r) now)
     new = shown ∙ ap (λ (x : Head). used (held_of x (name_from r.bytes))) head_is

@@ -87,8 +87,8 @@ module _ (V : View) (h : Handle) (c : Caller) (name : List ℕ) (now : Time) whe
             ∙ ap (λ b. outcome b (is_directory_kind hit.head.kind)) (passes (may_rename c d.attributes && may_take c d.attributes hit.head.attributes) (is_directory_kind hit.head.kind) allowed_is).0
             ∙ ap (outcome true) (passes (may_rename c d.attributes && may_take c d.attributes hit.head.attributes) (is_directory_kind hit.head.kind) allowed_is).1
 
-        hits : IsHit V d.blocks name hit
-        hits = subst (λ o. Hits V n.directory.head.blocks name o) here is.hits
+        hits : IsHit V d name hit
+        hits = subst (λ o. Hits V n.directory.head name o) here is.hits
 
         no_entries : (k : Kind) → is_directory_kind k ≡ false → (place : ℕ) → entry_by V k (held_of hit.head name) place ≡ no_entry
         no_entries Directory is place = absurd (cc (is))

@@ -176,7 +176,7 @@ module _ (V : View) (sound : IsSoundView V) (h k : Handle) (c : Caller) (name ne
             → IsRename V W w name (λ below place. with_name (tree_of V) (name_kind name) Invalid Invalid (with_name (tree_of V) (name_kind new_name) Invalid Invalid (named_case V c w name new_name below place now))) reply
             → Op (rename h name k new_name) c now (tree_of V) (renamed reply) (tree_of W)
         rename-done W reply r = answers_rename h name k new_name r.below r.place c now (tree_of V) (tree_of W) reply
-            (subst (λ e. MayTakePlace (tree_of V) e r.place) between.1.0 r.may)
+            (subst (λ d. MayTakePlace (tree_of V) d k.number r.place) between.0 (subst (λ e. MayTakePlace (tree_of V) w.source.number e r.place) between.1.0 r.may))
             (subst (λ d. TellsBelow (tree_of V) d name k.number r.below) between.0 (subst (λ e. TellsBelow (tree_of V) w.source.number name e r.below) between.1.0 r.tells))
             (r.is ∙ sym (at-rest r.below r.place))
 
@@ -235,7 +235,7 @@ module _ (V : View) (sound : IsSoundView V) (c : Caller) (w : Way) (name new_nam
       let a : Arrives V W w hit to name new_name now = arrives V sound w hit name new_name now node W to d.is.1.0 (view times) in
       record {
         below = d.below;
-        place = handed to;
+        place = handed hit to;
         may = a.may;
         tells = d.tells;
         is = (λ i. (Ok ((tells times ∙ a.tells) i), a.shows.tree i)) ∙ sym (d.is.1.1 now);

@@ -17,11 +17,11 @@ use Rattle.journal_tree.specs.Attributes.{resized, resized_body, set_attributes,
 use Rattle.journal_tree.specs.Calls.{kind_of}
 use Rattle.journal_treestore.specs.declared.inode.Head.{Head}
 use Rattle.journal_treestore.specs.Inodes.{name_from}
-use Rattle.journal_treestore.specs.Views.{Held, View, with_inode, held_of, number_in, index_block, block_at, begin_at, bytes_in, content, body_of, node_of, entry_in, entry_by}
+use Rattle.journal_treestore.specs.Views.{Held, View, with_inode, held_of, number_in, index_block, block_at, begin_at, bytes_in, content, body_of, node_of, directory_block, entry_in, entry_by}
 use Rattle.journal_treestore.specs.Views.Seen.{used}
 use Rattle.journal_treestore.specs.Sound.{IsSoundInode, IsSoundView}
 use Rattle.journal_treestore.proofs.Viewing.{inode-node}
-use Rattle.journal_treestore.proofs.Changing.{one_owner, inode-same, inode-other}
+use Rattle.journal_treestore.proofs.Changing.{one_owner, directory-frame, inode-same, inode-other}
 use Rattle.journal_treestore.proofs.Indexing.{PlaceOf, place_kind, at-direct, at-indexed, at-index, at-leaf, at-none, no-index, begin-content, begin-index, begin-leaf, first-after, same-blocks, block_at-frame}
 use Rattle.journal_treecalls.specs.declared.node.Record.{Record}
 use Rattle.journal_treecalls.specs.declared.setting.Tail.{Tail}
@@ -34,7 +34,7 @@ use Rattle.journal_treecalls.proofs.Cases.{length-content}
 use Rattle.journal_treecalls.proofs.Holding.{byte_at, in-some, in-none, content-at}
 use Rattle.journal_treecalls.proofs.Numbers.{file-named}
 use Rattle.journal_treecalls.proofs.Zeroing.{cleared-long, cleared-front, cleared-back, number-front, number-back}
-use Rattle.journal_treecalls.proofs.Stepping.{IsNodeStep}
+use Rattle.journal_treestore.specs.Steps.{IsNodeStep}
 
 -- ── bytes and places ──
 
@@ -230,9 +230,6 @@ module _ (V : View) (n : ℕ) (r : Record) (k : Head) (c : Caller) (s : Settings
     was : (p : ℕ) → block_at W K p ≢ 0 → block_at V H p ≢ 0
     was p some z = some (kept p some ∙ z)
 
-    plain-is : k.kind ≢ File → k.index ≡ 0
-    plain-is other = index-none (old.plain (λ e. other (set.kind ∙ e)))
-
     sound-set : IsSoundInode W n K
     sound-set = record {
       owned = λ p some. ap V.owner (kept p some) ∙ old.owned p (was p some);
@@ -240,21 +237,16 @@ module _ (V : View) (n : ℕ) (r : Record) (k : Head) (c : Caller) (s : Settings
       after = λ p far. has p ∙ cut-after p far;
       sized = λ p some. ap (λ b. length (B b)) (kept p some) ∙ sized p (was p some);
       whole = whole-is;
-      plain = plain-is;
       first = no-first;
     }
 
-    same-first : r.head.kind ≡ Directory → (j : ℕ) → get_or k.blocks j 0 ≡ get_or r.head.blocks j 0
-    same-first d j = by (cases_lt (4096 * j) k.size)
-      where
-        by : (4096 * j < k.size) ⊎ (k.size ≤ 4096 * j) → get_or k.blocks j 0 ≡ get_or r.head.blocks j 0
-        by (inl before) = kept-before j before
-        by (inr far) = cut-off j far ∙ sym (first-after V n H old j (let e = same-size (not-file Directory d (λ n. absurd (cc (n)))) in omega (arith, far, e)))
+    same-block : r.head.kind ≡ Directory → (j : ℕ) → directory_block W K j ≡ directory_block V H j
+    same-block d j = directory-frame V W K H j (has j ∙ cut-all (let e = same-size (not-file Directory d (λ n. absurd (cc (n)))) in omega (arith, e)) j)
 
     entries-set : (kind : Kind) → r.head.kind ≡ kind → (place : ℕ) → entry_by W kind K place ≡ entry_by V kind H place
     entries-set Directory d place =
-        ap (λ b. entry_in W b (place % 512)) (same-first d (place / 512))
-        ∙ ap (λ f. entry_in (with_bytes V f) (get_or r.head.blocks (place / 512) 0) (place % 512)) same
+        ap (λ b. entry_in W b (place % 512)) (same-block d (place / 512))
+        ∙ ap (λ f. entry_in (with_bytes V f) (directory_block V H (place / 512)) (place % 512)) same
       where
         same : B ≡ V.block
         same = λ z. λ x. plain (not-file Directory d (λ n. absurd (cc (n)))) x z

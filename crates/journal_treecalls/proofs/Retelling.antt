@@ -57,8 +57,8 @@ module _ (V : View) (h : Handle) (c : Caller) (name : List ℕ) (verifier : ℕ)
     -- ── the name is there ──
 
     module _ (hit : Hit) (here : n.hit ≡ Some hit) where
-      hits : IsHit V n.directory.head.blocks name hit
-      hits = subst (λ o. Hits V n.directory.head.blocks name o) here is.hits
+      hits : IsHit V n.directory.head name hit
+      hits = subst (λ o. Hits V n.directory.head name o) here is.hits
 
       at : V.inode hit.number ≡ used (held_of hit.head name)
       at = hits.is.inside.is.inode

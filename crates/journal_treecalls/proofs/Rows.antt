@@ -3,8 +3,6 @@ use Rattle.std.proofs.Common.{◌≡◌, ◌≢◌, ℕ, ◌+◌, ◌-◌, ◌*�
 use Rattle.std.specs.Prelude.{◌==◌, nat_le, slice_range, bytes_eq}
 use Rattle.std.proofs.lemmas.Bool.{cases_eq, cases_lt, eq-eqb, ne_eqb, eqb-true, lt-ltb, le-ltb, leb-true, le-leb, lt-leb, and_from, and_left, and_right, and_parts, false≢true}
 use Rattle.std.proofs.lemmas.Slice.Eq.{bytes_eq-Decides}
-use Rattle.journal_tree.specs.declared.time.Time.{Time}
-use Rattle.journal_tree.specs.declared.caller.Caller.{Caller}
 use Rattle.journal_treestore.specs.declared.inode.Head.{Head}
 use Rattle.journal_treestore.specs.Bytes.{word_at}
 use Rattle.journal_treestore.specs.Inodes.{name_from}
@@ -17,7 +15,7 @@ use Rattle.journal_treecalls.specs.declared.reach.Changing.{Changing}
 use Rattle.journal_treecalls.specs.Targets.{held}
 use Rattle.journal_treecalls.specs.Fetches.{is_in, number_at}
 use Rattle.journal_treecalls.specs.Reaches.{reach_for, reach_count, reach_place, IsReach, numbered, reached_number, leaf_bytes, AreSized, AreTaken, IsChanging}
-use Rattle.journal_treecalls.specs.Overlays.{begin_of, image_bytes, IsWrittenHead, index_bytes, piece_at, is_kept, laying_at}
+use Rattle.journal_treecalls.specs.Overlays.{begin_of, image_bytes, index_bytes, piece_at, is_kept, laying_at}
 use Rattle.journal_treecalls.proofs.Fetching.{range-long}
 use Rattle.journal_treecalls.proofs.Reaching.{number-inside, PlaceIn, place-in, place-content, place-leaf, place-root, count-blocks, count-leaf, count-root, known-at, place-once, place-high, reach-fits, numbered-direct, numbered-leafed, numbered-others, numbered-index, numbered-rooted, numbered-any, root-number, numbers-had}
 use Rattle.journal_treecalls.proofs.Reaching.PlaceIn.{content_in, leaf_in, root_in}
@@ -49,10 +47,10 @@ module _ (r : Reach) (s : Numbers) where
       by (root_in some at is) = ap (λ m. length (index_bytes r s m)) at ∙ ap length index-root ∙ root-long sized some
 
 module _ (t : Changing) (image : List ℕ) where
-  piece-content : (m : ℕ) → m < t.reach.blocks → piece_at t image m ≡ slice_range image (4096 * m) (4096 * m + 4096)
+  pub piece-content : (m : ℕ) → m < t.reach.blocks → piece_at t image m ≡ slice_range image (4096 * m) (4096 * m + 4096)
   piece-content m low = ap (λ b. cond b (slice_range image (4096 * m) (4096 * m + 4096)) (index_bytes t.reach t.new m)) (lt-ltb m t.reach.blocks low)
 
-  piece-index : (m : ℕ) → t.reach.blocks ≤ m → piece_at t image m ≡ index_bytes t.reach t.new m
+  pub piece-index : (m : ℕ) → t.reach.blocks ≤ m → piece_at t image m ≡ index_bytes t.reach t.new m
   piece-index m past = ap (λ b. cond b (slice_range image (4096 * m) (4096 * m + 4096)) (index_bytes t.reach t.new m)) (le-ltb m t.reach.blocks past)
 
   pub piece-long : AreSized t.reach t.new → length image ≡ 4096 * t.reach.blocks → (m : ℕ) → m < reach_count t.reach → length (piece_at t image m) ≡ 4096
@@ -94,8 +92,8 @@ image-whole r offset to image is long =
 
 -- ── the row ──
 
-module _ (V : View) (r : Record) (k : Head) (c : Caller) (now : Time) (offset to : ℕ) (t : Changing) (image : List ℕ) (some : offset < to) (fits : to ≤ 4295163904) (change : IsChanging V r.head offset to t)
-    (long : length image ≡ image_bytes offset to) (set : IsWrittenHead c now r.head t.new to k) where
+module _ (V : View) (r : Record) (k : Head) (offset to : ℕ) (t : Changing) (image : List ℕ) (some : offset < to) (fits : to ≤ 4295163904) (change : IsChanging V r.head offset to t)
+    (long : length image ≡ image_bytes offset to) (blocks_is : k.blocks ≡ t.new.direct) (index_is : k.index ≡ t.new.index) where
   abbrev H : Held
   H = held r
 
@@ -258,9 +256,9 @@ module _ (V : View) (r : Record) (k : Head) (c : Caller) (now : Time) (offset to
 
   pub row-indexed : IsIndexed V (held r) (numbered (block_at V (held r)) t.reach t.new) (laying_at t image) (reach_count t.reach) k
   row-indexed = record {
-    direct = λ j low. ap (λ v. get_or v j 0) set.blocks ∙ sym (numbered-direct O t.reach t.new j low);
-    count_is = ap length set.blocks ∙ change.new_sized.direct;
-    index = set.index ∙ sym (numbered-index O t.reach t.new fit);
+    direct = λ j low. ap (λ v. get_or v j 0) blocks_is ∙ sym (numbered-direct O t.reach t.new j low);
+    count_is = ap length blocks_is ∙ change.new_sized.direct;
+    index = index_is ∙ sym (numbered-index O t.reach t.new fit);
     root = root-row;
     leaf = leaf-row;
     no_root = no-root;

@@ -39,7 +39,8 @@ use Rattle.journal_treecalls.specs.Sizes.IsSetting.{kept, done}
 use Rattle.journal_treecalls.proofs.Learning.{does-reads}
 use Rattle.journal_treecalls.proofs.Learned.{AreSound}
 use Rattle.journal_treecalls.proofs.Cases.{at-gone, at-node, node-told, told-is}
-use Rattle.journal_treecalls.proofs.Stepping.{IsNodeStep, tree-step, step-sound}
+use Rattle.journal_treestore.specs.Steps.{IsNodeStep}
+use Rattle.journal_treestore.proofs.Stepping.{tree-step, step-sound}
 use Rattle.journal_treecalls.proofs.Resizing.{set-step}
 
 module _ (V : View) (h : Handle) (c : Caller) (s : Settings) (guard : Option Time) (now : Time) where

@@ -1,25 +1,29 @@
 -- The lines of a directory are those of the definition, and as many as have room are told.
-use Rattle.std.proofs.Common.{◌≡◌, ◌≢◌, ℕ, zero, suc, ◌+◌, ◌-◌, ◌*◌, ◌/◌, ◌%◌, ◌<◌, ◌≤◌, min, Bool, true, false, not, cond, List, [], ◌∷◌, ◌++◌, length, get_or, take, Option, Some, None, refl, sym, ap, subst, ◌⊎◌, inl, inr, ◌∙◌, arith}
+use Rattle.std.proofs.Common.{◌≡◌, ◌≢◌, ℕ, zero, suc, ◌+◌, ◌-◌, ◌*◌, ◌/◌, ◌%◌, ◌<◌, ◌≤◌, min, Bool, true, false, not, cond, List, [], ◌∷◌, ◌++◌, length, take, Option, Some, None, refl, sym, ap, subst, ◌⊎◌, inl, inr, ◌∙◌, arith}
 use Rattle.std.specs.Prelude.{◌&&◌, nat_le, option_map}
 use Rattle.std.proofs.lemmas.Bool.{cases_eq, cases_lt, lt-ltb, le-ltb, le-leb, lt-leb, eq-eqb, ne_eqb}
 use Rattle.std.proofs.lemmas.List.{append-nil, append_assoc}
 use Rattle.journal_tree.specs.declared.reply.Kind.TheVariants.{Directory}
-use Rattle.journal_tree.specs.Trees.{Home, Node, Tree, find_place}
+use Rattle.journal_tree.specs.Trees.{Node, Tree, find_place}
 use Rattle.journal_tree.specs.Rule.{stem_of}
 use Rattle.journal_tree.specs.Fit.{IsFitBody}
 use Rattle.journal_tree.specs.Listing.{Item, with_item, with_number, entries, fitting, line_bytes, plus_bytes}
 use Rattle.journal_tree.proofs.Finding.{find_place-some, find_place-none}
 use Rattle.journal_tree.proofs.Hanging.{low}
 use Rattle.journal_treestore.specs.declared.entry.Entry.{Entry}
-use Rattle.journal_treestore.specs.Views.{Held, Seen, View, body_of, node_of, tree_of, entry_in, entry_by, entry_of, entry_at, home_in, homes}
+use Rattle.journal_treestore.specs.Views.{Held, Seen, View, directory_block, body_of, node_of, tree_of, entry_in, entry_by, entry_of, entry_at, home_in, homes}
 use Rattle.journal_treestore.specs.Views.Seen.{free, used}
-use Rattle.journal_treestore.specs.Sound.{IsEntryOf, IsSoundView}
-use Rattle.journal_treestore.proofs.Viewing.{inode-node, no_node_at, none_after}
+use Rattle.journal_treestore.specs.Inodes.{name_from}
+use Rattle.journal_treestore.specs.Sound.{IsSoundView}
+use Rattle.journal_treestore.proofs.Viewing.{inode-node, no_node_at, not_home}
+use Rattle.journal_treestore.proofs.Placed.{hangs-in}
 use Rattle.journal_treecalls.specs.declared.node.Record.{Record}
 use Rattle.journal_treecalls.specs.declared.lines.Room.{Room}
-use Rattle.journal_treecalls.specs.Targets.{held}
+use Rattle.journal_treecalls.specs.Targets.{held, block_of}
+use Rattle.journal_treecalls.specs.Seats.{block_count}
 use Rattle.journal_treecalls.specs.Lines.{bytes_beside, with_line, Filled, fill, item_by, item_at, item_from, items_in}
 use Rattle.journal_treecalls.specs.Walks.{all_items}
+use Rattle.journal_treecalls.proofs.Emptying.{own-blocks}
 use Rattle.journal_treecalls.proofs.Walking.{items-zero, items-are-more, all-zero, all-more}
 
 -- ── entries of the definition, one more at their end ──
@@ -56,38 +60,41 @@ entries-more T d p (suc k) =
 -- ── places and entries ──
 
 module _ (V : View) (sound : IsSoundView V) (d : ℕ) (r : Record) (is : V.inode d ≡ used (held r)) (kind : r.head.kind ≡ Directory) where
-  node-there : (place : ℕ) (g : Held) → (entry_at V d place).number ≢ 0 → V.inode (entry_at V d place).number ≡ used g → (g.home.directory ≡ d) × (g.home.place ≡ place)
-  node-there place g some at =
-      let e : IsEntryOf (homes V) d place (entry_at V d place) = sound.hung.back d place some in
-      let h : Some g.home ≡ Some e.home = sym (ap home_in at) ∙ e.is in
-      let same : g.home ≡ e.home = cc in
-      (ap (λ (h : Home). h.directory) same ∙ e.directory, ap (λ (h : Home). h.place) same ∙ e.place_is)
-
-  found : (place : ℕ) (g : Held) → (entry_at V d place).number ≢ 0 → V.inode (entry_at V d place).number ≡ used g → find_place (tree_of V) d place ≡ Some (entry_at V d place).number
-  found place g some at = by (find_place (tree_of V) d place) refl
+  found : (place : ℕ) (g : Held) → (entry_at V d place).number ≢ 0 → V.inode (entry_at V d place).number ≡ used g → g.home.place ≡ place → find_place (tree_of V) d place ≡ Some (entry_at V d place).number
+  found place g some at home = by (find_place (tree_of V) d place) refl
     where
-      there : (g.home.directory ≡ d) × (g.home.place ≡ place)
-      there = node-there place g some at
+      directory : g.home.directory ≡ d
+      directory = hangs-in V d place g sound some at
 
       node : ((tree_of V).at (entry_at V d place).number).node ≡ Some (node_of V g)
       node = inode-node V (entry_at V d place).number g at
 
       by : (o : Option ℕ) → find_place (tree_of V) d place ≡ o → o ≡ Some (entry_at V d place).number
-      by None none = absurd (find_place-none (tree_of V) d place (entry_at V d place).number (node_of V g) none (low (tree_of V) (entry_at V d place).number (node_of V g) sound.tree node) node there.0 there.1)
+      by None none = absurd (find_place-none (tree_of V) d place (entry_at V d place).number (node_of V g) none (low (tree_of V) (entry_at V d place).number (node_of V g) sound.tree node) node directory home)
       by (Some m) here =
           let x = find_place-some (tree_of V) d place m here in
-          ap Some (sound.tree.places m (entry_at V d place).number (stem_of x.0) (stem_of (node_of V g)) (ap (option_map stem_of) x.1) (ap (option_map stem_of) node) (x.2 ∙ sym there.0) (x.3 ∙ sym there.1))
+          ap Some (sound.tree.places m (entry_at V d place).number (stem_of x.0) (stem_of (node_of V g)) (ap (option_map stem_of) x.1) (ap (option_map stem_of) node) (x.2 ∙ sym directory) (x.3 ∙ sym home))
+
+  -- the line of a node is at its home's place alone
+  node-items : (place : ℕ) (g : Held) → (entry_at V d place).number ≢ 0 → V.inode (entry_at V d place).number ≡ used g → with_number (tree_of V) (find_place (tree_of V) d place) [] ≡ item_by (used g) place (entry_at V d place).number
+  node-items place g some here = by (cases_eq g.home.place place)
+    where
+      by : (g.home.place ≡ place) ⊎ (g.home.place ≡ place → ⊥) → with_number (tree_of V) (find_place (tree_of V) d place) [] ≡ item_by (used g) place (entry_at V d place).number
+      by (inl home) =
+          ap (λ o. with_number (tree_of V) o []) (found place g some here home)
+          ∙ ap (λ x. with_item (entry_at V d place).number x []) (inode-node V (entry_at V d place).number g here)
+          ∙ ap (λ p. record { cookie = p + 3; name = g.home.name; number = (entry_at V d place).number } ∷ []) home
+          ∙ sym (ap (λ t. cond t (record { cookie = place + 3; name = g.home.name; number = (entry_at V d place).number } ∷ []) []) (eq-eqb g.home.place place home))
+      by (inr away) =
+          ap (λ o. with_number (tree_of V) o []) (not_home V sound d place (entry_at V d place).number (held r) g is here refl away)
+          ∙ sym (ap (λ t. cond t (record { cookie = place + 3; name = g.home.name; number = (entry_at V d place).number } ∷ []) []) (ne_eqb g.home.place place away))
 
   place-items : (place : ℕ) → with_number (tree_of V) (find_place (tree_of V) d place) [] ≡ item_at V place (entry_at V d place)
   place-items place = by (cases_eq (entry_at V d place).number 0)
     where
       at : (y : Seen) → V.inode (entry_at V d place).number ≡ y → (entry_at V d place).number ≢ 0 → with_number (tree_of V) (find_place (tree_of V) d place) [] ≡ item_by (V.inode (entry_at V d place).number) place (entry_at V d place).number
       at (free g) here some = absurd (cc (sym (ap home_in here) ∙ (sound.hung.back d place some).is))
-      at (used g) here some =
-          ap (λ o. with_number (tree_of V) o []) (found place g some here)
-          ∙ ap (λ x. with_item (entry_at V d place).number x []) (inode-node V (entry_at V d place).number g here)
-          ∙ ap (λ p. record { cookie = p + 3; name = g.home.name; number = (entry_at V d place).number } ∷ []) (node-there place g some here).1
-          ∙ sym (ap (λ y. item_by y place (entry_at V d place).number) here)
+      at (used g) here some = node-items place g some here ∙ sym (ap (λ y. item_by y place (entry_at V d place).number) here)
 
       by : ((entry_at V d place).number ≡ 0) ⊎ ((entry_at V d place).number ≡ 0 → ⊥) → with_number (tree_of V) (find_place (tree_of V) d place) [] ≡ item_at V place (entry_at V d place)
       by (inl none) =
@@ -97,10 +104,15 @@ module _ (V : View) (sound : IsSoundView V) (d : ℕ) (r : Record) (is : V.inode
           at (V.inode (entry_at V d place).number) refl some
           ∙ sym (ap (λ t. cond t [] (item_by (V.inode (entry_at V d place).number) place (entry_at V d place).number)) (ne_eqb (entry_at V d place).number 0 some))
 
-  entry-is : (j at : ℕ) → at < 512 → entry_in V (get_or r.head.blocks j 0) at ≡ entry_at V d (512 * j + at)
+  -- block j of the directory
+  abbrev number : ℕ → ℕ
+  number j = (block_of V r.head j).number
+
+  entry-is : (j at : ℕ) → at < 512 → entry_in V (number j) at ≡ entry_at V d (512 * j + at)
   entry-is j at low =
-      ap (λ l. entry_in V (get_or r.head.blocks l 0) at) (let e : j ≡ (512 * j + at) / 512 = omega (arith, low) in e)
-      ∙ ap (entry_in V (get_or r.head.blocks ((512 * j + at) / 512) 0)) (let e : at ≡ (512 * j + at) % 512 = omega (arith, low) in e)
+      ap (λ b. entry_in V b at) (sym (own-blocks V r.head (name_from r.bytes) j))
+      ∙ ap (λ l. entry_in V (directory_block V (held r) l) at) (let e : j ≡ (512 * j + at) / 512 = omega (arith, low) in e)
+      ∙ ap (entry_in V (directory_block V (held r) ((512 * j + at) / 512))) (let e : at ≡ (512 * j + at) % 512 = omega (arith, low) in e)
       ∙ sym (ap (λ y. entry_of V y (512 * j + at)) is ∙ ap (λ k. entry_by V k (held r) (512 * j + at)) kind)
 
   -- one more place
@@ -119,46 +131,37 @@ module _ (V : View) (sound : IsSoundView V) (d : ℕ) (r : Record) (is : V.inode
           ∙ sym (entries-more (tree_of V) d begin (place - begin))
           ∙ ap (entries (tree_of V) d begin) (let e : suc (place - begin) ≡ place + 1 - begin = omega (arith, past) in e)
 
-  block-entries : (begin j at : ℕ) → at ≤ 512 → entries (tree_of V) d begin (512 * j - begin) ++ items_in V begin (get_or r.head.blocks j 0) j at ≡ entries (tree_of V) d begin (512 * j + at - begin)
+  block-entries : (begin j at : ℕ) → at ≤ 512 → entries (tree_of V) d begin (512 * j - begin) ++ items_in V begin (number j) j at ≡ entries (tree_of V) d begin (512 * j + at - begin)
   block-entries begin j zero fits =
-      ap (λ xs. entries (tree_of V) d begin (512 * j - begin) ++ xs) (items-zero V begin (get_or r.head.blocks j 0) j)
+      ap (λ xs. entries (tree_of V) d begin (512 * j - begin) ++ xs) (items-zero V begin (number j) j)
       ∙ append-nil (entries (tree_of V) d begin (512 * j - begin))
       ∙ ap (entries (tree_of V) d begin) (let e : 512 * j - begin ≡ 512 * j + 0 - begin = omega arith in e)
   block-entries begin j (suc at) fits =
-      ap (λ xs. entries (tree_of V) d begin (512 * j - begin) ++ xs) (items-are-more V begin (get_or r.head.blocks j 0) j at)
-      ∙ sym (append_assoc (entries (tree_of V) d begin (512 * j - begin)) (items_in V begin (get_or r.head.blocks j 0) j at) (item_from V begin (512 * j + at) (entry_in V (get_or r.head.blocks j 0) at)))
-      ∙ ap (λ xs. xs ++ item_from V begin (512 * j + at) (entry_in V (get_or r.head.blocks j 0) at)) (block-entries begin j at (omega (arith, fits)))
+      ap (λ xs. entries (tree_of V) d begin (512 * j - begin) ++ xs) (items-are-more V begin (number j) j at)
+      ∙ sym (append_assoc (entries (tree_of V) d begin (512 * j - begin)) (items_in V begin (number j) j at) (item_from V begin (512 * j + at) (entry_in V (number j) at)))
+      ∙ ap (λ xs. xs ++ item_from V begin (512 * j + at) (entry_in V (number j) at)) (block-entries begin j at (omega (arith, fits)))
       ∙ ap (λ e. entries (tree_of V) d begin (512 * j + at - begin) ++ item_from V begin (512 * j + at) e) (entry-is j at (omega (arith, fits)))
       ∙ entries-next begin (512 * j + at)
       ∙ ap (entries (tree_of V) d begin) (let e : 512 * j + at + 1 - begin ≡ 512 * j + suc at - begin = omega arith in e)
 
-  all-entries : (begin j : ℕ) → all_items V begin r.head.blocks j ≡ entries (tree_of V) d begin (512 * j - begin)
-  all-entries begin zero = all-zero V begin r.head.blocks ∙ sym (entries-zero (tree_of V) d begin) ∙ ap (entries (tree_of V) d begin) (let e : 0 ≡ 512 * 0 - begin = omega arith in e)
+  all-entries : (begin j : ℕ) → all_items V begin number j ≡ entries (tree_of V) d begin (512 * j - begin)
+  all-entries begin zero = all-zero V begin number ∙ sym (entries-zero (tree_of V) d begin) ∙ ap (entries (tree_of V) d begin) (let e : 0 ≡ 512 * 0 - begin = omega arith in e)
   all-entries begin (suc j) =
-      all-more V begin r.head.blocks j
-      ∙ ap (λ xs. xs ++ items_in V begin (get_or r.head.blocks j 0) j 512) (all-entries begin j)
+      all-more V begin number j
+      ∙ ap (λ xs. xs ++ items_in V begin (number j) j 512) (all-entries begin j)
       ∙ block-entries begin j 512 (omega arith)
       ∙ ap (entries (tree_of V) d begin) (let e : 512 * j + 512 - begin ≡ 512 * suc j - begin = omega arith in e)
 
-  -- after the places that the directory has there is none
-  entries-past : (begin k m : ℕ) → r.head.size / 8 ≤ begin + k → entries (tree_of V) d begin (k + m) ≡ entries (tree_of V) d begin k
-  entries-past begin k zero past = ap (entries (tree_of V) d begin) (let e : k + 0 ≡ k = omega arith in e)
-  entries-past begin k (suc m) past =
-      ap (entries (tree_of V) d begin) (let e : k + suc m ≡ suc (k + m) = omega arith in e)
-      ∙ entries-more (tree_of V) d begin (k + m)
-      ∙ ap (λ o. entries (tree_of V) d begin (k + m) ++ with_number (tree_of V) o [])
-      (no_node_at V sound d (begin + (k + m)) (held r) is (ap (λ (e : Entry). e.number) (none_after V sound d (begin + (k + m)) (held r) is kind (omega (arith, past)))))
-      ∙ append-nil (entries (tree_of V) d begin (k + m))
-      ∙ entries-past begin k m past
-
-  fits : r.head.size / 8 ≤ 24576
+  fits : r.head.size / 8 ≤ 198656
   fits = (subst IsFitBody (ap (λ k. body_of V k (held r)) kind) (sound.fit.nodes d (node_of V (held r)) (inode-node V d (held r) is)).body).0
 
-  pub entries-are : (begin : ℕ) → all_items V begin r.head.blocks 48 ≡ entries (tree_of V) d begin (r.head.size / 8 - begin)
+  pub entries-are : (begin : ℕ) → all_items V begin number (block_count r.head) ≡ entries (tree_of V) d begin (r.head.size / 8 - begin)
   entries-are begin =
-      all-entries begin 48
-      ∙ ap (entries (tree_of V) d begin) (let f = fits in let e : 512 * 48 - begin ≡ r.head.size / 8 - begin + (512 * 48 - begin - (r.head.size / 8 - begin)) = omega (arith, f) in e)
-      ∙ entries-past begin (r.head.size / 8 - begin) (512 * 48 - begin - (r.head.size / 8 - begin)) (omega arith)
+      all-entries begin (block_count r.head)
+      ∙ ap (λ n. entries (tree_of V) d begin (n - begin)) (let f = fits in let w = whole.1 in let e : 512 * min (r.head.size / 4096) 388 ≡ r.head.size / 8 = omega (arith, f, w) in e)
+    where
+      whole : (blocks : ℕ) × (r.head.size ≡ 4096 * blocks)
+      whole = (sound.inodes d (held r) is).whole kind
 
 -- ── how many have room ──
 

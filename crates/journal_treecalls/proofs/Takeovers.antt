@@ -52,7 +52,8 @@ use Rattle.journal_treecalls.proofs.Learned.{AreSound}
 use Rattle.journal_treecalls.proofs.Cases.{node-told, told-is}
 use Rattle.journal_treecalls.proofs.ByName.{at-unnamed, at-missed, at-hit}
 use Rattle.journal_treecalls.proofs.Making.{create-refused, create-no_room, create-done, create-sound}
-use Rattle.journal_treecalls.proofs.Stepping.{IsNodeStep, tree-step, step-sound}
+use Rattle.journal_treestore.specs.Steps.{IsNodeStep}
+use Rattle.journal_treestore.proofs.Stepping.{tree-step, step-sound}
 use Rattle.journal_treecalls.proofs.Resizing.{set-step}
 
 -- the name that a record shows
@@ -80,8 +81,8 @@ module _ (V : View) (h : Handle) (c : Caller) (name : List ℕ) (s : Settings) (
       abbrev y : Node
       y = node_of V (held_of hit.head name)
 
-      hits : IsHit V n.directory.head.blocks name hit
-      hits = subst (λ o. Hits V n.directory.head.blocks name o) here is.hits
+      hits : IsHit V n.directory.head name hit
+      hits = subst (λ o. Hits V n.directory.head name o) here is.hits
 
       at : V.inode hit.number ≡ used (held_of hit.head name)
       at = hits.is.inside.is.inode

@@ -13,26 +13,13 @@ use Rattle.journal_treecalls.specs.declared.reach.Numbers.{Numbers}
 use Rattle.journal_treecalls.specs.declared.reach.SpareBlock.{SpareBlock}
 use Rattle.journal_treecalls.specs.Disks.{Learns}
 use Rattle.journal_treecalls.specs.Fetches.{number_at}
-use Rattle.journal_treecalls.specs.Rooms.{HasFreeBlock, IsFreeBlock, IsThis}
+use Rattle.journal_treecalls.specs.Blocks.{HasFreeBlock, IsFreeBlock, IsThis}
 use Rattle.journal_treecalls.specs.Reaches.{reach_count, reach_place, IsReach, is_leafed, is_rooted, numbered, leaf_bytes, root_bytes, AreSized, AreSame, CopiesBlock, HasLeaves, HasNumbers, is_repeated, IsSpare, IsNextSpare, IsSpareAt, IsSpareHere, IsAmong, AreTaken, TakesPlaces, TakesPlace, TakesOne, IsTaken}
-use Rattle.journal_treecalls.specs.Overlays.{is_among, IsOther}
 use Rattle.journal_treecalls.proofs.Learning.{learns-as, learns-then}
 use Rattle.journal_treecalls.proofs.Births.{zeros-get}
 use Rattle.journal_treecalls.proofs.Holding.{zero-at}
 use Rattle.journal_treecalls.proofs.Fetching.{length-put, put-before, put-inside, put-after, range-long, range-at}
 use Rattle.journal_treecalls.proofs.Reaching.{place-once}
-
--- ── one block ──
-
-pub other-free : (old new : View → Type 0) (bs : List ℕ) (b : ℕ) (among : Bool) (o : Option ℕ) → among ≡ is_among bs b → among ≡ false → length bs ≡ 48 → IsThis b o → Learns old new (λ V. IsFreeBlock V o) → Learns old new (λ V. IsOther V bs o)
-other-free old new bs b among o is not_among all same l = learns-as old new _ _ l (λ V m free. by V o same free)
-  where
-    by : (V : View) (o : Option ℕ) → IsThis b o → IsFreeBlock V o → IsOther V bs o
-    by V None same free = tt
-    by V (Some f) same free = record {
-      free = free;
-      apart = λ i low e. absurd (false≢true (sym not_among ∙ is ∙ list_any_at (λ x. x == b) bs i 0 (omega (arith, all, low)) (eq-eqb (get_or bs i 0) b (e ∙ same))));
-    }
 
 -- ── a spare block ──
 

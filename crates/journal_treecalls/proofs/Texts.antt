@@ -1,10 +1,12 @@
 -- A link that was put into a directory gets its text: the tree then, and the disk.
-use Rattle.std.proofs.Common.{◌≡◌, ◌≢◌, ℕ, ◌+◌, ◌*◌, ◌<◌, ◌≤◌, cond, eqb, Bool, true, false, List, length, get_or, set, replicate, Some, Ok, refl, sym, ap, subst, ◌⊎◌, inl, inr, ◌∙◌, arith}
-use Rattle.std.proofs.lemmas.Bool.{cases_eq, cases_lt, eq-eqb, ne_eqb}
-use Rattle.std.proofs.lemmas.List.{length-replicate, length-set, get_or_past}
+use Rattle.std.proofs.Common.{◌≡◌, ◌≢◌, ℕ, ◌+◌, ◌*◌, ◌<◌, ◌≤◌, cond, eqb, true, false, Bool, List, length, replicate, Some, Ok, refl, sym, ap, subst, ◌⊎◌, inl, inr, ◌∙◌, arith}
+use Rattle.std.proofs.lemmas.Bool.{cases_eq, eq-eqb, ne_eqb}
+use Rattle.std.proofs.lemmas.List.{length-replicate}
 use Rattle.journal_tree.specs.declared.limits.TheConstants.{MOST_LINK}
 use Rattle.journal_tree.specs.declared.time.Time.{Time}
+use Rattle.journal_tree.specs.declared.reply.Attributes.{Attributes}
 use Rattle.journal_tree.specs.declared.reply.Handle.{Handle}
+use Rattle.journal_tree.specs.declared.reply.Kind.{Kind}
 use Rattle.journal_tree.specs.declared.reply.Kind.TheVariants.{Directory, Link}
 use Rattle.journal_tree.specs.declared.reply.Made.{Made}
 use Rattle.journal_tree.specs.declared.reply.Room.{Room}
@@ -20,33 +22,30 @@ use Rattle.journal_tree.specs.Op.{Call, Op, MayTake}
 use Rattle.journal_tree.specs.Op.Reply.{made as made_reply}
 use Rattle.journal_tree.specs.Fit.{IsCaller, IsCallable}
 use Rattle.journal_treestore.specs.declared.inode.Head.{Head}
-use Rattle.journal_treestore.specs.declared.owner.Owner.{Owner}
-use Rattle.journal_treestore.specs.declared.entry.Entry.{Entry}
 use Rattle.journal_treestore.specs.Entries.{with_entry, tag_of}
 use Rattle.journal_treestore.specs.Inodes.{name_from}
+use Rattle.journal_treestore.specs.Positions.{with_put}
 use Rattle.journal_treestore.specs.Views.{Held, Seen, View, block_at, zero_block, with_inode, with_owner, with_block, held_of, node_of, tree_of}
 use Rattle.journal_treestore.specs.Views.Seen.{used}
-use Rattle.journal_treestore.specs.Sound.{IsSoundInode, IsSoundView}
-use Rattle.journal_treestore.specs.Steps.{with_moment, IsSameForm, IsUnowned, Filling, IsFilling, filled_held, filled_view, filled_node, text_block, new_body, Shows}
+use Rattle.journal_treestore.specs.Sound.{entry_for, IsSoundView}
+use Rattle.journal_treestore.specs.Steps.{with_moment, Spot, home_of, IsSpot, new_held, planted_view, IsSameForm, IsUnowned, Filling, IsFilling, filled_held, filled_view, filled_node, text_block, new_body, Shows}
 use Rattle.journal_treestore.proofs.Viewing.{inode-node}
-use Rattle.journal_treestore.proofs.Indexing.{no-index, same-blocks, block_at-frame}
-use Rattle.journal_treestore.proofs.Changing.{blocks-block}
-use Rattle.journal_treestore.proofs.Spare.{nobody_has}
+use Rattle.journal_treestore.proofs.Indexing.{no-index, same-blocks, with_inode-blocks}
+use Rattle.journal_treestore.proofs.Changing.{inode-same, blocks-block}
 use Rattle.journal_treestore.proofs.Filling.{filling-shows}
 use Rattle.journal_treestore.proofs.Keeping.{calls-stay-sound}
 use Rattle.journal_treecalls.specs.declared.node.Record.{Record}
 use Rattle.journal_treecalls.specs.declared.creation.NewNode.{NewNode}
+use Rattle.journal_treecalls.specs.declared.room.FreeNumber.{FreeNumber}
 use Rattle.journal_treecalls.specs.declared.room.FreeRoom.{FreeRoom}
-use Rattle.journal_treecalls.specs.declared.room.FreePlace.{FreePlace}
 use Rattle.journal_treecalls.specs.declared.room.NewPlace.{NewPlace}
 use Rattle.journal_treecalls.specs.declared.room.NewPlace.TheVariants.{Here, Further}
 use Rattle.journal_treecalls.specs.Targets.{held, IsNode}
 use Rattle.journal_treecalls.specs.Names.{moved}
-use Rattle.journal_treecalls.specs.Rooms.{HasPlaceOf, HasPlaceFor, HasRoomFor, no_blocks, new_head, owner_of, place_number, with_further, widened_head, with_placed, IsMade}
-use Rattle.journal_treecalls.specs.Overlays.{IsOtherBlock}
+use Rattle.journal_treecalls.specs.Rooms.{HasRoomFor, no_blocks, new_head, new_entry, here_number, place_number, grown_head, with_growth, with_placed, IsMade}
 use Rattle.journal_treecalls.specs.Symlinks.{with_first, IsLinkedIn}
-use Rattle.journal_treecalls.proofs.Births.{Birth, zeros-get}
-use Rattle.journal_treecalls.proofs.Furthers.{get-set, birth}
+use Rattle.journal_treecalls.proofs.Births.{Birth, Ground}
+use Rattle.journal_treecalls.proofs.Furthers.{get-set, birth, ground}
 
 -- a number's node replaced by another
 replanted : (T : Tree) (n : ℕ) (x y : Node) → with_node (planted T n x) n (Some y) ≡ planted T n y
@@ -65,138 +64,54 @@ own T n x = ap (λ t. (cond t (record { generation = (T.at n).generation + 1; no
 
 -- ── the block of the text is nobody's ──
 
--- an entry that is put into a directory leaves the blocks of each inode
-here-blocks : (V : View) (h : Handle) (r : Record) → IsSoundView V → IsNode V h r → (p : FreePlace) → HasPlaceOf V r.head.blocks p → (e : Entry) (i : ℕ) (g : Held) → V.inode i ≡ used g
-    → (q : ℕ) → block_at (with_block V p.block (with_entry (V.block p.block) p.at e)) g q ≡ block_at V g q
-here-blocks V h r sound node p place e i g at q =
-    ap (λ b. block_at (with_block V b (with_entry (V.block b) p.at e)) g q) place.is.block
-    ∙ blocks-block V h.number (held r) place.j sound.inodes node.is place.is.there (with_entry (V.block (get_or r.head.blocks place.j 0)) p.at e) i g at q
+-- an inode of a disk that two of are written: the one, the other, or none of them
+pick : (V : View) (n d : ℕ) (x y : Seen) (i : ℕ) (g : Held) → cond (eqb i n) x (cond (eqb i d) y (V.inode i)) ≡ used g → (x ≡ used g) ⊎ ((i ≡ d) × (y ≡ used g)) ⊎ (V.inode i ≡ used g)
+pick V n d x y i g is = by (cases_eq i n) (cases_eq i d)
+  where
+    by : (i ≡ n) ⊎ (i ≡ n → ⊥) → (i ≡ d) ⊎ (i ≡ d → ⊥) → (x ≡ used g) ⊎ ((i ≡ d) × (y ≡ used g)) ⊎ (V.inode i ≡ used g)
+    by (inl a) _ = inl (sym (ap (λ t. cond t x (cond (eqb i d) y (V.inode i))) (eq-eqb i n a)) ∙ is)
+    by (inr a) (inl d_is) = inr (inl (d_is, sym (ap (λ t. cond t x (cond (eqb i d) y (V.inode i))) (ne_eqb i n a) ∙ ap (λ t. cond t y (V.inode i)) (eq-eqb i d d_is)) ∙ is))
+    by (inr a) (inr d_is) = inr (inr (sym (ap (λ t. cond t x (cond (eqb i d) y (V.inode i))) (ne_eqb i n a) ∙ ap (λ t. cond t y (V.inode i)) (ne_eqb i d d_is)) ∙ is))
 
-module _ (V : View) (h : Handle) (r : Record) (name : List ℕ) (new : NewNode) (now : Time) (sound : IsSoundView V) (node : IsNode V h r) (kind : r.head.kind ≡ Directory) (room : FreeRoom) (has : HasRoomFor V r.head room)
-    (b : ℕ) (other : IsOtherBlock V (widened_head r.head room.place).blocks b) where
-  some : b ≢ 0
-  some e = let l = other.free.from in let n = sound.no_data in absurd (omega (arith, e, l, n))
+-- a node that is put into a directory takes no block
+module _ (V : View) (spot : Spot) (name : List ℕ) (a : Attributes) (kind : Kind) (size : ℕ) (now : Time) (sound : IsSoundView V) (is_spot : IsSpot V spot name) where
+  abbrev P : View
+  P = planted_view V spot name a kind size now
 
-  own_sound : IsSoundInode V h.number (held r)
-  own_sound = sound.inodes h.number (held r) node.is
+  -- each inode has the blocks that it had
+  stays : (i : ℕ) (g : Held) → V.inode i ≡ used g → (q : ℕ) → block_at (planted_view V spot name a kind size now) g q ≡ block_at V g q
+  stays i g at q =
+      ap (λ f. f q) (with_inode-blocks (with_inode (with_put V spot.at.b spot.at.q (entry_for spot.n (home_of spot name))) spot.d (used (with_moment spot.h now))) spot.n (used (new_held spot name a kind size)) g)
+      ∙ ap (λ f. f q) (with_inode-blocks (with_put V spot.at.b spot.at.q (entry_for spot.n (home_of spot name))) spot.d (used (with_moment spot.h now)) g)
+      ∙ blocks-block V spot.d spot.h spot.at sound.inodes is_spot.is is_spot.at (with_entry (V.block spot.at.b) spot.at.q (entry_for spot.n (home_of spot name))) i g at q
 
-  -- a directory has no index blocks
-  no_index : r.head.index ≡ 0
-  no_index = own_sound.plain (λ e. absurd (cc (sym kind ∙ e)))
-
-  -- what the directory's inode has of the block
-  pub form : IsSameForm V (with_placed V h.number r room.number room.place name new now)
-  form = by room.place
+  pub planted-unowned : (b : ℕ) → b ≢ 0 → IsUnowned V b → IsUnowned (planted_view V spot name a kind size now) b
+  planted-unowned b some unowned = record { not_at = λ g at. by g (pick V spot.n spot.d (used (new_held spot name a kind size)) (used (with_moment spot.h now)) (V.owner b).number g at) }
     where
-      by : (p : NewPlace) → IsSameForm V (with_placed V h.number r room.number p name new now)
-      by (Here p) = record { numbers = refl; first_data = refl; data_blocks = refl }
-      by (Further f) = record { numbers = refl; first_data = refl; data_blocks = refl }
+      -- the new one has none
+      new-none : (g : Held) → used (new_held spot name a kind size) ≡ used g → block_at P g (V.owner b).place ≢ b
+      new-none g is e =
+          let q : new_held spot name a kind size ≡ g = cc in
+          some (sym e ∙ ap (λ (g : Held). block_at P g (V.owner b).place) (sym q) ∙ no-index P (new_held spot name a kind size) refl (λ j _. refl) (V.owner b).place)
 
-  pub new-inode : (with_placed V h.number r room.number room.place name new now).inode room.number.number ≡ used (held_of (new_head h.number room.number (place_number room.place) new) name)
-  new-inode = by room.place
-    where
-      by : (p : NewPlace) → (with_placed V h.number r room.number p name new now).inode room.number.number ≡ used (held_of (new_head h.number room.number (place_number p) new) name)
-      by (Here p) = ap (λ t. cond t (used (held_of (new_head h.number room.number p.place new) name)) (cond (eqb room.number.number h.number) (used (with_moment (held r) now)) (V.inode room.number.number))) (eq-eqb room.number.number room.number.number refl)
-      by (Further f) = ap (λ t. cond t (used (held_of (new_head h.number room.number (512 * f.j) new) name)) (cond (eqb room.number.number h.number) (used (held_of (moved (with_further r.head f.j f.block) now) (name_from r.bytes))) (V.inode room.number.number))) (eq-eqb room.number.number room.number.number refl)
+      at-directory : (g : Held) → (V.owner b).number ≡ spot.d → used (with_moment spot.h now) ≡ used g → block_at P g (V.owner b).place ≢ b
+      at-directory g d is e =
+          let q : with_moment spot.h now ≡ g = cc in
+          let at : V.inode (V.owner b).number ≡ used spot.h = ap V.inode d ∙ is_spot.is in
+          unowned.not_at spot.h at (
+          sym (stays (V.owner b).number spot.h at (V.owner b).place)
+          ∙ sym (same-blocks P (with_moment spot.h now) spot.h refl refl (V.owner b).place)
+          ∙ ap (λ (g : Held). block_at P g (V.owner b).place) q ∙ e)
 
-  -- a new inode has no blocks
-  new-none : (W : View) (place : ℕ) (g : Held) → used (held_of (new_head h.number room.number place new) name) ≡ used g → (i : ℕ) → block_at W g i ≢ b
-  new-none W place g is i e =
-      let q : held_of (new_head h.number room.number place new) name ≡ g = cc in
-      some (sym e ∙ ap (λ (g : Held). block_at W g i) (sym q) ∙ no-index W (held_of (new_head h.number room.number place new) name) refl (λ j _. zeros-get 48 j) i ∙ zeros-get 48 i)
+      by : (g : Held) → (used (new_held spot name a kind size) ≡ used g) ⊎ (((V.owner b).number ≡ spot.d) × (used (with_moment spot.h now) ≡ used g)) ⊎ (V.inode (V.owner b).number ≡ used g) → block_at P g (V.owner b).place ≢ b
+      by g (inl is) = new-none g is
+      by g (inr (inl d)) = at-directory g d.0 d.1
+      by g (inr (inr at)) = λ e. unowned.not_at g at (sym (stays (V.owner b).number g at (V.owner b).place) ∙ e)
 
-  -- an inode of the disk then: the new one, the directory's, or another
-  pick : (x y : Seen) (i : ℕ) (g : Held) → cond (eqb i room.number.number) x (cond (eqb i h.number) y (V.inode i)) ≡ used g → (x ≡ used g) ⊎ ((i ≡ h.number) × (y ≡ used g)) ⊎ (V.inode i ≡ used g)
-  pick x y i g is = by (cases_eq i room.number.number) (cases_eq i h.number)
-    where
-      by : (i ≡ room.number.number) ⊎ (i ≡ room.number.number → ⊥) → (i ≡ h.number) ⊎ (i ≡ h.number → ⊥) → (x ≡ used g) ⊎ ((i ≡ h.number) × (y ≡ used g)) ⊎ (V.inode i ≡ used g)
-      by (inl a) _ = inl (sym (ap (λ t. cond t x (cond (eqb i h.number) y (V.inode i))) (eq-eqb i room.number.number a)) ∙ is)
-      by (inr a) (inl d) = inr (inl (d, sym (ap (λ t. cond t x (cond (eqb i h.number) y (V.inode i))) (ne_eqb i room.number.number a) ∙ ap (λ t. cond t y (V.inode i)) (eq-eqb i h.number d)) ∙ is))
-      by (inr a) (inr d) = inr (inr (sym (ap (λ t. cond t x (cond (eqb i h.number) y (V.inode i))) (ne_eqb i room.number.number a) ∙ ap (λ t. cond t y (V.inode i)) (ne_eqb i h.number d)) ∙ is))
-
-  old : (g : Held) → V.inode (V.owner b).number ≡ used g → block_at V g (V.owner b).place ≢ b
-  old g is = other.free.unowned.not_at g is
-
-  pub unowned : IsUnowned (with_placed V h.number r room.number room.place name new now) b
-  unfolding block_at
-  unowned = by room.place has.place other
-    where
-      by : (p : NewPlace) → HasPlaceFor V r.head p → IsOtherBlock V (widened_head r.head p).blocks b → IsUnowned (with_placed V h.number r room.number p name new now) b
-      by (Here p) place apart = record { not_at = λ g is. each g (pick (used (held_of (new_head h.number room.number p.place new) name)) (used (with_moment (held r) now)) (V.owner b).number g is) }
-        where
-          W2 : View
-          W2 = with_placed V h.number r room.number (Here p) name new now
-
-          -- each other inode has the blocks that it had
-          stays : (g : Held) → V.inode (V.owner b).number ≡ used g → block_at (with_placed V h.number r room.number (Here p) name new now) g (V.owner b).place ≡ block_at V g (V.owner b).place
-          stays g is = here-blocks V h r sound node p place (record { number = room.number.number; tag = tag_of name }) (V.owner b).number g is (V.owner b).place
-
-          at-directory : (g : Held) → (V.owner b).number ≡ h.number → used (with_moment (held r) now) ≡ used g → block_at (with_placed V h.number r room.number (Here p) name new now) g (V.owner b).place ≢ b
-          at-directory g d is e =
-              let q : with_moment (held r) now ≡ g = cc in
-              old (held r) (ap V.inode d ∙ node.is) (
-              sym (stays (held r) (ap V.inode d ∙ node.is))
-              ∙ sym (same-blocks (with_placed V h.number r room.number (Here p) name new now) (with_moment (held r) now) (held r) refl refl (V.owner b).place)
-              ∙ ap (λ (g : Held). block_at (with_placed V h.number r room.number (Here p) name new now) g (V.owner b).place) q ∙ e)
-
-          each : (g : Held) → (used (held_of (new_head h.number room.number p.place new) name) ≡ used g) ⊎ (((V.owner b).number ≡ h.number) × (used (with_moment (held r) now) ≡ used g)) ⊎ (V.inode (V.owner b).number ≡ used g) → block_at (with_placed V h.number r room.number (Here p) name new now) g (V.owner b).place ≢ b
-          each g (inl is) = new-none (with_placed V h.number r room.number (Here p) name new now) p.place g is (V.owner b).place
-          each g (inr (inl d)) = at-directory g d.0 d.1
-          each g (inr (inr is)) = λ e. old g is (sym (stays g is) ∙ e)
-      by (Further f) place apart = record { not_at = λ g is. subst (λ (o : Owner). block_at (with_placed V h.number r room.number (Further f) name new now) g o.place ≢ b) (sym same) (each g (pick (used (held_of (new_head h.number room.number (512 * f.j) new) name)) (used grown) (V.owner b).number g (at g is))) }
-        where
-          W2 : View
-          W2 = with_placed V h.number r room.number (Further f) name new now
-
-          grown : Held
-          grown = held_of (moved (with_further r.head f.j f.block) now) (name_from r.bytes)
-
-          here : get_or (set r.head.blocks f.j f.block) f.j 0 ≡ f.block
-          here =
-              get-set r.head.blocks f.j f.block f.j (let l = place.few in let n = place.all in omega (arith, l, n))
-              ∙ ap (λ t. cond t f.block (get_or r.head.blocks f.j 0)) (eq-eqb f.j f.j refl)
-
-          not_f : b ≢ f.block
-          not_f e = apart.apart f.j place.few (here ∙ sym e)
-
-          same : (with_placed V h.number r room.number (Further f) name new now).owner b ≡ V.owner b
-          same = ap (λ t. cond t (owner_of h.number f.j) (V.owner b)) (ne_eqb b f.block not_f)
-
-          at : (g : Held) → (with_placed V h.number r room.number (Further f) name new now).inode ((with_placed V h.number r room.number (Further f) name new now).owner b).number ≡ used g
-              → (with_placed V h.number r room.number (Further f) name new now).inode (V.owner b).number ≡ used g
-          at g is = ap (λ (o : Owner). (with_placed V h.number r room.number (Further f) name new now).inode o.number) (sym same) ∙ is
-
-          past-grown : (i : ℕ) → 48 ≤ i → get_or (set r.head.blocks f.j f.block) i 0 ≡ 0
-          past-grown i past = get_or_past (set r.head.blocks f.j f.block) i 0 (let n = length-set r.head.blocks f.j f.block in let all = place.all in omega (arith, n, all, past))
-
-          not-grown : (i : ℕ) → get_or (set r.head.blocks f.j f.block) i 0 ≢ b
-          not-grown i = cases (cases_lt i 48)
-            where
-              cases : (i < 48) ⊎ (48 ≤ i) → get_or (set r.head.blocks f.j f.block) i 0 ≢ b
-              cases (inl low) = apart.apart i low
-              cases (inr past) = λ e. some (sym e ∙ past-grown i past)
-
-          at-directory : (g : Held) → used grown ≡ used g → block_at (with_placed V h.number r room.number (Further f) name new now) g (V.owner b).place ≢ b
-          at-directory g is e =
-              let q : held_of (moved (with_further r.head f.j f.block) now) (name_from r.bytes) ≡ g = cc in
-              not-grown (V.owner b).place (
-              sym (no-index (with_placed V h.number r room.number (Further f) name new now) (held_of (moved (with_further r.head f.j f.block) now) (name_from r.bytes)) no_index past-grown (V.owner b).place)
-              ∙ ap (λ (g : Held). block_at (with_placed V h.number r room.number (Further f) name new now) g (V.owner b).place) q ∙ e)
-
-          f_some : f.block ≢ 0
-          f_some e = let l = place.is.from in let n = sound.no_data in absurd (omega (arith, e, l, n))
-
-          -- each other inode has the blocks that it had
-          stays : (g : Held) → V.inode (V.owner b).number ≡ used g → block_at (with_placed V h.number r room.number (Further f) name new now) g (V.owner b).place ≡ block_at V g (V.owner b).place
-          stays g is =
-              block_at-frame V (with_placed V h.number r room.number (Further f) name new now) g
-              (λ q _ _. ap (λ t. cond t (with_entry zero_block 0 (record { number = room.number.number; tag = tag_of name })) (V.block (block_at V g q))) (ne_eqb (block_at V g q) f.block (nobody_has V f.block sound f_some place.is.unowned (V.owner b).number g q is)))
-              (V.owner b).place
-
-          each : (g : Held) → (used (held_of (new_head h.number room.number (512 * f.j) new) name) ≡ used g) ⊎ (((V.owner b).number ≡ h.number) × (used grown ≡ used g)) ⊎ (V.inode (V.owner b).number ≡ used g) → block_at (with_placed V h.number r room.number (Further f) name new now) g (V.owner b).place ≢ b
-          each g (inl is) = new-none (with_placed V h.number r room.number (Further f) name new now) (512 * f.j) g is (V.owner b).place
-          each g (inr (inl d)) = at-directory g d.1
-          each g (inr (inr is)) = λ e. old g is (sym (stays g is) ∙ e)
+-- its inode is the new one
+new-inode : (V : View) (d : ℕ) (r : Record) (f : FreeNumber) (p : NewPlace) (name : List ℕ) (new : NewNode) (now : Time) → (with_placed V d r f p name new now).inode f.number ≡ used (held_of (new_head d f (place_number p) new) name)
+new-inode V d r f (Here p) name new now = inode-same (with_inode (with_block V p.block (with_entry (V.block p.block) p.at (new_entry f name))) d (used (with_moment (held r) now))) f.number (used (held_of (new_head d f (here_number p) new) name))
+new-inode V d r f (Further g) name new now = inode-same (with_inode (with_growth V d g (with_entry zero_block 0 (new_entry f name))) d (used (held_of (moved (grown_head r.head g) now) (name_from r.bytes)))) f.number (used (held_of (new_head d f (512 * g.j) new) name))
 
 -- ── the link has its text ──
 
@@ -210,7 +125,7 @@ pub record LinkBirth (V W : View) (h : Handle) (r : Record) (name : List ℕ) (n
 
 module _ (V W : View) (h : Handle) (r : Record) (name : List ℕ) (new : NewNode) (text : List ℕ) (room : FreeRoom) (now : Time) (reply : Made)
     (sound : IsSoundView V) (node : IsNode V h r) (kind : r.head.kind ≡ Directory) (is_link : new.kind ≡ Link) (sized : new.size ≡ length text) (long : 0 < length text) (few : length text ≤ MOST_LINK)
-    (has : HasRoomFor V r.head room) (linked : IsLinkedIn V W h.number r name new text room now reply) where
+    (has : HasRoomFor V r.head (tag_of name) room) (linked : IsLinkedIn V W h.number r name new text room now reply) where
   abbrev W1 : View
   W1 = with_placed V h.number r room.number room.place name new now
 
@@ -220,12 +135,27 @@ module _ (V W : View) (h : Handle) (r : Record) (name : List ℕ) (new : NewNode
   plain : new.kind ≡ Directory → new.size ≡ 0
   plain e = absurd (cc (sym is_link ∙ e))
 
-  made : IsMade V (with_placed V h.number r room.number room.place name new now) h.number r name new now reply
+  abbrev made : IsMade V (with_placed V h.number r room.number room.place name new now) h.number r name new now reply
   made = record { number = room.number; place = room.place; is_free = has.number; is_place = has.place; view = refl; is = linked.is }
 
   -- the link without its text
   pub bare : Birth V (with_placed V h.number r room.number room.place name new now) h r name new now reply
   bare = birth V W1 h r name new now reply sound node kind plain made
+
+  -- the disk on which it was put
+  base : Ground V (with_placed V h.number r room.number room.place name new now) h.number name new now room.number room.place
+  base = ground V W1 h r name new now reply sound node kind plain made
+
+  form : IsSameForm V (with_placed V h.number r room.number room.place name new now)
+  form = record {
+    numbers = ap (λ (X : View). X.numbers) base.view ∙ base.form.numbers;
+    first_data = ap (λ (X : View). X.first_data) base.view ∙ base.form.first_data;
+    data_blocks = ap (λ (X : View). X.data_blocks) base.view ∙ base.form.data_blocks;
+  }
+
+  unowned : linked.block ≢ 0 → IsUnowned (with_placed V h.number r room.number room.place name new now) linked.block
+  unowned some = subst (λ X. IsUnowned X linked.block) (sym base.view)
+      (planted-unowned base.base base.spot name new.attributes new.kind new.size now base.sound base.is_spot linked.block some (base.unowned linked.block some linked.is_block.free.unowned linked.is_block.apart))
 
   -- a call makes it with a text of zeros
   pub outcome-zeros : (Ok reply, tree_of (with_placed V h.number r room.number room.place name new now)) ≡ born (tree_of V) h.number (node_of V (held r)) name (Some bare.room) new.attributes (link (replicate (length text) 0)) now
@@ -235,21 +165,21 @@ module _ (V W : View) (h : Handle) (r : Record) (name : List ℕ) (new : NewNode
     abbrev f : Filling
     f = record { n = room.number.number; h = held_of (new_head h.number room.number (place_number room.place) new) name; b = linked.block; text = text }
 
-    abbrev same_form : IsSameForm V (with_placed V h.number r room.number room.place name new now)
-    same_form = form V h r name new now sound node kind room has linked.block linked.is_block
+    some : linked.block ≢ 0
+    some e = let l = linked.is_block.free.from in let n = sound.no_data in absurd (omega (arith, e, l, n))
 
     filling : IsFilling W1 f
     filling = record {
-      is = new-inode V h r name new now sound node kind room has linked.block linked.is_block;
+      is = new-inode V h.number r room.number room.place name new now;
       kind = is_link;
       none = refl;
       sized = sized;
       long = long;
       few = few;
-      some = λ e. (let l = linked.is_block.free.from in let n = sound.no_data in absurd (omega (arith, e, l, n)));
-      from = (let l = linked.is_block.free.from in let e = same_form.first_data in omega (arith, e, l));
-      to = (let l = linked.is_block.free.to in let e = same_form.first_data in let d = same_form.data_blocks in omega (arith, e, d, l));
-      unowned = unowned V h r name new now sound node kind room has linked.block linked.is_block;
+      some = some;
+      from = (let l = linked.is_block.free.from in let e = form.first_data in omega (arith, e, l));
+      to = (let l = linked.is_block.free.to in let e = form.first_data in let d = form.data_blocks in omega (arith, e, d, l));
+      unowned = unowned some;
     }
 
     held-is : held_of (with_first head linked.block) name ≡ filled_held f
@@ -329,6 +259,6 @@ module _ (V W : View) (h : Handle) (r : Record) (name : List ℕ) (new : NewNode
         stays-sound : (call : Call) (c : Caller) → IsCallable call → IsCaller c → IsTime now → Op call c now (tree_of V) (made_reply (Ok reply)) (tree_of W) → IsSoundView W
         stays-sound call c callable caller time op = subst IsSoundView (sym view)
             (calls-stay-sound V (filled_view W1 f) (tree_of (filled_view W1 f)) call c now (made_reply (Ok reply)) callable caller time sound
-            (record { numbers = same_form.numbers; first_data = same_form.first_data; data_blocks = same_form.data_blocks })
+            (record { numbers = form.numbers; first_data = form.first_data; data_blocks = form.data_blocks })
             (subst (λ W. Op call c now (tree_of V) (made_reply (Ok reply)) (tree_of W)) view op)
             (record { tree = refl; inodes = shown.inodes; hung = shown.hung }))

@@ -13,7 +13,7 @@ use Rattle.journal_treestore.proofs.Viewing.{inode-node}
 use Rattle.journal_treecalls.specs.Disks.{Learns}
 use Rattle.journal_treecalls.specs.Targets.{IsInode}
 use Rattle.journal_treecalls.specs.Fetches.{file_blocks}
-use Rattle.journal_treecalls.specs.Rooms.{HasFreeBlock, IsFreeBlock, IsThis, if_nobodys, IsHad}
+use Rattle.journal_treecalls.specs.Blocks.{HasFreeBlock, IsFreeBlock, IsThis, if_nobodys, IsHad}
 use Rattle.journal_treecalls.proofs.Learning.{learns-as, learns-then}
 use Rattle.journal_treecalls.proofs.Learned.{AreSound}
 use Rattle.journal_treecalls.proofs.Numbers.{file-named}

@@ -1,5 +1,5 @@
 -- The entries of a directory come onto a page.
-use Rattle.std.proofs.Common.{◌≡◌, ◌≢◌, ℕ, zero, suc, ◌+◌, ◌*◌, ◌<◌, ◌≤◌, Bool, true, false, cond, List, [], ◌∷◌, ◌++◌, get_or, map, Option, Some, None, refl, sym, ap, subst, ◌∙◌, arith}
+use Rattle.std.proofs.Common.{◌≡◌, ◌≢◌, ℕ, zero, suc, ◌+◌, ◌*◌, ◌<◌, ◌≤◌, Bool, true, false, cond, List, [], ◌∷◌, ◌++◌, map, Option, Some, None, refl, sym, ap, subst, ◌∙◌, arith}
 use Rattle.std.specs.Prelude.{nat_lt}
 use Rattle.std.proofs.lemmas.Bool.{lt-ltb, le-ltb, eq-eqb, ne_eqb}
 use Rattle.std.proofs.lemmas.List.{map_push}
@@ -15,7 +15,9 @@ use Rattle.journal_treestore.specs.Views.Seen.{used}
 use Rattle.journal_treecalls.specs.declared.lines.Line.{Line}
 use Rattle.journal_treecalls.specs.declared.lines.Room.{Room}
 use Rattle.journal_treecalls.specs.declared.lines.Page.{Page}
+use Rattle.journal_treecalls.specs.declared.seats.BlockNumbers.{BlockNumbers}
 use Rattle.journal_treecalls.specs.Disks.{inode_seen, Learns}
+use Rattle.journal_treecalls.specs.Seats.{number_of}
 use Rattle.journal_treecalls.specs.Lines.{item_of, beside_of, left_after, with_line, Adds, Filled, filled_of, put_item, fill, AreTrue, Shows, item_by, item_at, item_from, items_in}
 use Rattle.journal_treecalls.specs.Walks.{IsNodeLine, all_items, ShowsEntry, ShowsPlace, ShowsBytes, ShowsBlock, ShowsBlocks}
 use Rattle.journal_treecalls.proofs.Learning.{learns-as, learns-then}
@@ -69,15 +71,22 @@ shows-line V old new l i adds is beside = record { filled = filled; told = told 
 
 -- ── an entry ──
 
-pub entry-used : (first last : View → Type 0) (place n : ℕ) (bytes name : List ℕ) (x : Inode) (h : Head) (old new : Page) (l : Line) → Learns first last (λ V. V.inode n ≡ inode_seen bytes) → x ≡ inode_from bytes → x ≡ Used h → name ≡ name_from bytes → IsNodeLine l (place + 3) n h name → Adds old new l
+pub entry-used : (first last : View → Type 0) (place n : ℕ) (bytes name : List ℕ) (x : Inode) (h : Head) (old new : Page) (l : Line) → Learns first last (λ V. V.inode n ≡ inode_seen bytes) → x ≡ inode_from bytes → x ≡ Used h → name ≡ name_from bytes → h.place ≡ place → IsNodeLine l (place + 3) n h name → Adds old new l
     → Learns first last (λ V. ShowsEntry V place n old new)
-entry-used first last place n bytes name x h old new l k is kind named line adds = learns-as first last _ _ k (λ V m at sound.
+entry-used first last place n bytes name x h old new l k is kind named home line adds = learns-as first last _ _ k (λ V m at sound.
     let here : V.inode n ≡ used (held_of h (name_from bytes)) = at ∙ ap (λ x. seen x (name_from bytes)) (sym is ∙ kind) in
-    subst (λ y. Shows V old new (item_by y place n)) (sym here) (shows-line V old new l (record { cookie = place + 3; name = name_from bytes; number = n }) adds
+    subst (λ y. Shows V old new (item_by y place n)) (sym here) (
+    subst (Shows V old new) (sym (ap (λ t. cond t (record { cookie = place + 3; name = name_from bytes; number = n } ∷ []) []) (eq-eqb h.place place home))) (shows-line V old new l (record { cookie = place + 3; name = name_from bytes; number = n }) adds
     (line.item ∙ ap (λ w. record { cookie = place + 3; name = w; number = n }) named)
     (line.beside
     ∙ (λ i. record { generation = h.generation; node = Some (sym (told-is V n (held_of h (name_from bytes)) (sound.inodes n (held_of h (name_from bytes)) here)) i) })
-    ∙ ap (λ (y : Seen). record { generation = (slot_of V y).generation; node = Rattle.std.specs.Prelude.option_map (Rattle.journal_tree.specs.Calls.told n) (slot_of V y).node }) (sym here))))
+    ∙ ap (λ (y : Seen). record { generation = (slot_of V y).generation; node = Rattle.std.specs.Prelude.option_map (Rattle.journal_tree.specs.Calls.told n) (slot_of V y).node }) (sym here)))))
+
+-- a second entry
+pub entry-away : (first last : View → Type 0) (place n : ℕ) (bytes : List ℕ) (x : Inode) (h : Head) (p : Page) → Learns first last (λ V. V.inode n ≡ inode_seen bytes) → x ≡ inode_from bytes → x ≡ Used h → h.place ≢ place → Learns first last (λ V. ShowsEntry V place n p p)
+entry-away first last place n bytes x h p k is kind away = learns-as first last _ _ k (λ V m at sound.
+    subst (λ y. Shows V p p (item_by y place n)) (sym (at ∙ ap (λ x. seen x (name_from bytes)) (sym is ∙ kind))) (
+    subst (Shows V p p) (sym (ap (λ t. cond t (record { cookie = place + 3; name = name_from bytes; number = n } ∷ []) []) (ne_eqb h.place place away))) (shows-none V p)))
 
 pub entry-free : (first last : View → Type 0) (place n g : ℕ) (bytes : List ℕ) (x : Inode) (p : Page) → Learns first last (λ V. V.inode n ≡ inode_seen bytes) → x ≡ inode_from bytes → x ≡ Free g → Learns first last (λ V. ShowsEntry V place n p p)
 entry-free first last place n g bytes x p k is kind = learns-as first last _ _ k (λ V m at sound.
@@ -143,26 +152,38 @@ block-none may begin b j p none = record { before = λ V m. m; now = λ V m soun
 pub block-before : (may : View → Type 0) (begin b j : ℕ) (p : Page) → 512 * (j + 1) ≤ begin → Learns may may (λ V. ShowsBlock V begin b j p p)
 block-before may begin b j p far = record { before = λ V m. m; now = λ V m sound. subst (Shows V p p) (sym (items-of-none V begin b j 512 (λ k low. none-before V begin (512 * j + k) (entry_in V b k) (omega (arith, low, far))))) (shows-none V p) }
 
+pub block-full : (may : View → Type 0) (begin b j : ℕ) (p : Page) → p.room ≡ None → Learns may may (λ V. ShowsBlock V begin b j p p)
+block-full may begin b j p full = record { before = λ V m. m; now = λ V m sound. shows-full V p (items_in V begin b j 512) full }
+
 pub block-shown : (first mid last : View → Type 0) (begin b j : ℕ) (v w : List ℕ) (old new : Page) → b ≢ 0 → w ≡ v → Learns first mid (λ V. V.block b ≡ v) → Learns mid last (λ V. ShowsBytes V begin w j 512 old new) → Learns first last (λ V. ShowsBlock V begin b j old new)
 block-shown first mid last begin b j v w old new some same l k = learns-then first mid last _ _ l k _ (λ V m is s sound. s sound b some (is ∙ sym same))
 
 -- ── all blocks ──
 
-pub all-zero : (V : View) (begin : ℕ) (bs : List ℕ) → all_items V begin bs 0 ≡ []
+pub all-zero : (V : View) (begin : ℕ) (number : ℕ → ℕ) → all_items V begin number 0 ≡ []
 unfolding all_items
-all-zero V begin bs = refl
+all-zero V begin number = refl
 
-pub all-more : (V : View) (begin : ℕ) (bs : List ℕ) (j : ℕ) → all_items V begin bs (suc j) ≡ all_items V begin bs j ++ items_in V begin (get_or bs j 0) j 512
+pub all-more : (V : View) (begin : ℕ) (number : ℕ → ℕ) (j : ℕ) → all_items V begin number (suc j) ≡ all_items V begin number j ++ items_in V begin (number j) j 512
 unfolding all_items
-all-more V begin bs j = refl
+all-more V begin number j = refl
 
-pub blocks-begin : (may : View → Type 0) (begin : ℕ) (bs : List ℕ) (p : Page) → Learns may may (λ V. ShowsBlocks V begin bs 0 p p)
-blocks-begin may begin bs p = record { before = λ V m. m; now = λ V m sound. subst (Shows V p p) (sym (all-zero V begin bs)) (shows-none V p) }
+-- the same numbers
+pub all-same : (V : View) (begin : ℕ) (f g : ℕ → ℕ) → ((j : ℕ) → f j ≡ g j) → (j : ℕ) → all_items V begin f j ≡ all_items V begin g j
+all-same V begin f g same zero = all-zero V begin f ∙ sym (all-zero V begin g)
+all-same V begin f g same (suc j) =
+    all-more V begin f j
+    ∙ (λ i. all-same V begin f g same j i ++ items_in V begin (same j i) j 512)
+    ∙ sym (all-more V begin g j)
 
-pub blocks-more : (first mid last : View → Type 0) (begin : ℕ) (bs : List ℕ) (j : ℕ) (a b c : Page) → Learns first mid (λ V. ShowsBlocks V begin bs j a b) → Learns mid last (λ V. ShowsBlock V begin (get_or bs j 0) j b c) → Learns first last (λ V. ShowsBlocks V begin bs (j + 1) a c)
-blocks-more first mid last begin bs j a b c l k = learns-then first mid last _ _ l k _ (λ V m s t sound.
-    subst (λ j1. Shows V a c (all_items V begin bs j1)) (let e : suc j ≡ j + 1 = omega arith in e) (
-    subst (Shows V a c) (sym (all-more V begin bs j)) (shows-append V a b c (all_items V begin bs j) (items_in V begin (get_or bs j 0) j 512) (s sound) (t sound))))
+pub blocks-begin : (may : View → Type 0) (begin : ℕ) (numbers : BlockNumbers) (p : Page) → Learns may may (λ V. ShowsBlocks V begin numbers 0 p p)
+blocks-begin may begin numbers p = record { before = λ V m. m; now = λ V m sound. subst (Shows V p p) (sym (all-zero V begin (number_of numbers))) (shows-none V p) }
+
+pub blocks-more : (first mid last : View → Type 0) (begin : ℕ) (numbers : BlockNumbers) (j n : ℕ) (a b c : Page) → n ≡ number_of numbers j → Learns first mid (λ V. ShowsBlocks V begin numbers j a b) → Learns mid last (λ V. ShowsBlock V begin n j b c) → Learns first last (λ V. ShowsBlocks V begin numbers (j + 1) a c)
+blocks-more first mid last begin numbers j n a b c is l k = learns-then first mid last _ _ l k _ (λ V m s t sound.
+    subst (λ j1. Shows V a c (all_items V begin (number_of numbers) j1)) (let e : suc j ≡ j + 1 = omega arith in e) (
+    subst (Shows V a c) (sym (all-more V begin (number_of numbers) j)) (shows-append V a b c (all_items V begin (number_of numbers) j) (items_in V begin (number_of numbers j) j 512) (s sound)
+    (subst (λ n. Shows V b c (items_in V begin n j 512)) is (t sound)))))
 
 pub items-are-more : (V : View) (begin b j at : ℕ) → items_in V begin b j (suc at) ≡ items_in V begin b j at ++ item_from V begin (512 * j + at) (entry_in V b at)
 items-are-more V begin b j at = items-more V begin b j at

@@ -35,7 +35,7 @@ use Rattle.journal_treecalls.specs.declared.setting.Tail.{Tail}
 use Rattle.journal_treecalls.specs.Disks.{Write, inode_seen, written, Learns, Does}
 use Rattle.journal_treecalls.specs.Disks.Write.{inode_write, owner_write, block_write}
 use Rattle.journal_treecalls.specs.Targets.{held, IsNode, IsTarget, told_of}
-use Rattle.journal_treecalls.specs.Rooms.{owner_of}
+use Rattle.journal_treecalls.specs.Blocks.{owner_of}
 use Rattle.journal_treecalls.specs.Sizes.{cleared, changed_told}
 use Rattle.journal_treecalls.specs.declared.reach.Numbers.{Numbers}
 use Rattle.journal_treecalls.specs.declared.reach.Changing.{Changing}
@@ -48,7 +48,8 @@ use Rattle.journal_treecalls.specs.Overlays.IsWriting.{kept, allowed as is_allow
 use Rattle.journal_treecalls.proofs.Learning.{learns-as, does-reads}
 use Rattle.journal_treecalls.proofs.Learned.{AreSound}
 use Rattle.journal_treecalls.proofs.Cases.{at-gone, at-node, node-told, told-is}
-use Rattle.journal_treecalls.proofs.Stepping.{IsNodeStep, tree-step, step-sound}
+use Rattle.journal_treestore.specs.Steps.{IsNodeStep}
+use Rattle.journal_treestore.proofs.Stepping.{tree-step, step-sound}
 use Rattle.journal_treecalls.proofs.Portioning.{small-file}
 use Rattle.journal_treecalls.proofs.Laying.{laid-none, laid-more}
 use Rattle.journal_treecalls.proofs.Overlaying.{IsOverlay, IsIndexed, step-written, node-written}
@@ -168,16 +169,16 @@ module _ (V : View) (h : Handle) (c : Caller) (offset count : ℕ) (bs : List �
           row = laying_at t w.image
 
           overlays : IsOverlay V (held r) (numbered (block_at V (held r)) t.reach t.new) (laying_at t w.image) (reach_count t.reach) offset (offset + length bs) w.image
-          overlays = row-overlays V r w.head c now offset (offset + length bs) t w.image (omega (arith, some)) fits change w.long w.is_head
+          overlays = row-overlays V r w.head offset (offset + length bs) t w.image (omega (arith, some)) fits change w.long w.is_head.blocks w.is_head.index
 
           indexed : IsIndexed V (held r) (numbered (block_at V (held r)) t.reach t.new) (laying_at t w.image) (reach_count t.reach) w.head
-          indexed = row-indexed V r w.head c now offset (offset + length bs) t w.image (omega (arith, some)) fits change w.long w.is_head
+          indexed = row-indexed V r w.head offset (offset + length bs) t w.image (omega (arith, some)) fits change w.long w.is_head.blocks w.is_head.index
 
           step : IsNodeStep V (with_written V h.number r w.head offset t w.image) h.number (held r) (held_of w.head (name_from r.bytes))
-          step = step-written V h.number r w.head offset bs w.image N row (reach_count t.reach) sound node.is passed.0 some fits (small-file V h.number (held r) sound node.is passed.0) overlays indexed c now t.new w.is_head
+          step = step-written V h.number r w.head offset bs w.image N row (reach_count t.reach) sound node.is some fits (small-file V h.number (held r) sound node.is passed.0) overlays indexed w.is_head.size passed.0 c now t.new w.is_head
 
           node-is : node_of (with_written V h.number r w.head offset t w.image) (held_of w.head (name_from r.bytes)) ≡ written_node c (node_of V (held r)) (overlaid (content V (held r)) offset bs) now
-          node-is = node-written V h.number r w.head offset bs w.image N row (reach_count t.reach) sound node.is passed.0 some fits (small-file V h.number (held r) sound node.is passed.0) overlays indexed c now t.new w.is_head w.is_image w.long
+          node-is = node-written V h.number r w.head offset bs w.image N row (reach_count t.reach) sound node.is some fits (small-file V h.number (held r) sound node.is passed.0) overlays indexed w.is_head.size passed.0 c now t.new w.is_head w.is_image w.long
 
           told-after : told h.number (written_node c (node_of V (held r)) (overlaid (content V (held r)) offset bs) now) ≡ told_of h.number w.head
           told-after = ap (told h.number) (sym node-is) ∙ told-is W1 h.number (held_of w.head (name_from r.bytes)) step.sound

@@ -1,5 +1,5 @@
 -- A directory without entries, which RMDIR takes out.
-use Rattle.std.specs.Prelude.{ℕ, ◌≡◌, ◌≢◌, ◌<◌, not, ◌&&◌, if◌then◌else◌, List, length, get_or, Option, Some, None, Result, Ok, Err}
+use Rattle.std.specs.Prelude.{ℕ, ◌≡◌, ◌≢◌, ◌<◌, not, ◌&&◌, if◌then◌else◌, List, Option, Some, None, Result, Ok, Err}
 use Rattle.journal_tree.specs.declared.time.Time.{Time}
 use Rattle.journal_tree.specs.declared.reply.Changed.{Changed}
 use Rattle.journal_tree.specs.declared.caller.Caller.{Caller}
@@ -12,8 +12,11 @@ use Rattle.journal_treestore.specs.Entries.{entry_from}
 use Rattle.journal_treestore.specs.Views.{View}
 use Rattle.journal_treecalls.specs.declared.node.Record.{Record}
 use Rattle.journal_treecalls.specs.declared.search.Hit.{Hit}
+use Rattle.journal_treecalls.specs.declared.seats.BlockNumbers.{BlockNumbers}
 use Rattle.journal_treecalls.specs.declared.named.Named.{Named}
 use Rattle.journal_treecalls.specs.Disks.{Write, written}
+use Rattle.journal_treecalls.specs.Targets.{block_of}
+use Rattle.journal_treecalls.specs.Seats.{number_of, block_count}
 use Rattle.journal_treecalls.specs.Names.{is_directory_kind, changed_of, without_hit}
 
 -- ── entries ──
@@ -38,18 +41,30 @@ abbrev pub IsEntryOfBlock : View → ℕ → Option ℕ → Type 0
 IsEntryOfBlock V b None = b ≢ 0 → HasNoneBelow (V.block b) 512
 IsEntryOfBlock V b (Some m) = (b ≢ 0) × Names (V.block b) m
 
--- none of the first blocks has an entry
-abbrev pub HasNoneInBlocks : View → List ℕ → ℕ → Type 0
-HasNoneInBlocks V bs to = (j : ℕ) → j < to → IsEntryOfBlock V (get_or bs j 0) None
+-- none of the first blocks of these numbers has an entry
+abbrev pub HasNoneInBlocks : View → BlockNumbers → ℕ → Type 0
+HasNoneInBlocks V b to = (j : ℕ) → j < to → IsEntryOfBlock V (number_of b j) None
 
--- One of a directory's blocks has one
-pub record HasEntry (V : View) (bs : List ℕ) (m : ℕ) : Type 0 where
+-- One of the blocks has one
+pub record HasEntryIn (V : View) (b : BlockNumbers) (m : ℕ) : Type 0 where
   pub j : ℕ
-  pub is : IsEntryOfBlock V (get_or bs j 0) (Some m)
+  pub is : IsEntryOfBlock V (number_of b j) (Some m)
 
-abbrev pub IsEntryOfBlocks : View → List ℕ → Option ℕ → Type 0
-IsEntryOfBlocks V bs None = HasNoneInBlocks V bs (length bs)
-IsEntryOfBlocks V bs (Some m) = HasEntry V bs m
+abbrev pub IsEntryOfBlocks : View → BlockNumbers → ℕ → Option ℕ → Type 0
+IsEntryOfBlocks V b to None = HasNoneInBlocks V b to
+IsEntryOfBlocks V b to (Some m) = HasEntryIn V b m
+
+-- A directory of these fields has no entry in its blocks, or one
+abbrev pub HasNone : View → Head → Type 0
+HasNone V h = (j : ℕ) → j < block_count h → IsEntryOfBlock V (block_of V h j).number None
+
+pub record HasEntry (V : View) (h : Head) (m : ℕ) : Type 0 where
+  pub j : ℕ
+  pub is : IsEntryOfBlock V (block_of V h j).number (Some m)
+
+abbrev pub IsEntryOf : View → Head → Option ℕ → Type 0
+IsEntryOf V h None = HasNone V h
+IsEntryOf V h (Some m) = HasEntry V h m
 
 -- ── RMDIR ──
 
@@ -62,8 +77,8 @@ rmdir_status c d n =
 
 -- A directory that was found is taken out, or it has entries
 pub data IsBareRemoval (V W : View) (d : ℕ) (r : Record) (hit : Hit) (now : Time) : Result Changed Status → Type 0 where
-  full : (m : ℕ) → HasEntry V hit.head.blocks m → W ≡ V → IsBareRemoval V W d r hit now (Err NotEmpty)
-  taken : (changed : Changed) → HasNoneInBlocks V hit.head.blocks (length hit.head.blocks) → W ≡ without_hit V d r hit now → changed ≡ changed_of d r.head now → IsBareRemoval V W d r hit now (Ok changed)
+  full : (m : ℕ) → HasEntry V hit.head m → W ≡ V → IsBareRemoval V W d r hit now (Err NotEmpty)
+  taken : (changed : Changed) → HasNone V hit.head → W ≡ without_hit V d r hit now → changed ≡ changed_of d r.head now → IsBareRemoval V W d r hit now (Ok changed)
 
 pub record RemovesBare (old new : View → Type 0) (ws : List Write) (d : ℕ) (r : Record) (hit : Hit) (now : Time) (reply : Result Changed Status) : Type 0 where
   pub same : (V : View) → new V → old V

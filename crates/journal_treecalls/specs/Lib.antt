@@ -1,8 +1,11 @@
 pub mod Disks
 pub mod Targets
+pub mod Seats
 pub mod Replies
 pub mod Names
+pub mod Blocks
 pub mod Rooms
+pub mod Changes
 pub mod Directories
 pub mod Facts
 pub mod Refusals

@@ -72,10 +72,11 @@ pub record Shows (V : View) (old new : Page) (is : List Item) : Type 0 where
 
 -- ── the lines of a directory ──
 
--- of a place, by its entry and the inode that this names
+-- of a place, by its entry and the inode that this names. A node's second entry has no line: the
+-- node has one at its home's place
 abbrev pub item_by : Seen → ℕ → ℕ → List Item
 item_by (free g) place n = []
-item_by (used g) place n = record { cookie = place + 3; name = g.home.name; number = n } ∷ []
+item_by (used g) place n = if g.home.place == place then record { cookie = place + 3; name = g.home.name; number = n } ∷ [] else []
 
 abbrev pub item_at : View → ℕ → Entry → List Item
 item_at V place e = if e.number == 0 then [] else item_by (V.inode e.number) place e.number

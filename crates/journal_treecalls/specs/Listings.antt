@@ -12,7 +12,6 @@ use Rattle.journal_tree.specs.Calls.{DOT, target}
 use Rattle.journal_tree.specs.Calls.Target.{gone}
 use Rattle.journal_tree.specs.Listing.{Item, Page as ListPage, Listed, ListedPlus, dot_item}
 use Rattle.journal_treestore.specs.declared.inode.Head.{Head}
-use Rattle.journal_treestore.specs.declared.inode.TheConstants.{DIRECT_BLOCKS}
 use Rattle.journal_treestore.specs.Views.{View, held_of, tree_of}
 use Rattle.journal_treestore.specs.Views.Seen.{used}
 use Rattle.journal_treestore.specs.Sound.{IsSoundView}
@@ -21,7 +20,8 @@ use Rattle.journal_treecalls.specs.declared.lines.Line.{Line}
 use Rattle.journal_treecalls.specs.declared.lines.Room.{Room}
 use Rattle.journal_treecalls.specs.declared.lines.Page.{Page}
 use Rattle.journal_treecalls.specs.declared.listing.ListReply.{ListReply}
-use Rattle.journal_treecalls.specs.Targets.{held, told_of, IsNode}
+use Rattle.journal_treecalls.specs.Targets.{held, told_of, IsNode, block_of}
+use Rattle.journal_treecalls.specs.Seats.{block_count}
 use Rattle.journal_treecalls.specs.Replies.{number_above}
 use Rattle.journal_treecalls.specs.Lines.{item_of, beside_of, Shows}
 use Rattle.journal_treecalls.specs.Walks.{all_items}
@@ -74,7 +74,7 @@ ShowsDotDot V d r cookie old new = IsSoundView V → Shows V old new (dot_dot_it
 -- ── a listing ──
 
 abbrev pub items_after : View → ℕ → Record → ℕ → List Item
-items_after V d r cookie = dot_items d cookie ++ dot_dot_items (number_above d r) cookie ++ all_items V (cookie - 2) r.head.blocks DIRECT_BLOCKS
+items_after V d r cookie = dot_items d cookie ++ dot_dot_items (number_above d r) cookie ++ all_items V (cookie - 2) (λ j. (block_of V r.head j).number) (block_count r.head)
 
 pub record IsListing (V : View) (d : ℕ) (r : Record) (cookie : ℕ) (room : Room) (reply : Result ListReply Status) : Type 0 where
   pub fresh : Page

@@ -1,5 +1,5 @@
 -- A name in a directory that a caller may search, and the node that is taken out there.
-use Rattle.std.specs.Prelude.{ℕ, ◌≡◌, Bool, true, false, not, ◌&&◌, if◌then◌else◌, List, Option, Some, None, Result, Ok, Err}
+use Rattle.std.specs.Prelude.{ℕ, ◌≡◌, Bool, true, false, not, ◌&&◌, if◌then◌else◌, List, Option, Some, None, option_map, Result, Ok, Err}
 use Rattle.journal_tree.specs.declared.time.Time.{Time}
 use Rattle.journal_tree.specs.declared.reply.Handle.{Handle}
 use Rattle.journal_tree.specs.declared.reply.Changed.{Changed}
@@ -16,14 +16,17 @@ use Rattle.journal_tree.specs.Calls.{name_kind}
 use Rattle.journal_tree.specs.Changes.{with_times}
 use Rattle.journal_treestore.specs.declared.inode.Head.{Head}
 use Rattle.journal_treestore.specs.Entries.{with_entry, no_entry}
+use Rattle.journal_treestore.specs.Positions.{Position, with_put}
 use Rattle.journal_treestore.specs.Views.{View, with_inode, with_block}
 use Rattle.journal_treestore.specs.Views.Seen.{free, used}
 use Rattle.journal_treestore.specs.Steps.{with_moment}
 use Rattle.journal_treecalls.specs.Disks.{Write, written}
 use Rattle.journal_treecalls.specs.declared.node.Record.{Record}
 use Rattle.journal_treecalls.specs.declared.search.Hit.{Hit}
+use Rattle.journal_treecalls.specs.declared.seats.EntryPlaces.{EntryPlaces}
 use Rattle.journal_treecalls.specs.declared.named.Named.{Named}
 use Rattle.journal_treecalls.specs.Targets.{held, told_of, IsSearched, IsUnsearched, IsInside, Hits}
+use Rattle.journal_treecalls.specs.Seats.{position_of, home_position, second_position}
 
 -- how a name is answered that is none
 abbrev pub name_status : NameKind → Status → Status → Option Status
@@ -38,7 +41,7 @@ name_status Name a b = None
 pub record IsNamed (V : View) (c : Caller) (h : Handle) (name : List ℕ) (n : Named) : Type 0 where
   pub searched : IsSearched V c h n.directory
   pub named : name_kind name ≡ Name
-  pub hits : Hits V n.directory.head.blocks name n.hit
+  pub hits : Hits V n.directory.head name n.hit
 
 -- or why not
 pub data IsUnnamed (V : View) (c : Caller) (h : Handle) (name : List ℕ) (a b : Status) (status : Status) : Type 0 where
@@ -53,7 +56,7 @@ IsNameFor V c h name a b (Err status) = IsUnnamed V c h name a b status
 pub record IsLookedFor (V : View) (r : Record) (name : List ℕ) (refusal : Option Status) (n : Named) : Type 0 where
   pub directory : n.directory ≡ r
   pub unrefused : refusal ≡ None
-  pub hits : Hits V r.head.blocks name n.hit
+  pub hits : Hits V r.head name n.hit
 
 abbrev pub IsFoundIn : View → Record → List ℕ → Option Status → Result Named Status → Type 0
 IsFoundIn V r name refusal (Ok n) = IsLookedFor V r name refusal n
@@ -107,13 +110,22 @@ moved head now = record {
 abbrev pub changed_of : ℕ → Head → Time → Changed
 changed_of n head now = record { before = told_of n head; after = told_of n (moved head now) }
 
--- the disk after a node was taken out: its entry, the directory's inode, and its own
+-- the disk after an entry goes, and another one, if there is one
+abbrev pub without_entries : View → Position → Option Position → View
+without_entries V p None = with_put V p.b p.q no_entry
+without_entries V p (Some more) = with_block (with_put V p.b p.q no_entry) more.b (with_entry (V.block more.b) more.q no_entry)
+
+-- the disk after a node was taken out: its entries, the directory's inode, and its own
 abbrev pub without_hit : View → ℕ → Record → Hit → Time → View
 without_hit V d r hit now =
-    with_inode (with_inode (with_block V hit.block (with_entry (V.block hit.block) hit.at no_entry)) d (used (with_moment (held r) now))) hit.number (free hit.head.generation)
+    with_inode (with_inode (without_entries V (home_position V r.head hit) (second_position hit)) d (used (with_moment (held r) now))) hit.number (free hit.head.generation)
 
--- A node that was found is taken out: its three objects are written, and the reply has the
--- directory before and after
+-- The entries at these places go
+pub record ClearsEntries (old new : View → Type 0) (ws : List Write) (p : EntryPlaces) : Type 0 where
+  pub same : (V : View) → new V → old V
+  pub is : (V : View) → new V → written ws V ≡ without_entries V (position_of p.home) (option_map position_of p.second)
+
+-- A node that was found is taken out, and the reply has the directory before and after
 pub record TakesOut (old new : View → Type 0) (ws : List Write) (d : ℕ) (r : Record) (hit : Hit) (now : Time) (changed : Changed) : Type 0 where
   pub same : (V : View) → new V → old V
   pub written_is : IsTime r.head.attributes.ctime → (V : View) → new V → written ws V ≡ without_hit V d r hit now

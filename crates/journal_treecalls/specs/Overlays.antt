@@ -1,6 +1,5 @@
 -- What WRITE writes.
 use Rattle.std.specs.Prelude.{ℕ, zero, suc, ◌≡◌, ◌≢◌, ◌<◌, ◌≤◌, ◌+◌, ◌-◌, ◌*◌, ◌/◌, ◌%◌, ◌⊎◌, max, Bool, not, ◌==◌, ◌&&◌, nat_le, nat_lt, bytes_eq, if◌then◌else◌, List, length, get_or, slice_range, Option, Some, None, Result, Ok, Err}
-use Rattle.std.specs.List.{list_any}
 use Rattle.journal_tree.specs.declared.limits.TheConstants.{MOST_BYTES}
 use Rattle.journal_tree.specs.declared.time.Time.{Time}
 use Rattle.journal_tree.specs.declared.reply.Changed.{Changed}
@@ -12,7 +11,6 @@ use Rattle.journal_tree.specs.declared.status.Status.TheVariants.{Invalid, NoAcc
 use Rattle.journal_tree.specs.Times.{IsTime}
 use Rattle.journal_tree.specs.Rights.{may_store}
 use Rattle.journal_tree.specs.Contents.{written_attributes}
-use Rattle.journal_treestore.specs.declared.inode.TheConstants.{DIRECT_BLOCKS}
 use Rattle.journal_treestore.specs.declared.inode.Head.{Head}
 use Rattle.journal_treestore.specs.Inodes.{name_from}
 use Rattle.journal_treestore.specs.Views.{View, bytes_in, with_inode, with_owner, with_block, held_of}
@@ -24,7 +22,7 @@ use Rattle.journal_treecalls.specs.declared.reach.Numbers.{Numbers}
 use Rattle.journal_treecalls.specs.declared.reach.Changing.{Changing}
 use Rattle.journal_treecalls.specs.Disks.{Write, written}
 use Rattle.journal_treecalls.specs.Fetches.{file_blocks}
-use Rattle.journal_treecalls.specs.Rooms.{HasFreeBlock, owner_of}
+use Rattle.journal_treecalls.specs.Blocks.{owner_of}
 use Rattle.journal_treecalls.specs.Sizes.{cleared, changed_told}
 use Rattle.journal_treecalls.specs.Reaches.{reach_count, reach_place, reached_number, leaf_bytes, IsChanging}
 
@@ -45,21 +43,6 @@ writing_by Link may offset count long = Some Invalid
 
 abbrev pub writing_status : Caller → Head → ℕ → ℕ → ℕ → Option Status
 writing_status c h offset count long = writing_by h.kind (may_store c h.attributes) offset count long
-
--- ── a block that is none of some ──
-
--- whether a block is one of these
-abbrev pub is_among : List ℕ → ℕ → Bool
-is_among bs b = list_any (λ x. x == b) bs
-
--- A block that nobody has, and that is none of these
-pub record IsOtherBlock (V : View) (bs : List ℕ) (b : ℕ) : Type 0 where
-  pub free : HasFreeBlock V b
-  pub apart : (i : ℕ) → i < DIRECT_BLOCKS → get_or bs i 0 ≢ b
-
-abbrev pub IsOther : View → List ℕ → Option ℕ → Type 0
-IsOther V bs None = Unit {0}
-IsOther V bs (Some b) = IsOtherBlock V bs b
 
 -- ── their bytes ──
 

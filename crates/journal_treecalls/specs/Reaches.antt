@@ -11,7 +11,7 @@ use Rattle.journal_treecalls.specs.declared.reach.Numbers.{Numbers}
 use Rattle.journal_treecalls.specs.declared.reach.Changing.{Changing}
 use Rattle.journal_treecalls.specs.declared.reach.SpareBlock.{SpareBlock}
 use Rattle.journal_treecalls.specs.Fetches.{number_at, leaf_begin}
-use Rattle.journal_treecalls.specs.Rooms.{HasFreeBlock}
+use Rattle.journal_treecalls.specs.Blocks.{HasFreeBlock}
 
 -- ── which blocks are reached ──
 

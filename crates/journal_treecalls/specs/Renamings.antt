@@ -1,5 +1,5 @@
 -- RENAME: its directories and names, and the decision on them.
-use Rattle.std.specs.Prelude.{ℕ, ◌≡◌, ◌≢◌, ◌<◌, Bool, true, false, not, ◌&&◌, ◌||◌, ◌==◌, if◌then◌else◌, List, length, Option, Some, None, Result, Ok, Err, Decides}
+use Rattle.std.specs.Prelude.{ℕ, ◌≡◌, ◌≢◌, ◌<◌, ◌/◌, Bool, true, false, not, ◌&&◌, ◌||◌, ◌==◌, if◌then◌else◌, List, Option, Some, None, Result, Ok, Err, Decides}
 use Rattle.journal_tree.specs.declared.time.Time.{Time}
 use Rattle.journal_tree.specs.declared.reply.Handle.{Handle}
 use Rattle.journal_tree.specs.declared.reply.Kind.TheVariants.{Directory}
@@ -14,13 +14,18 @@ use Rattle.journal_tree.specs.Calls.{Outcome, refused, name_kind, target, with_n
 use Rattle.journal_tree.specs.Calls.Target.{gone}
 use Rattle.journal_tree.specs.Renames.{Move, moved, both_changed, both_unchanged, move_new, move_over, move_node}
 use Rattle.journal_tree.specs.Op.{MayTakePlace, TellsBelow}
+use Rattle.journal_treestore.specs.declared.entry.TheConstants.{PLACES}
 use Rattle.journal_treestore.specs.declared.inode.Head.{Head}
-use Rattle.journal_treestore.specs.Entries.{no_entry}
+use Rattle.journal_treestore.specs.Entries.{tag_of, no_entry}
+use Rattle.journal_treestore.specs.Levels.{IsBlockFor}
 use Rattle.journal_treestore.specs.Views.{Held, View, held_of, node_of, tree_of, entry_of}
 use Rattle.journal_treestore.specs.Views.Seen.{used}
 use Rattle.journal_treestore.specs.Steps.{IsSameForm, Shows}
 use Rattle.journal_treecalls.specs.declared.node.Record.{Record}
 use Rattle.journal_treecalls.specs.declared.search.Hit.{Hit}
+use Rattle.journal_treecalls.specs.declared.room.FreePlace.{FreePlace}
+use Rattle.journal_treecalls.specs.declared.room.NewPlace.{NewPlace}
+use Rattle.journal_treecalls.specs.declared.room.NewPlace.TheVariants.{Here, Further}
 use Rattle.journal_treecalls.specs.declared.renaming.Side.{Side}
 use Rattle.journal_treecalls.specs.declared.renaming.Way.{Way}
 use Rattle.journal_treecalls.specs.declared.renaming.Destination.{Destination}
@@ -30,7 +35,7 @@ use Rattle.journal_treecalls.specs.declared.renaming.Decision.TheVariants.{Stays
 use Rattle.journal_treecalls.specs.Disks.{Write, written}
 use Rattle.journal_treecalls.specs.Targets.{held, IsNode, directory_of, IsHit}
 use Rattle.journal_treecalls.specs.Names.{name_status, is_directory_kind}
-use Rattle.journal_treecalls.specs.Directories.{HasNoneInBlocks, HasEntry}
+use Rattle.journal_treecalls.specs.Directories.{HasNone, HasEntry}
 use Rattle.journal_treecalls.specs.Rooms.{HasPlaceFor, IsInsidePlace, place_number}
 use Rattle.journal_treecalls.specs.Sizes.{changed_told}
 
@@ -80,7 +85,7 @@ pub record AreSides (V : View) (w : Way) : Type 0 where
 -- and the first has a node of the name
 pub record HasNode (V : View) (w : Way) (name : List ℕ) (hit : Hit) : Type 0 where
   pub sides : AreSides V w
-  pub found : IsHit V w.source.inode.head.blocks name hit
+  pub found : IsHit V w.source.inode.head name hit
 
 -- the move by the definition, and its node
 abbrev pub move_in : View → Way → List ℕ → Move
@@ -110,9 +115,9 @@ TellsBelowGoal V w hit below = (name : List ℕ) → HasNode V w name hit → De
 
 -- A node is a directory without entries, or it is not
 pub data IsBareIf (V : View) (over : Head) : Bool → Type 0 where
-  bare : over.kind ≡ Directory → HasNoneInBlocks V over.blocks (length over.blocks) → IsBareIf V over true
+  bare : over.kind ≡ Directory → HasNone V over → IsBareIf V over true
   plain : is_directory_kind over.kind ≡ false → IsBareIf V over false
-  full : (m : ℕ) → over.kind ≡ Directory → HasEntry V over.blocks m → IsBareIf V over false
+  full : (m : ℕ) → over.kind ≡ Directory → HasEntry V over m → IsBareIf V over false
 
 -- A node may replace another, or not
 pub data MayReplace (V : View) (node over : Head) : Bool → Type 0 where
@@ -121,26 +126,45 @@ pub data MayReplace (V : View) (node over : Head) : Bool → Type 0 where
 
 -- ── where it goes ──
 
-abbrev pub onto_of : Way → Hit → Destination
-onto_of w over = if is_within w then OwnOver over else Onto over
+-- the block of a node's home
+abbrev pub home_block : Hit → ℕ
+home_block hit = hit.head.place / PLACES
 
--- the place that is handed out for it, the place that it has then, and the tree without what it
+-- A name of the tag may lie there, or it needs a second entry
+abbrev pub NeedsSecond : ℕ → Hit → Bool → Type 0
+NeedsSecond tag hit false = IsBlockFor tag (home_block hit)
+NeedsSecond tag hit true = IsBlockFor tag (home_block hit) → ⊥
+
+abbrev pub onto_of : Way → Hit → Bool → Destination
+onto_of w over needs = if is_within w then OwnOver over needs else Onto over
+
+-- the place at which a node was found
+abbrev pub found_place : Hit → FreePlace
+found_place hit = record { j = hit.j; block = hit.block; at = hit.at }
+
+-- the place that its directory has if it stays there: its own, and that of a further block
+abbrev pub own_number : Hit → Option NewPlace → ℕ
+own_number hit None = hit.head.place
+own_number hit (Some (Here p)) = hit.head.place
+own_number hit (Some (Further g)) = place_number (Further g)
+
+-- the place that is handed out for it, the place that is had then, and the tree without what it
 -- replaces
-abbrev pub handed : Destination → Option ℕ
-handed Own = None
-handed (OwnOver over) = None
-handed (Onto over) = None
-handed (Into place) = Some (place_number place)
+abbrev pub handed : Hit → Destination → Option ℕ
+handed hit (Own place) = Some (own_number hit place)
+handed hit (OwnOver over needs) = None
+handed hit (Onto over) = None
+handed hit (Into place) = Some (place_number place)
 
 abbrev pub place_at : Hit → Destination → ℕ
-place_at hit Own = hit.head.place
-place_at hit (OwnOver over) = hit.head.place
+place_at hit (Own place) = own_number hit place
+place_at hit (OwnOver over needs) = hit.head.place
 place_at hit (Onto over) = over.head.place
 place_at hit (Into place) = place_number place
 
 abbrev pub without : Tree → Destination → Tree
-without T Own = T
-without T (OwnOver over) = with_node T over.number None
+without T (Own place) = T
+without T (OwnOver over needs) = with_node T over.number None
 without T (Onto over) = with_node T over.number None
 without T (Into place) = T
 
@@ -151,20 +175,34 @@ pub record IsApart (w : Way) (hit : Hit) : Type 0 where
 
 -- The node that goes has the new name, is another one, and has no entries
 pub record IsReplaced (V : View) (w : Way) (hit : Hit) (new_name : List ℕ) (over : Hit) : Type 0 where
-  pub found : IsHit V w.goal.inode.head.blocks new_name over
+  pub found : IsHit V w.goal.inode.head new_name over
   pub other : over.number ≢ hit.number
   pub bare : (place : ℕ) → entry_of V (used (held_of over.head new_name)) place ≡ no_entry
 
+-- A second entry for a name of the tag may lie there: at the place of the one that the node has, or
+-- at one that is free
+pub data IsSecondPlace (V : View) (h : Head) (tag : ℕ) (hit : Hit) : NewPlace → Type 0 where
+  as_before : IsBlockFor tag hit.j → IsSecondPlace V h tag hit (Here (found_place hit))
+  at_free : (p : NewPlace) → HasPlaceFor V h tag p → IsSecondPlace V h tag hit p
+
+abbrev pub IsSecondFor : View → Head → ℕ → Hit → Option NewPlace → Type 0
+IsSecondFor V h tag hit None = NeedsSecond tag hit false
+IsSecondFor V h tag hit (Some p) = NeedsSecond tag hit true × IsSecondPlace V h tag hit p
+
 abbrev pub IsDestination : View → Way → Hit → List ℕ → Destination → Type 0
-IsDestination V w hit new_name Own = w.source.number ≡ w.goal.number
-IsDestination V w hit new_name (OwnOver over) = (w.source.number ≡ w.goal.number) × IsReplaced V w hit new_name over
+IsDestination V w hit new_name (Own place) = (w.source.number ≡ w.goal.number) × IsSecondFor V w.source.inode.head (tag_of new_name) hit place
+IsDestination V w hit new_name (OwnOver over needs) = (w.source.number ≡ w.goal.number) × (NeedsSecond (tag_of new_name) hit needs × IsReplaced V w hit new_name over)
 IsDestination V w hit new_name (Onto over) = IsApart w hit × IsReplaced V w hit new_name over
-IsDestination V w hit new_name (Into place) = IsApart w hit × HasPlaceFor V w.goal.inode.head place
+IsDestination V w hit new_name (Into place) = IsApart w hit × HasPlaceFor V w.goal.inode.head (tag_of new_name) place
 
 -- places lie in their blocks
+abbrev pub IsInsideOwn : Option NewPlace → Type 0
+IsInsideOwn None = Unit {0}
+IsInsideOwn (Some p) = IsInsidePlace p
+
 abbrev pub IsInsideDestination : Destination → Type 0
-IsInsideDestination Own = Unit {0}
-IsInsideDestination (OwnOver over) = over.at < 512
+IsInsideDestination (Own place) = IsInsideOwn place
+IsInsideDestination (OwnOver over needs) = over.at < 512
 IsInsideDestination (Onto over) = over.at < 512
 IsInsideDestination (Into place) = IsInsidePlace place
 
@@ -185,7 +223,7 @@ abbrev pub IsDecided : View → Way → List ℕ → List ℕ → (Option ℕ �
 IsDecided V w name new_name case (Err status) = (now : Time) → case None now ≡ refused status (tree_of V)
 IsDecided V w name new_name case (Ok Stays) = (now : Time) → case None now ≡ outcome_of V w name new_name now Stays
 IsDecided V w name new_name case (Ok (Goes hit to)) =
-    HasNode V w name hit × (IsDestination V w hit new_name to × ((now : Time) → case (handed to) now ≡ outcome_of V w name new_name now (Goes hit to)))
+    HasNode V w name hit × (IsDestination V w hit new_name to × ((now : Time) → case (handed hit to) now ≡ outcome_of V w name new_name now (Goes hit to)))
 
 -- They do, by whether the goal is node n or lies below it
 pub record IsDecidedBelow (V : View) (w : Way) (n : ℕ) (name new_name : List ℕ) (case : Bool → Option ℕ → Time → Outcome Renamed) (decision : Result Decision Status) : Type 0 where
@@ -193,13 +231,18 @@ pub record IsDecidedBelow (V : View) (w : Way) (n : ℕ) (name new_name : List �
   pub tells : Decides below (IsBelow (stems (tree_of V)) n w.goal.number)
   pub is : IsDecided V w name new_name (case below) decision
 
-abbrev pub DecidesNew : View → Way → Hit → Result Decision Status → Type 0
-DecidesNew V w hit decision = (name new_name : List ℕ) → HasNode V w name hit
+-- Within one directory nothing lies below
+abbrev pub DecidesOwn : View → Way → Hit → List ℕ → Result Decision Status → Type 0
+DecidesOwn V w hit new_name decision = (name : List ℕ) → HasNode V w name hit
+    → IsDecided V w name new_name (λ place now. move_new false place now (tree_of V) (move_in V w new_name) hit.number (node_in V hit name)) decision
+
+abbrev pub DecidesNew : View → Way → Hit → List ℕ → Result Decision Status → Type 0
+DecidesNew V w hit new_name decision = (name : List ℕ) → HasNode V w name hit
     → IsDecidedBelow V w hit.number name new_name (λ below place now. move_new below place now (tree_of V) (move_in V w new_name) hit.number (node_in V hit name)) decision
 
-abbrev pub DecidesOver : View → Caller → Way → Hit → Hit → Result Decision Status → Type 0
-DecidesOver V c w hit over decision = (name new_name : List ℕ) → HasNode V w name hit → IsHit V w.goal.inode.head.blocks new_name over
-    → IsDecidedBelow V w hit.number name new_name (λ below place now. move_over c below place now (tree_of V) (move_in V w new_name) hit.number (node_in V hit name) over.number (node_in V over new_name)) decision
+abbrev pub DecidesOver : View → Caller → Way → Hit → List ℕ → Hit → Result Decision Status → Type 0
+DecidesOver V c w hit new_name over decision = (name : List ℕ) → HasNode V w name hit → IsHit V w.goal.inode.head new_name over
+    → IsDecidedBelow V w hit.number name new_name (λ below place now. move_over c below now (tree_of V) (move_in V w new_name) hit.number (node_in V hit name) over.number (node_in V over new_name)) decision
 
 abbrev pub DecidesHit : View → Caller → Way → Hit → List ℕ → Result Decision Status → Type 0
 DecidesHit V c w hit new_name decision = (name : List ℕ) → HasNode V w name hit
@@ -230,7 +273,7 @@ both_same w = record {
 pub record IsRename (V W : View) (w : Way) (name : List ℕ) (case : Bool → Option ℕ → Outcome Renamed) (reply : Result Renamed Status) : Type 0 where
   pub below : Bool
   pub place : Option ℕ
-  pub may : MayTakePlace (tree_of V) w.goal.number place
+  pub may : MayTakePlace (tree_of V) w.source.number w.goal.number place
   pub tells : TellsBelow (tree_of V) w.source.number name w.goal.number below
   pub is : (reply, tree_of W) ≡ case below place
   pub form : IsSameForm V W

@@ -1,5 +1,5 @@
 -- SYMLINK and READLINK.
-use Rattle.std.specs.Prelude.{ℕ, ◌≡◌, ◌≢◌, not, ◌||◌, ◌==◌, if◌then◌else◌, List, length, slice_set, nat_lt, Option, Some, None, Result, Ok, Err}
+use Rattle.std.specs.Prelude.{ℕ, ◌≡◌, ◌≢◌, ◌<◌, Bool, true, false, not, ◌||◌, ◌==◌, if◌then◌else◌, List, length, slice_set, nat_lt, Option, Some, None, Result, Ok, Err}
 use Rattle.journal_tree.specs.declared.limits.TheConstants.{MOST_LINK, LINK_MODE}
 use Rattle.journal_tree.specs.declared.time.Time.{Time}
 use Rattle.journal_tree.specs.declared.reply.Attributes.{Attributes}
@@ -14,6 +14,7 @@ use Rattle.journal_tree.specs.Names.{LinkText, new_attributes}
 use Rattle.journal_tree.specs.Rights.{may_rename}
 use Rattle.journal_tree.specs.Attributes.{is_no_time}
 use Rattle.journal_treestore.specs.declared.inode.Head.{Head}
+use Rattle.journal_treestore.specs.Entries.{tag_of}
 use Rattle.journal_treestore.specs.Steps.{text_block}
 use Rattle.journal_treestore.specs.Views.{View, with_inode, with_owner, with_block, held_of}
 use Rattle.journal_treestore.specs.Views.Seen.{used}
@@ -22,12 +23,16 @@ use Rattle.journal_treecalls.specs.declared.creation.NewNode.{NewNode}
 use Rattle.journal_treecalls.specs.declared.creation.Plan.{Plan}
 use Rattle.journal_treecalls.specs.declared.named.Named.{Named}
 use Rattle.journal_treecalls.specs.declared.search.Hit.{Hit}
+use Rattle.journal_treecalls.specs.declared.growth.Growth.{Growth}
 use Rattle.journal_treecalls.specs.declared.room.FreeRoom.{FreeRoom}
+use Rattle.journal_treecalls.specs.declared.room.NewPlace.{NewPlace}
+use Rattle.journal_treecalls.specs.declared.room.NewPlace.TheVariants.{Here, Further}
 use Rattle.journal_treecalls.specs.declared.portion.ReadReply.{ReadReply}
 use Rattle.journal_treecalls.specs.declared.symlinks.LinkReply.{LinkReply}
 use Rattle.journal_treecalls.specs.Disks.{Write, written}
-use Rattle.journal_treecalls.specs.Rooms.{HasRoomFor, owner_of, new_head, place_number, widened_head, with_placed, made_of}
-use Rattle.journal_treecalls.specs.Overlays.{IsOtherBlock}
+use Rattle.journal_treecalls.specs.Blocks.{HasFreeBlock, owner_of}
+use Rattle.journal_treecalls.specs.Rooms.{HasRoomFor, new_head, place_number, with_placed, made_of}
+use Rattle.journal_treecalls.specs.Reaches.{reach_count, reached_number}
 use Rattle.journal_treecalls.specs.Portions.{HasPortion}
 
 -- ── why no link is made ──
@@ -49,6 +54,34 @@ refusal_by None other = other
 
 abbrev pub link_refusal : Named → Plan → Option Status
 link_refusal n plan = refusal_by n.hit plan.refusal
+
+-- ── a block for the text ──
+
+-- None of those that a directory gets or has for a further block is this one
+abbrev pub IsUnreached : Growth → ℕ → Type 0
+IsUnreached g b = (m : ℕ) → m < reach_count g.change.reach → reached_number g.change.reach g.change.new m ≢ b
+
+abbrev pub IsUnreachedUnless : Growth → ℕ → Bool → Type 0
+IsUnreachedUnless g b true = Unit {0}
+IsUnreachedUnless g b false = IsUnreached g b
+
+-- The directory gets none that is this one
+abbrev pub IsApart : NewPlace → ℕ → Type 0
+IsApart (Here p) b = Unit {0}
+IsApart (Further g) b = IsUnreached g b
+
+abbrev pub IsApartUnless : NewPlace → ℕ → Bool → Type 0
+IsApartUnless p b true = Unit {0}
+IsApartUnless p b false = IsApart p b
+
+-- A block that nobody has, and that the directory does not get
+pub record IsOtherBlock (V : View) (p : NewPlace) (b : ℕ) : Type 0 where
+  pub free : HasFreeBlock V b
+  pub apart : IsApart p b
+
+abbrev pub IsOther : View → NewPlace → Option ℕ → Type 0
+IsOther V p None = Unit {0}
+IsOther V p (Some b) = IsOtherBlock V p b
 
 -- ── the writes ──
 
@@ -86,7 +119,7 @@ pub record PutsLink (old new : View → Type 0) (ws : List Write) (d : ℕ) (r :
 -- gets
 pub record IsLinkedIn (V W : View) (d : ℕ) (r : Record) (name : List ℕ) (new : NewNode) (text : List ℕ) (room : FreeRoom) (now : Time) (made : Made) : Type 0 where
   pub block : ℕ
-  pub is_block : IsOtherBlock V (widened_head r.head room.place).blocks block
+  pub is_block : IsOtherBlock V room.place block
   pub view : W ≡ with_link V d r room name new block text now
   pub is : made ≡ made_of d r room.number room.place new now
 
@@ -102,7 +135,7 @@ pub record LinksWithin (old new : View → Type 0) (ws : List Write) (d : ℕ) (
 -- or no room
 pub data IsLinkingNode (V W : View) (d : ℕ) (r : Record) (name : List ℕ) (node : NewNode) (text : List ℕ) (now : Time) : Result Made Status → Type 0 where
   crowded : W ≡ V → IsLinkingNode V W d r name node text now (Err NoSpace)
-  within : (room : FreeRoom) (reply : Result Made Status) → HasRoomFor V r.head room → IsLinkingWithin V W d r name node text room now reply → IsLinkingNode V W d r name node text now reply
+  within : (room : FreeRoom) (reply : Result Made Status) → HasRoomFor V r.head (tag_of name) room → IsLinkingWithin V W d r name node text room now reply → IsLinkingNode V W d r name node text now reply
 
 pub record LinksNode (old new : View → Type 0) (ws : List Write) (d : ℕ) (r : Record) (name : List ℕ) (node : NewNode) (text : List ℕ) (now : Time) (reply : Result Made Status) : Type 0 where
   pub same : (V : View) → new V → old V

@@ -1,5 +1,6 @@
 -- Handles, numbers and names on a disk.
-use Rattle.std.specs.Prelude.{ℕ, ◌≡◌, ◌≢◌, ◌<◌, ◌==◌, Bool, true, false, not, ◌&&◌, if◌then◌else◌, List, length, get_or, Option, Some, None, Result, Ok, Err}
+use Rattle.std.specs.Prelude.{ℕ, ◌≡◌, ◌≢◌, ◌<◌, ◌-◌, ◌==◌, Bool, true, false, not, ◌&&◌, if◌then◌else◌, List, [], get_or, Option, Some, None, Result, Ok, Err}
+use Rattle.journal_tree.specs.declared.limits.TheConstants.{FIRST_BLOCKS}
 use Rattle.journal_tree.specs.declared.reply.Handle.{Handle}
 use Rattle.journal_tree.specs.declared.reply.Told.{Told}
 use Rattle.journal_tree.specs.declared.reply.Kind.{Kind}
@@ -14,11 +15,15 @@ use Rattle.journal_treestore.specs.declared.entry.Entry.{Entry}
 use Rattle.journal_treestore.specs.declared.inode.Head.{Head}
 use Rattle.journal_treestore.specs.declared.inode.Inode.{Inode}
 use Rattle.journal_treestore.specs.Entries.{entry_from, tag_of}
-use Rattle.journal_treestore.specs.Views.{Held, View, held_of, seen, tree_of}
+use Rattle.journal_treestore.specs.declared.level.TheConstants.{LEVELS}
+use Rattle.journal_treestore.specs.Levels.{level_block, IsBlockFor}
+use Rattle.journal_treestore.specs.Views.{Held, View, held_of, seen, directory_block, tree_of}
 use Rattle.journal_treestore.specs.Views.Seen.{used}
 use Rattle.journal_treestore.specs.Inodes.{name_from}
 use Rattle.journal_treecalls.specs.declared.node.Record.{Record}
 use Rattle.journal_treecalls.specs.declared.search.Hit.{Hit}
+use Rattle.journal_treecalls.specs.declared.search.DirectoryBlock.{DirectoryBlock}
+use Rattle.journal_treecalls.specs.Fetches.{number_at}
 
 -- The number has this inode, under some name
 abbrev pub IsInode : View → ℕ → Inode → Type 0
@@ -84,16 +89,17 @@ abbrev pub HasName : View → ℕ → List ℕ → Option Head → Type 0
 HasName V n name (Some head) = V.inode n ≡ used (held_of head name)
 HasName V n name None = (g : Held) → V.inode n ≡ used g → g.home.name ≢ name
 
--- The entry at a place of block b, which has these bytes, names the node
-pub record IsHitOf (V : View) (b : ℕ) (v name : List ℕ) (at : ℕ) (hit : Hit) : Type 0 where
-  pub block : hit.block ≡ b
+-- The entry at a place of a directory's block, which has these bytes, names the node
+pub record IsHitOf (V : View) (b : DirectoryBlock) (v name : List ℕ) (at : ℕ) (hit : Hit) : Type 0 where
+  pub which : hit.j ≡ b.j
+  pub block : hit.block ≡ b.number
   pub place : hit.at ≡ at
   pub entry : (entry_from v at).number ≡ hit.number
   pub some : hit.number ≢ 0
   pub inode : V.inode hit.number ≡ used (held_of hit.head name)
 
 -- or no node of the name, if it has this tag
-abbrev pub IsHitAt : View → ℕ → List ℕ → ℕ → List ℕ → ℕ → Option Hit → Type 0
+abbrev pub IsHitAt : View → DirectoryBlock → List ℕ → ℕ → List ℕ → ℕ → Option Hit → Type 0
 IsHitAt V b v tag name at (Some hit) = IsHitOf V b v name at hit
 IsHitAt V b v tag name at None = (entry_from v at).number ≢ 0 → (entry_from v at).tag ≡ tag → (g : Held) → V.inode (entry_from v at).number ≡ used g → g.home.name ≢ name
 
@@ -102,41 +108,92 @@ abbrev pub has_tag : Entry → ℕ → Bool
 has_tag e tag = not (e.number == 0) && e.tag == tag
 
 -- none of the first places does
-abbrev pub HasNoHit : View → ℕ → List ℕ → ℕ → List ℕ → ℕ → Type 0
+abbrev pub HasNoHit : View → DirectoryBlock → List ℕ → ℕ → List ℕ → ℕ → Type 0
 HasNoHit V b v tag name to = (at : ℕ) → at < to → IsHitAt V b v tag name at None
 
 -- One entry of the block does
-pub record IsHitIn (V : View) (b : ℕ) (v name : List ℕ) (hit : Hit) : Type 0 where
+pub record IsHitIn (V : View) (b : DirectoryBlock) (v name : List ℕ) (hit : Hit) : Type 0 where
   pub at : ℕ
   pub low : at < 512
   pub is : IsHitOf V b v name at hit
 
-abbrev pub HitsIn : View → ℕ → List ℕ → ℕ → List ℕ → Option Hit → Type 0
+abbrev pub HitsIn : View → DirectoryBlock → List ℕ → ℕ → List ℕ → Option Hit → Type 0
 HitsIn V b v tag name None = HasNoHit V b v tag name 512
 HitsIn V b v tag name (Some hit) = IsHitIn V b v name hit
 
 -- The block is there, and one of its entries does
-pub record IsHitBlock (V : View) (b : ℕ) (name : List ℕ) (hit : Hit) : Type 0 where
-  pub there : b ≢ 0
-  pub inside : IsHitIn V b (V.block b) name hit
+pub record IsHitBlock (V : View) (b : DirectoryBlock) (name : List ℕ) (hit : Hit) : Type 0 where
+  pub there : b.number ≢ 0
+  pub inside : IsHitIn V b (V.block b.number) name hit
 
-abbrev pub HitsBlock : View → ℕ → ℕ → List ℕ → Option Hit → Type 0
-HitsBlock V b tag name None = b ≢ 0 → HasNoHit V b (V.block b) tag name 512
+abbrev pub HitsBlock : View → DirectoryBlock → ℕ → List ℕ → Option Hit → Type 0
+HitsBlock V b tag name None = b.number ≢ 0 → HasNoHit V b (V.block b.number) tag name 512
 HitsBlock V b tag name (Some hit) = IsHitBlock V b name hit
 
--- none of the first blocks has one
+-- ── the first blocks of a directory ──
+
+abbrev pub direct_block : List ℕ → ℕ → DirectoryBlock
+direct_block bs j = record { j = j; number = get_or bs j 0 }
+
+-- none of them, up to one, has an entry of the name
 abbrev pub HasNoHitIn : View → List ℕ → ℕ → List ℕ → ℕ → Type 0
-HasNoHitIn V bs tag name to = (j : ℕ) → j < to → HitsBlock V (get_or bs j 0) tag name None
+HasNoHitIn V bs tag name to = (j : ℕ) → j < to → HitsBlock V (direct_block bs j) tag name None
 
--- One of the directory's blocks has one
-pub record IsHit (V : View) (bs name : List ℕ) (hit : Hit) : Type 0 where
+-- One of them has
+pub record IsFirstHit (V : View) (bs name : List ℕ) (hit : Hit) : Type 0 where
   pub j : ℕ
-  pub low : j < length bs
-  pub is : IsHitBlock V (get_or bs j 0) name hit
+  pub low : j < FIRST_BLOCKS
+  pub is : IsHitBlock V (direct_block bs j) name hit
 
-abbrev pub Hits : View → List ℕ → List ℕ → Option Hit → Type 0
-Hits V bs name None = HasNoHitIn V bs (tag_of name) name (length bs)
-Hits V bs name (Some hit) = IsHit V bs name hit
+abbrev pub HitsFirst : View → List ℕ → ℕ → List ℕ → Option Hit → Type 0
+HitsFirst V bs tag name None = HasNoHitIn V bs tag name FIRST_BLOCKS
+HitsFirst V bs tag name (Some hit) = IsFirstHit V bs name hit
+
+-- ── its levels ──
+
+-- the block of a level, where these bytes have the numbers of the blocks after the first
+abbrev pub level_number : List ℕ → ℕ → ℕ → DirectoryBlock
+level_number v tag level = record { j = level_block tag level; number = number_at v (level_block tag level - FIRST_BLOCKS) }
+
+-- none of the first levels has an entry of the name
+abbrev pub HasNoHitBelow : View → List ℕ → ℕ → List ℕ → ℕ → Type 0
+HasNoHitBelow V v tag name to = (level : ℕ) → level < to → HitsBlock V (level_number v tag level) tag name None
+
+-- One of them has
+pub record IsLevelHit (V : View) (v : List ℕ) (tag : ℕ) (name : List ℕ) (hit : Hit) : Type 0 where
+  pub level : ℕ
+  pub low : level < LEVELS
+  pub is : IsHitBlock V (level_number v tag level) name hit
+
+abbrev pub HitsNumbers : View → List ℕ → ℕ → List ℕ → Option Hit → Type 0
+HitsNumbers V v tag name None = HasNoHitBelow V v tag name LEVELS
+HitsNumbers V v tag name (Some hit) = IsLevelHit V v tag name hit
+
+-- ── all blocks in which a name may lie ──
+
+-- block j of a directory of these fields
+abbrev pub block_of : View → Head → ℕ → DirectoryBlock
+block_of V h j = record { j = j; number = directory_block V (held_of h []) j }
+
+-- The block of one of the levels has an entry of the name
+pub record IsHitAbove (V : View) (h : Head) (tag : ℕ) (name : List ℕ) (hit : Hit) : Type 0 where
+  pub level : ℕ
+  pub low : level < LEVELS
+  pub is : IsHitBlock V (block_of V h (level_block tag level)) name hit
+
+abbrev pub HitsLevels : View → Head → ℕ → List ℕ → Option Hit → Type 0
+HitsLevels V h tag name None = (level : ℕ) → level < LEVELS → HitsBlock V (block_of V h (level_block tag level)) tag name None
+HitsLevels V h tag name (Some hit) = IsHitAbove V h tag name hit
+
+-- One of the blocks in which the name may lie has
+pub record IsHit (V : View) (h : Head) (name : List ℕ) (hit : Hit) : Type 0 where
+  pub j : ℕ
+  pub block : IsBlockFor (tag_of name) j
+  pub is : IsHitBlock V (block_of V h j) name hit
+
+abbrev pub Hits : View → Head → List ℕ → Option Hit → Type 0
+Hits V h name None = (j : ℕ) → IsBlockFor (tag_of name) j → HitsBlock V (block_of V h j) (tag_of name) name None
+Hits V h name (Some hit) = IsHit V h name hit
 
 -- its place in a block is below 512
 abbrev pub IsInside : Option Hit → Type 0

@@ -1,6 +1,6 @@
 // MKDIR, and CREATE of a name that must be free.
-ghost use Rattle.std.specs.Prelude.{◌≡◌, ◌<◌, ◌≤◌, ◌*◌, [], length, IfOk};
-ghost use Rattle.journal_tree.specs.declared.limits.TheConstants.{LAST_GENERATION, MOST_NAME, MOST_BLOCKS};
+ghost use Rattle.std.specs.Prelude.{◌≡◌, ◌<◌, ◌≤◌, [], length, IfOk};
+ghost use Rattle.journal_tree.specs.declared.limits.TheConstants.{LAST_GENERATION, MOST_NAME};
 ghost use Rattle.journal_tree.specs.declared.settings.CreateMode.TheVariants.{Guarded};
 ghost use Rattle.journal_tree.specs.Attributes.{is_no_time, is_too_big};
 ghost use Rattle.journal_tree.specs.Fit.{IsOptionalWord, IsAskedTime, IsAsked};
@@ -9,15 +9,17 @@ ghost use Rattle.journal_tree.specs.Op.Call.{create as create_call, mkdir as mkd
 ghost use Rattle.journal_tree.specs.Op.Reply.{made};
 ghost use Rattle.journal_treecalls.specs.Disks.{Does};
 ghost use Rattle.journal_treecalls.specs.declared.room.NewPlace.TheVariants.{Here, Further};
-ghost use Rattle.journal_treecalls.specs.Rooms.{making_status, new_head, told_made, making_call, mkdir_plan, create_plan, plan_for, IsInsidePlace, Plants, MakesNode, MakesPlanned, Makes};
+ghost use Rattle.journal_treecalls.specs.Rooms.{making_status, new_head, new_entry, told_made, making_call, mkdir_plan, create_plan, plan_for, IsFitGrowth, IsInsidePlace, Plants, MakesNode, MakesPlanned, Makes};
 
 use crate::TreeDisk;
 use crate::bytes::{moved, new_bytes, put_entry, used_bytes};
-use crate::growth::{owner_at, with_further};
+use crate::growth::{Growth, grown, put_growth};
 use crate::named::{Named, find_name};
 use crate::node::{Record, told};
 use crate::removal::are_words;
-use crate::room::{FreeBlock, FreeNumber, FreePlace, FreeRoom, NewPlace, Spare, find_room};
+use crate::room::{
+    FreeNumber, FreePlace, FreeRoom, NewPlace, Spare, find_room, first_place, place_number,
+};
 use journal_tree::{
     Attributes, BLOCK_PLACES, Caller, Changed, DIRECTORY_MODE, FILE_MODE, Handle, Kind, MOST_BYTES,
     Made, NANOS, NewTime, Settings, Status, Time,
@@ -55,8 +57,10 @@ pub(crate) struct Plan {
 }
 
 /// MKDIR (RFC 1813, 3.3.9): an empty directory, under the first of these numbers that is free. If
-/// the directory above has no free place, it gets the first of these blocks that is free. At most
-/// four objects are written: the entry's block, and its record if it is new, and both inodes.
+/// the directory above has no free place for the name, it gets a block, which is the first of these
+/// that is free. At most eight objects are written: both inodes and the entry's block; and if this
+/// is new, its record, and the two blocks by which a large directory finds the numbers of its
+/// blocks, each with its record if it is new too.
 ///
 /// # Errors
 /// - The call is given up.
@@ -71,8 +75,9 @@ pub(crate) struct Plan {
 /// - `Exists`: the directory has a node of the name.
 /// - `NoAccess`: the caller may not write the directory.
 /// - `Invalid`: the mtime that is asked for is none.
-/// - `NoSpace`: none of the numbers is free, or the directory has no free place and none of the
-///   blocks is free, or it has as many blocks as a directory may have.
+/// - `NoSpace`: none of the numbers is free, or the directory has no free place for the name and
+///   too few of the blocks are free (at most three are taken), or it has all the blocks in which
+///   the name may lie, and these are full.
 pub fn mkdir<T: TreeDisk>(
     disk: &mut T,
     caller: &Caller,
@@ -85,7 +90,7 @@ pub fn mkdir<T: TreeDisk>(
     requires first { T.writes disk.old ≡ [] }
     requires time { IsTime now }
     ensures does { IfOk result (λ reply. Does (T.may_be disk.new) (T.writes disk.new) (mkdir_call directory name.now settings) caller.now now (made reply)) }
-    ensures few { IfOk result (λ _. length (T.writes disk.new) ≤ 4) }
+    ensures few { IfOk result (λ _. length (T.writes disk.new) ≤ 8) }
 {
     let by = Making::Mkdir;
     make(
@@ -120,7 +125,7 @@ pub fn create_guarded<T: TreeDisk>(
     requires first { T.writes disk.old ≡ [] }
     requires time { IsTime now }
     ensures does { IfOk result (λ reply. Does (T.may_be disk.new) (T.writes disk.new) (create_call directory name.now (Guarded settings)) caller.now now (made reply)) }
-    ensures few { IfOk result (λ _. length (T.writes disk.new) ≤ 4) }
+    ensures few { IfOk result (λ _. length (T.writes disk.new) ≤ 8) }
 {
     let by = Making::Create;
     make(
@@ -147,7 +152,7 @@ fn make<T: TreeDisk>(
     requires first { T.writes disk.old ≡ [] }
     requires time { IsTime now }
     ensures does { IfOk result (λ reply. Does (T.may_be disk.new) (T.writes disk.new) (making_call wanted.by directory name.now wanted.settings) caller.now now (made reply)) }
-    ensures few { IfOk result (λ _. length (T.writes disk.new) ≤ 4) }
+    ensures few { IfOk result (λ _. length (T.writes disk.new) ≤ 8) }
 {
     are_words(*caller);
     are_asked(wanted.settings);
@@ -295,7 +300,7 @@ fn make_found<T: TreeDisk>(
     requires time { IsTime now }
     requires named { length name.now ≤ MOST_NAME }
     ensures makes { IfOk result (Makes (T.may_be disk.old) (T.may_be disk.new) (T.writes disk.new) number found.now name.now plan.now now) }
-    ensures few { IfOk result (λ _. length (T.writes disk.new) ≤ 4) }
+    ensures few { IfOk result (λ _. length (T.writes disk.new) ≤ 8) }
 {
     match found.hit {
         None => make_planned(disk, number, &found.directory, name, plan, spare, now),
@@ -317,7 +322,7 @@ pub(crate) fn make_planned<T: TreeDisk>(
     requires time { IsTime now }
     requires named { length name.now ≤ MOST_NAME }
     ensures makes { IfOk result (MakesPlanned (T.may_be disk.old) (T.may_be disk.new) (T.writes disk.new) number directory.now name.now plan.now now) }
-    ensures few { IfOk result (λ _. length (T.writes disk.new) ≤ 4) }
+    ensures few { IfOk result (λ _. length (T.writes disk.new) ≤ 8) }
 {
     match plan.refusal {
         None => make_node(disk, number, directory, name, &plan.node, spare, now),
@@ -339,12 +344,12 @@ fn make_node<T: TreeDisk>(
     requires time { IsTime now }
     requires named { length name.now ≤ MOST_NAME }
     ensures makes { IfOk result (MakesNode (T.may_be disk.old) (T.may_be disk.new) (T.writes disk.new) number directory.now name.now node.now now) }
-    ensures few { IfOk result (λ _. length (T.writes disk.new) ≤ 4) }
+    ensures few { IfOk result (λ _. length (T.writes disk.new) ≤ 8) }
 {
-    match find_room(disk, &directory.head, spare)? {
+    match find_room(disk, &directory.head, tag_of(name), spare)? {
         None => Ok(Err(Status::NoSpace)),
         Some(room) => {
-            let made = put_node(disk, number, directory, name, node, room, now)?;
+            let made = put_node(disk, number, directory, name, node, &room, now)?;
             Ok(Ok(made))
         }
     }
@@ -357,22 +362,22 @@ pub(crate) fn put_node<T: TreeDisk>(
     directory: &Record,
     name: &[u8],
     node: &NewNode,
-    room: FreeRoom,
+    room: &FreeRoom,
     now: Time,
 ) -> Result<Made, T::Fault>
     requires first { T.writes disk.old ≡ [] }
     requires time { IsTime now }
     requires named { length name.now ≤ MOST_NAME }
-    requires young { room.number.generation < LAST_GENERATION }
-    requires inside { IsInsidePlace room.place }
-    ensures plants { IfOk result (Plants (T.may_be disk.old) (T.may_be disk.new) (T.writes disk.new) number directory.now name.now node.now room.number room.place now) }
-    ensures few { IfOk result (λ _. length (T.writes disk.new) ≤ 4) }
+    requires young { room.now.number.generation < LAST_GENERATION }
+    requires inside { IsInsidePlace room.now.place }
+    ensures plants { IfOk result (Plants (T.may_be disk.old) (T.may_be disk.new) (T.writes disk.new) number directory.now name.now node.now room.now.number room.now.place now) }
+    ensures few { IfOk result (λ _. length (T.writes disk.new) ≤ 8) }
 {
     let free = room.number;
-    match room.place {
-        NewPlace::Here(place) => plant(disk, number, directory, name, node, (free, place), now),
-        NewPlace::Further(block) => {
-            plant_further(disk, number, directory, name, node, (free, block), now)
+    match &room.place {
+        NewPlace::Here(place) => plant(disk, number, directory, name, node, (free, *place), now),
+        NewPlace::Further(growth) => {
+            plant_further(disk, number, directory, name, node, (free, growth), now)
         }
     }
 }
@@ -392,20 +397,17 @@ fn plant<T: TreeDisk>(
     requires time { IsTime now }
     requires named { length name.now ≤ MOST_NAME }
     requires young { room.0.generation < LAST_GENERATION }
-    requires inside { room.1.at < PLACES }
+    requires inside { IsInsidePlace (Here room.1) }
     ensures plants { IfOk result (Plants (T.may_be disk.old) (T.may_be disk.new) (T.writes disk.new) number directory.now name.now node.now room.0 (Here room.1) now) }
-    ensures few { IfOk result (λ _. length (T.writes disk.new) ≤ 4) }
+    ensures few { IfOk result (λ _. length (T.writes disk.new) ≤ 3) }
 {
     let free = room.0;
     let place = room.1;
-    let entry = Entry {
-        number: free.number,
-        tag: tag_of(name),
-    };
+    let entry = new_entry(free, name);
     let block = disk.block(place.block)?;
     let entries = put_entry(block, place.at, entry);
     let head = moved(&directory.head, now);
-    let new = new_head(number, free, place.place, node);
+    let new = new_head(number, free, place_number(&NewPlace::Here(place)), node);
     disk.put_block(place.block, entries)?;
     disk.put_inode(number, used_bytes(head, directory))?;
     disk.put_inode(free.number, new_bytes(new, name))?;
@@ -413,50 +415,44 @@ fn plant<T: TreeDisk>(
 }
 
 // A node is put at the first place of a block that the directory gets: the block has its entry
-// alone, the block's record names the directory, which has the block and new times, and the node's
-// inode is in use.
+// alone, the directory has the block and new times, and the node's inode is in use.
 fn plant_further<T: TreeDisk>(
     disk: &mut T,
     number: u32,
     directory: &Record,
     name: &[u8],
     node: &NewNode,
-    room: (FreeNumber, FreeBlock),
+    room: (FreeNumber, &Growth),
     now: Time,
 ) -> Result<Made, T::Fault>
     requires first { T.writes disk.old ≡ [] }
     requires time { IsTime now }
     requires named { length name.now ≤ MOST_NAME }
     requires young { room.0.generation < LAST_GENERATION }
-    requires few { room.1.j < MOST_BLOCKS }
-    ensures plants { IfOk result (Plants (T.may_be disk.old) (T.may_be disk.new) (T.writes disk.new) number directory.now name.now node.now room.0 (Further room.1) now) }
-    ensures few { IfOk result (λ _. length (T.writes disk.new) ≤ 4) }
+    requires fits { IsFitGrowth room.1.now }
+    ensures plants { IfOk result (Plants (T.may_be disk.old) (T.may_be disk.new) (T.writes disk.new) number directory.now name.now node.now room.entry.0 (Further room.entry.1.now) now) }
+    ensures few { IfOk result (λ _. length (T.writes disk.new) ≤ 8) }
 {
     let free = room.0;
-    let further = room.1;
-    let entry = Entry {
-        number: free.number,
-        tag: tag_of(name),
-    };
-    let block = disk.zero_block()?;
-    let entries = put_entry(block, 0, entry);
-    let owner = owner_at(number, further.j);
-    let grown = with_further(&directory.head, further.j, further.block);
-    let head = moved(&grown, now);
-    let new = new_head(number, free, first_place(further.j), node);
-    disk.put_block(further.block, entries)?;
-    disk.put_owner(further.block, owner)?;
+    let growth = room.1;
+    let zeros = disk.zero_block()?;
+    let entries = put_entry(zeros, 0, new_entry(free, name));
+    let head = moved(&grown(&directory.head, growth), now);
+    let new = new_head(number, free, first_place(growth.j), node);
+    put_growth(disk, number, growth, entries.bytes())?;
     disk.put_inode(number, used_bytes(head, directory))?;
     disk.put_inode(free.number, new_bytes(new, name))?;
     Ok(told_made(number, &directory.head, &head, free.number, &new))
 }
 
-// The number of the first place of a directory's block.
-pub(crate) fn first_place(j: u64) -> u32
-    requires { j < MOST_BLOCKS }
-    ensures { result ≡ 512 * j }
+// The entry of a new node.
+fn new_entry(free: FreeNumber, name: &[u8]) -> Entry
+    ensures { result ≡ new_entry free name.now }
 {
-    (BLOCK_PLACES * j) as u32
+    Entry {
+        number: free.number,
+        tag: tag_of(name),
+    }
 }
 
 // The inode of a new node.

@@ -17,7 +17,7 @@ use journal_tree::{Caller, Changed, Handle, Kind, Status, Time};
 use journal_treestore::{Head, PLACES};
 
 /// RMDIR (RFC 1813, 3.3.13): a directory without entries goes, with its name and all its blocks.
-/// Three objects are written.
+/// Three objects are written, and one more where it has two entries.
 ///
 /// # Errors
 /// - The call is given up.
@@ -44,7 +44,7 @@ pub fn rmdir<T: TreeDisk>(
     requires first { T.writes disk.old ≡ [] }
     requires time { IsTime now }
     ensures does { IfOk result (λ reply. Does (T.may_be disk.new) (T.writes disk.new) (rmdir_call directory name.now) caller.now now (removed reply)) }
-    ensures few { IfOk result (λ _. length (T.writes disk.new) ≤ 3) }
+    ensures few { IfOk result (λ _. length (T.writes disk.new) ≤ 4) }
 {
     are_words(*caller);
     let dot = Status::Invalid;
@@ -67,7 +67,7 @@ fn rmdir_found<T: TreeDisk>(
     requires time { IsTime now }
     requires inside { IsInside found.now.hit }
     ensures removes { IfOk result (RemovesDirectory (T.may_be disk.old) (T.may_be disk.new) (T.writes disk.new) caller.now number found.now now) }
-    ensures few { IfOk result (λ _. length (T.writes disk.new) ≤ 3) }
+    ensures few { IfOk result (λ _. length (T.writes disk.new) ≤ 4) }
 {
     match found.hit {
         None => Ok(Err(Status::NoEntry)),
@@ -88,7 +88,7 @@ fn rmdir_hit<T: TreeDisk>(
     requires time { IsTime now }
     requires inside { hit.now.at < PLACES }
     ensures removes { IfOk result (RemovesDirectoryHit (T.may_be disk.old) (T.may_be disk.new) (T.writes disk.new) caller.now number directory.now hit.now now) }
-    ensures few { IfOk result (λ _. length (T.writes disk.new) ≤ 3) }
+    ensures few { IfOk result (λ _. length (T.writes disk.new) ≤ 4) }
 {
     match rmdir_status(caller, &directory.head, &hit.head) {
         Some(status) => Ok(Err(status)),
@@ -123,9 +123,9 @@ fn rmdir_bare<T: TreeDisk>(
     requires time { IsTime now }
     requires inside { hit.now.at < PLACES }
     ensures removes { IfOk result (RemovesBare (T.may_be disk.old) (T.may_be disk.new) (T.writes disk.new) number directory.now hit.now now) }
-    ensures few { IfOk result (λ _. length (T.writes disk.new) ≤ 3) }
+    ensures few { IfOk result (λ _. length (T.writes disk.new) ≤ 4) }
 {
-    match find_entry(disk, &hit.head.blocks)? {
+    match find_entry(disk, &hit.head)? {
         None => {
             let changed = take_out(disk, number, directory, hit, now)?;
             Ok(Ok(changed))

@@ -55,7 +55,7 @@ pub fn create_exclusive<T: TreeDisk>(
     requires first { T.writes disk.old ≡ [] }
     requires time { IsTime now }
     ensures does { IfOk result (λ reply. Does (T.may_be disk.new) (T.writes disk.new) (create_call directory name.now (Exclusive verifier)) caller.now now (made reply)) }
-    ensures few { IfOk result (λ _. length (T.writes disk.new) ≤ 4) }
+    ensures few { IfOk result (λ _. length (T.writes disk.new) ≤ 8) }
 {
     are_words(*caller);
     is_long(verifier);
@@ -118,7 +118,7 @@ fn create_once<T: TreeDisk>(
     requires time { IsTime now }
     requires named { length name.now ≤ MOST_NAME }
     ensures creates { IfOk result (CreatesOnce (T.may_be disk.old) (T.may_be disk.new) (T.writes disk.new) wanted.now.directory found.now name.now wanted.now.plan wanted.now.verifier now) }
-    ensures few { IfOk result (λ _. length (T.writes disk.new) ≤ 4) }
+    ensures few { IfOk result (λ _. length (T.writes disk.new) ≤ 8) }
 {
     let number = wanted.directory;
     match found.hit {

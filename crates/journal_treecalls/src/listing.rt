@@ -10,6 +10,7 @@ use crate::TreeDisk;
 use crate::lines::{Line, Page, Room, add, named_line};
 use crate::lookups::number_above;
 use crate::node::{Record, inode_of, node, told};
+use crate::seats::{block_count, block_numbers};
 use crate::walk::show_blocks;
 use journal_tree::{Caller, Handle, Kind, Status, Told};
 use journal_treestore::{Head, Inode};
@@ -158,7 +159,9 @@ fn list_directory<T: TreeDisk>(
     show_dot(disk, number, &target.head, cookie, &mut page)?;
     show_dot_dot(disk, number, target, cookie, &mut page)?;
     let begin = cookie.saturating_sub(2);
-    show_blocks(disk, &target.head.blocks, begin, &mut page)?;
+    let numbers = block_numbers(disk, &target.head)?;
+    let count = block_count(&target.head);
+    show_blocks(disk, &numbers, count, begin, &mut page)?;
     Ok(reply_of(told(number, &target.head), page))
 }
 

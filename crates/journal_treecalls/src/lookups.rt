@@ -90,7 +90,7 @@ fn lookup_name<T: TreeDisk>(
     ensures learns { IfOk result (λ reply. Learns (T.may_be disk.old) (T.may_be disk.new) (λ V. LooksUpName V number directory.now name.now reply)) }
     ensures first { T.writes disk.new ≡ [] }
 {
-    match find(disk, &directory.head.blocks, name)? {
+    match find(disk, &directory.head, name)? {
         Some(hit) => Ok(Ok(found(number, &directory.head, hit.number, &hit.head))),
         None => Ok(Err(Status::NoEntry)),
     }

@@ -54,7 +54,7 @@ fn find_in<T: TreeDisk>(
     match refusal {
         Some(status) => Ok(Err(status)),
         None => {
-            let hit = find(disk, &directory.head.blocks, name)?;
+            let hit = find(disk, &directory.head, name)?;
             Ok(Ok(Named { directory, hit }))
         }
     }

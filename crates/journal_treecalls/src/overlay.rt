@@ -297,7 +297,7 @@ fn gap_of<T: TreeDisk>(disk: &mut T, head: &Head, offset: u64) -> Result<Option<
 }
 
 // The blocks that are reached are written.
-fn put_places<T: TreeDisk>(
+pub(crate) fn put_places<T: TreeDisk>(
     disk: &mut T,
     number: u32,
     change: &Changing,

@@ -7,18 +7,20 @@ ghost use Rattle.journal_tree.specs.Op.Reply.{removed};
 ghost use Rattle.journal_tree.specs.Fit.{IsCaller};
 ghost use Rattle.journal_treecalls.specs.Disks.{Does};
 ghost use Rattle.journal_treecalls.specs.Targets.{IsInside};
-ghost use Rattle.journal_treecalls.specs.Names.{removal_status, TakesOut, RemovesHit, Removes};
+ghost use Rattle.journal_treecalls.specs.Names.{removal_status, ClearsEntries, TakesOut, RemovesHit, Removes};
+ghost use Rattle.journal_treecalls.specs.Seats.{AreInside};
 
 use crate::TreeDisk;
 use crate::bytes::{free_bytes, moved, put_entry, used_bytes};
 use crate::named::{Named, find_name};
 use crate::node::{Record, told};
 use crate::search::Hit;
+use crate::seats::{EntryPlaces, block_numbers, places_of};
 use journal_tree::{Caller, Changed, Handle, Kind, Status, Time};
 use journal_treestore::{Entry, Head, PLACES};
 
 /// REMOVE (RFC 1813, 3.3.12): a file goes, with its name and all its blocks. Three objects are
-/// written, however large it is.
+/// written, however large it is, and one more where it has two entries.
 ///
 /// # Errors
 /// - The call is given up.
@@ -44,7 +46,7 @@ pub fn remove<T: TreeDisk>(
     requires first { T.writes disk.old ≡ [] }
     requires time { IsTime now }
     ensures does { IfOk result (λ reply. Does (T.may_be disk.new) (T.writes disk.new) (remove_call directory name.now) caller.now now (removed reply)) }
-    ensures few { IfOk result (λ _. length (T.writes disk.new) ≤ 3) }
+    ensures few { IfOk result (λ _. length (T.writes disk.new) ≤ 4) }
 {
     are_words(*caller);
     let dots = Status::IsDirectory;
@@ -71,7 +73,7 @@ fn remove_found<T: TreeDisk>(
     requires time { IsTime now }
     requires inside { IsInside found.now.hit }
     ensures removes { IfOk result (Removes (T.may_be disk.old) (T.may_be disk.new) (T.writes disk.new) caller.now number found.now now) }
-    ensures few { IfOk result (λ _. length (T.writes disk.new) ≤ 3) }
+    ensures few { IfOk result (λ _. length (T.writes disk.new) ≤ 4) }
 {
     match found.hit {
         None => Ok(Err(Status::NoEntry)),
@@ -92,7 +94,7 @@ fn remove_hit<T: TreeDisk>(
     requires time { IsTime now }
     requires inside { hit.now.at < PLACES }
     ensures removes { IfOk result (RemovesHit (T.may_be disk.old) (T.may_be disk.new) (T.writes disk.new) caller.now number directory.now hit.now now) }
-    ensures few { IfOk result (λ _. length (T.writes disk.new) ≤ 3) }
+    ensures few { IfOk result (λ _. length (T.writes disk.new) ≤ 4) }
 {
     match removal_status(caller, &directory.head, &hit.head) {
         Some(status) => Ok(Err(status)),
@@ -118,8 +120,8 @@ fn removal_status(caller: &Caller, directory: &Head, node: &Head) -> Option<Stat
     }
 }
 
-// A node is taken out of its directory: its entry goes, the directory has new times, and its inode
-// is free.
+// A node is taken out of its directory: its entries go, the directory has new times, and its inode
+// is free. A node that was renamed may have two entries.
 pub(crate) fn take_out<T: TreeDisk>(
     disk: &mut T,
     number: u32,
@@ -131,16 +133,37 @@ pub(crate) fn take_out<T: TreeDisk>(
     requires time { IsTime now }
     requires inside { hit.now.at < PLACES }
     ensures takes { IfOk result (TakesOut (T.may_be disk.old) (T.may_be disk.new) (T.writes disk.new) number directory.now hit.now now) }
-    ensures few { IfOk result (λ _. length (T.writes disk.new) ≤ 3) }
+    ensures few { IfOk result (λ _. length (T.writes disk.new) ≤ 4) }
 {
-    let block = disk.block(hit.block)?;
-    let entries = put_entry(block, hit.at, Entry::NONE);
+    let numbers = block_numbers(disk, &directory.head)?;
+    let places = places_of(&numbers, hit);
     let head = moved(&directory.head, now);
-    disk.put_block(hit.block, entries)?;
+    clear_entries(disk, &places)?;
     disk.put_inode(number, used_bytes(head, directory))?;
     disk.put_inode(hit.number, free_bytes(hit.head.generation))?;
     Ok(Changed {
         before: told(number, &directory.head),
         after: told(number, &head),
     })
+}
+
+// The entries at these places go.
+fn clear_entries<T: TreeDisk>(disk: &mut T, places: &EntryPlaces) -> Result<(), T::Fault>
+    requires first { T.writes disk.old ≡ [] }
+    requires inside { AreInside places.now }
+    ensures clears { IfOk result (λ _. ClearsEntries (T.may_be disk.old) (T.may_be disk.new) (T.writes disk.new) places.now) }
+    ensures few { IfOk result (λ _. length (T.writes disk.new) ≤ 2) }
+{
+    let home = places.home;
+    let block = disk.block(home.block)?;
+    let entries = put_entry(block, home.at, Entry::NONE);
+    match places.second {
+        None => disk.put_block(home.block, entries),
+        Some(second) => {
+            let block = disk.block(second.block)?;
+            let others = put_entry(block, second.at, Entry::NONE);
+            disk.put_block(home.block, entries)?;
+            disk.put_block(second.block, others)
+        }
+    }
 }

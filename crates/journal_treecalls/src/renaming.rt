@@ -1,11 +1,12 @@
 // RENAME.
-ghost use Rattle.std.specs.Prelude.{◌≡◌, ◌<◌, ◌≤◌, [], length, IfOk};
+ghost use Rattle.std.specs.Prelude.{ℕ, ◌≡◌, ◌<◌, ◌≤◌, true, List, [], length, IfOk};
 ghost use Rattle.journal_tree.specs.declared.limits.TheConstants.{MOST_NAME};
 ghost use Rattle.journal_tree.specs.Times.{IsTime};
 ghost use Rattle.journal_tree.specs.Op.Call.{rename as rename_call};
 ghost use Rattle.journal_tree.specs.Op.Reply.{renamed};
+ghost use Rattle.journal_treestore.specs.Entries.{tag_of};
 ghost use Rattle.journal_treecalls.specs.Disks.{Learns, Does};
-ghost use Rattle.journal_treecalls.specs.Renamings.{names_status, ways_of, IsWayTo, IsWay, is_within, keeps_parent, may_go, TellsBelowGoal, IsBareIf, MayReplace, onto_of, IsInsideDecision, DecidesNew, DecidesOver, DecidesHit, DecidesName, both_same, Renames, RenamesNamed};
+ghost use Rattle.journal_treecalls.specs.Renamings.{names_status, ways_of, IsWayTo, IsWay, is_within, keeps_parent, may_go, TellsBelowGoal, IsBareIf, MayReplace, NeedsSecond, found_place, onto_of, IsInsideDecision, DecidesOwn, DecidesNew, DecidesOver, DecidesHit, DecidesName, both_same, Renames, RenamesNamed};
 ghost use Rattle.journal_treecalls.specs.Moves.{Performs};
 
 use crate::TreeDisk;
@@ -16,11 +17,11 @@ use crate::name::name_kind;
 use crate::named::name_status;
 use crate::node::{Record, directory_for, node};
 use crate::removal::are_words;
-use crate::room::{NewPlace, Spare, find_place};
+use crate::room::{FreePlace, NewPlace, Spare, find_place};
 use crate::search::{Hit, find};
 use crate::setting::{changed, is_directory_kind};
 use journal_tree::{Caller, Handle, Renamed, Status, Time};
-use journal_treestore::{Head, PLACES};
+use journal_treestore::{Head, PLACES, is_block_for, tag_of};
 
 /// A name in a directory.
 #[derive(Clone, Copy, Debug)]
@@ -44,12 +45,14 @@ pub(crate) struct Way {
 }
 
 // Where a node goes.
-#[derive(Clone, Copy)]
+#[derive(Drop)]
 pub(crate) enum Destination {
-    // To another name of its directory, at its own place.
-    Own,
-    // The same. This node, which had the new name, goes.
-    OwnOver(Hit),
+    // To another name of its directory. It stays at its own place. If the name would not be looked
+    // for there, a second entry names the node at this other place.
+    Own(Option<NewPlace>),
+    // The same. This node, which had the new name, goes. True if a second entry is needed, which is
+    // put where the name was.
+    OwnOver(Hit, bool),
     // To another directory, at the place of this node, which goes.
     Onto(Hit),
     // To another directory, at a place that is free there.
@@ -57,16 +60,19 @@ pub(crate) enum Destination {
 }
 
 // The outcome of RENAME: both names are one node, or this node goes there.
-#[derive(Clone, Copy)]
+#[derive(Drop)]
 pub(crate) enum Decision {
     Stays,
     Goes(Hit, Destination),
 }
 
 /// RENAME (RFC 1813, 3.3.14): a node gets another name, in its directory or in another. The
-/// node that had the new name is removed. If the other directory has no free place, it gets the
-/// first of these blocks that is free. At most six objects are written, two of them blocks of
-/// directories, however large the nodes are and whatever hangs in them.
+/// node that had the new name is removed. Within one directory the node keeps its place. If its
+/// new name would not be looked for there, a second entry names it where it would be. If a
+/// directory has no free place in which the name may lie, it gets the first of these blocks that
+/// are free, one and the index blocks with its number. At most eleven objects are written, however
+/// large the nodes are and whatever hangs in them: three inodes, blocks of entries, and blocks that
+/// a directory gets, with the records of who has them.
 ///
 /// # Errors
 /// - The call is given up.
@@ -88,8 +94,10 @@ pub(crate) enum Decision {
 /// - `NoAccess`: the second directory is sticky, and neither it nor the node of the second name is
 ///   his.
 /// - `Exists`: a file would replace a directory, or a directory a file or one that has entries.
-/// - `NoSpace`: the second directory is another one that has no node of the second name and no free
-///   place, and none of the blocks is free or it has as many as a directory may have.
+/// - `NoSpace`: the second directory has no node of the second name, and no free place in which the
+///   name may lie. And too few of the blocks are free, or it has all blocks in which the name may
+///   lie. A name within one directory needs no such place where it may lie at that of its node, as
+///   in each directory of at most 24576 places.
 pub fn rename<T: TreeDisk>(
     disk: &mut T,
     caller: &Caller,
@@ -101,7 +109,7 @@ pub fn rename<T: TreeDisk>(
     requires first { T.writes disk.old ≡ [] }
     requires time { IsTime now }
     ensures does { IfOk result (λ reply. Does (T.may_be disk.new) (T.writes disk.new) (rename_call source.now.directory source.now.name.now goal.now.directory goal.now.name.now) caller.now now (renamed reply)) }
-    ensures few { IfOk result (λ _. length (T.writes disk.new) ≤ 6) }
+    ensures few { IfOk result (λ _. length (T.writes disk.new) ≤ 11) }
 {
     are_words(*caller);
     let (name, new_name) = (source.name, goal.name);
@@ -184,7 +192,7 @@ fn rename_on<T: TreeDisk>(
     requires first { T.writes disk.old ≡ [] }
     requires time { IsTime now }
     ensures renames { IfOk result (Renames (T.may_be disk.old) (T.may_be disk.new) (T.writes disk.new) caller.now way.now name.now new_name.now now) }
-    ensures few { IfOk result (λ _. length (T.writes disk.new) ≤ 6) }
+    ensures few { IfOk result (λ _. length (T.writes disk.new) ≤ 11) }
 {
     match names_status(name, new_name) {
         Some(status) => Ok(Err(status)),
@@ -217,7 +225,7 @@ fn rename_named<T: TreeDisk>(
     requires time { IsTime now }
     requires short { length new_name.now ≤ MOST_NAME }
     ensures renames { IfOk result (RenamesNamed (T.may_be disk.old) (T.may_be disk.new) (T.writes disk.new) caller.now way.now name.now new_name.now now) }
-    ensures few { IfOk result (λ _. length (T.writes disk.new) ≤ 6) }
+    ensures few { IfOk result (λ _. length (T.writes disk.new) ≤ 11) }
 {
     match decide(disk, caller, way, name, new_name, spare)? {
         Ok(decision) => {
@@ -241,11 +249,11 @@ fn perform<T: TreeDisk>(
     requires short { length new_name.now ≤ MOST_NAME }
     requires inside { IsInsideDecision decision.now }
     ensures performs { IfOk result (Performs (T.may_be disk.old) (T.may_be disk.new) (T.writes disk.new) way.now decision.now new_name.now now) }
-    ensures few { IfOk result (λ _. length (T.writes disk.new) ≤ 6) }
+    ensures few { IfOk result (λ _. length (T.writes disk.new) ≤ 11) }
 {
-    match *decision {
+    match decision {
         Decision::Stays => Ok(both_same(way)),
-        Decision::Goes(hit, to) => put_move(disk, way, &hit, &to, new_name, now),
+        Decision::Goes(hit, to) => put_move(disk, way, hit, to, new_name, now),
     }
 }
 
@@ -276,7 +284,7 @@ fn decide<T: TreeDisk>(
     ensures inside { IfOk result (λ decision. IfOk decision IsInsideDecision) }
     ensures first { T.writes disk.new ≡ [] }
 {
-    match find(disk, &way.source.inode.head.blocks, name)? {
+    match find(disk, &way.source.inode.head, name)? {
         None => Ok(Err(Status::NoEntry)),
         Some(hit) => decide_hit(disk, caller, way, &hit, new_name, spare),
     }
@@ -300,9 +308,9 @@ fn decide_hit<T: TreeDisk>(
     if !may_go(caller, way, &hit.head) {
         return Ok(Err(Status::NoAccess));
     }
-    match find(disk, &way.goal.inode.head.blocks, new_name)? {
-        None => decide_new(disk, way, hit, spare),
-        Some(over) => decide_over(disk, caller, way, hit, &over),
+    match find(disk, &way.goal.inode.head, new_name)? {
+        None => decide_new(disk, way, hit, new_name, spare),
+        Some(over) => decide_over(disk, caller, way, hit, new_name, &over),
     }
 }
 
@@ -339,23 +347,73 @@ fn decide_new<T: TreeDisk>(
     disk: &mut T,
     way: &Way,
     hit: &Hit,
+    new_name: &[u8],
     spare: &Spare,
 ) -> Result<Result<Decision, Status>, T::Fault>
     requires first { T.writes disk.old ≡ [] }
     requires inside { hit.now.at < PLACES }
-    ensures learns { IfOk result (λ decision. Learns (T.may_be disk.old) (T.may_be disk.new) (λ V. DecidesNew V way.now hit.now decision)) }
+    ensures learns { IfOk result (λ decision. Learns (T.may_be disk.old) (T.may_be disk.new) (λ V. DecidesNew V way.now hit.now new_name.now decision)) }
     ensures inside { IfOk result (λ decision. IfOk decision IsInsideDecision) }
     ensures first { T.writes disk.new ≡ [] }
 {
     if is_below(disk, way, hit)? {
         return Ok(Err(Status::Invalid));
     }
+    let tag = tag_of(new_name);
     if is_within(way) {
-        return Ok(Ok(Decision::Goes(*hit, Destination::Own)));
+        return decide_own(disk, way, hit, tag, spare);
     }
-    match find_place(disk, &way.goal.inode.head, spare.blocks)? {
+    match find_place(disk, &way.goal.inode.head, tag, spare.blocks)? {
         None => Ok(Err(Status::NoSpace)),
         Some(place) => Ok(Ok(Decision::Goes(*hit, Destination::Into(place)))),
+    }
+}
+
+// The same within one directory, for a name of this tag. A second entry that the node has is put to
+// use if it may stay where it is.
+fn decide_own<T: TreeDisk>(
+    disk: &mut T,
+    way: &Way,
+    hit: &Hit,
+    tag: u32,
+    spare: &Spare,
+) -> Result<Result<Decision, Status>, T::Fault>
+    requires first { T.writes disk.old ≡ [] }
+    requires inside { hit.now.at < PLACES }
+    requires within { is_within way.now ≡ true }
+    ensures learns { IfOk result (λ decision. Learns (T.may_be disk.old) (T.may_be disk.new) (λ V. (new_name : List ℕ) → tag_of new_name ≡ tag → DecidesOwn V way.now hit.now new_name decision)) }
+    ensures inside { IfOk result (λ decision. IfOk decision IsInsideDecision) }
+    ensures first { T.writes disk.new ≡ [] }
+{
+    if !needs_second(tag, hit) {
+        return Ok(Ok(Decision::Goes(*hit, Destination::Own(None))));
+    }
+    if is_block_for(tag, hit.j) {
+        let own = NewPlace::Here(found_place(hit));
+        return Ok(Ok(Decision::Goes(*hit, Destination::Own(Some(own)))));
+    }
+    match find_place(disk, &way.source.inode.head, tag, spare.blocks)? {
+        None => Ok(Err(Status::NoSpace)),
+        Some(place) => Ok(Ok(Decision::Goes(*hit, Destination::Own(Some(place))))),
+    }
+}
+
+// True if a name of this tag would not be looked for at the place of the node's home.
+fn needs_second(tag: u32, hit: &Hit) -> bool
+    ensures { NeedsSecond tag hit.now result }
+{
+    let block = u64::from(hit.head.place) / PLACES as u64;
+    !is_block_for(tag, block)
+}
+
+// The place at which a node was found.
+fn found_place(hit: &Hit) -> FreePlace
+    ensures { result ≡ found_place hit.now }
+{
+    FreePlace {
+        j: hit.j,
+        block: hit.block,
+        at: hit.at,
     }
 }
 
@@ -377,12 +435,13 @@ fn decide_over<T: TreeDisk>(
     caller: &Caller,
     way: &Way,
     hit: &Hit,
+    new_name: &[u8],
     over: &Hit,
 ) -> Result<Result<Decision, Status>, T::Fault>
     requires first { T.writes disk.old ≡ [] }
     requires inside { hit.now.at < PLACES }
     requires over { over.now.at < PLACES }
-    ensures learns { IfOk result (λ decision. Learns (T.may_be disk.old) (T.may_be disk.new) (λ V. DecidesOver V caller.now way.now hit.now over.now decision)) }
+    ensures learns { IfOk result (λ decision. Learns (T.may_be disk.old) (T.may_be disk.new) (λ V. DecidesOver V caller.now way.now hit.now new_name.now over.now decision)) }
     ensures inside { IfOk result (λ decision. IfOk decision IsInsideDecision) }
     ensures first { T.writes disk.new ≡ [] }
 {
@@ -398,7 +457,8 @@ fn decide_over<T: TreeDisk>(
     if !may_replace(disk, &hit.head, &over.head)? {
         return Ok(Err(Status::Exists));
     }
-    Ok(Ok(Decision::Goes(*hit, onto(way, over))))
+    let needs = needs_second(tag_of(new_name), hit);
+    Ok(Ok(Decision::Goes(*hit, onto(way, over, needs))))
 }
 
 // True if a node may replace another: a directory replaces one without entries, and what is none
@@ -423,16 +483,16 @@ fn is_bare<T: TreeDisk>(disk: &mut T, over: &Head) -> Result<bool, T::Fault>
     if !is_directory_kind(over.kind) {
         return Ok(false);
     }
-    let entry = find_entry(disk, &over.blocks)?;
+    let entry = find_entry(disk, over)?;
     Ok(entry.is_none())
 }
 
-// Where a node goes that replaces another.
-fn onto(way: &Way, over: &Hit) -> Destination
-    ensures { result ≡ onto_of way.now over.now }
+// Where a node goes that replaces another. True if it needs a second entry in its directory.
+fn onto(way: &Way, over: &Hit, needs: bool) -> Destination
+    ensures { result ≡ onto_of way.now over.now needs }
 {
     if is_within(way) {
-        Destination::OwnOver(*over)
+        Destination::OwnOver(*over, needs)
     } else {
         Destination::Onto(*over)
     }

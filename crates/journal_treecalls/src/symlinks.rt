@@ -9,24 +9,23 @@ ghost use Rattle.journal_tree.specs.Op.Reply.{made, link_read};
 ghost use Rattle.journal_treestore.specs.Steps.{text_block};
 ghost use Rattle.journal_treestore.specs.Views.{zero_block};
 ghost use Rattle.journal_treecalls.specs.Disks.{Learns, Does};
-ghost use Rattle.journal_treecalls.specs.Rooms.{place_number, widened_head, IsInsidePlace};
+ghost use Rattle.journal_treecalls.specs.Rooms.{IsInsidePlace};
 ghost use Rattle.journal_treecalls.specs.Symlinks.{linking_status, link_plan, link_refusal, PutsText, PutsLink, LinksWithin, LinksNode, LinksFound, link_told, ReadsLink};
 
 use crate::TreeDisk;
 use crate::blocks::other_of;
 use crate::bytes::{new_bytes, put};
 use crate::creation::{NewNode, Plan, are_asked, is_no_time, new_head, put_node};
-use crate::growth::{owner_at, with_first, with_further};
+use crate::growth::{owner_at, with_first};
 use crate::named::{Named, find_name};
 use crate::node::{Record, node};
 use crate::portion::read_file;
 use crate::removal::are_words;
-use crate::room::{FreeRoom, NewPlace, Spare, find_room};
+use crate::room::{FreeRoom, Spare, find_room, place_number};
 use journal_tree::{
-    Attributes, BLOCK_PLACES, Caller, Handle, Kind, LINK_MODE, MOST_LINK, Made, Settings, Status,
-    Time, Told,
+    Attributes, Caller, Handle, Kind, LINK_MODE, MOST_LINK, Made, Settings, Status, Time, Told,
 };
-use journal_treestore::Head;
+use journal_treestore::{Head, tag_of};
 use journal_world::Value;
 
 /// What a SYMLINK makes.
@@ -51,10 +50,10 @@ struct Wanted<'a> {
     text: &'a [u8],
 }
 
-/// SYMLINK (RFC 1813, 3.3.10): a symbolic link of a name that the directory does not have, under the
-/// first of these numbers that is free. Its text goes into the first of these blocks that is free.
-/// The directory gets another as in `mkdir`. At most seven writes are made, two of them of the
-/// link's inode.
+/// SYMLINK (RFC 1813, 3.3.10): a symbolic link of a name that the directory does not have, under
+/// the first of these numbers that is free. Its text goes into the first of these blocks that is
+/// free and that the directory does not get. The directory gets others as in `mkdir`. At most
+/// eleven writes are made, two of them of the link's inode.
 ///
 /// # Errors
 /// - The call is given up.
@@ -63,8 +62,8 @@ struct Wanted<'a> {
 /// - Those of `mkdir` up to the `NoAccess` of who may not write the directory.
 /// - `Invalid`: the mtime that is asked for is none, or the text is empty.
 /// - `NameTooLong`: the text has more than 4095 bytes.
-/// - `NoSpace`: none of the numbers is free, or too few of the blocks are, or the directory has no
-///   free place and as many blocks as a directory may have.
+/// - `NoSpace`: none of the numbers is free, or too few of the blocks are, or the directory has all
+///   the blocks in which the name may lie, and these are full.
 pub fn symlink<T: TreeDisk>(
     disk: &mut T,
     caller: &Caller,
@@ -77,7 +76,7 @@ pub fn symlink<T: TreeDisk>(
     requires first { T.writes disk.old ≡ [] }
     requires time { IsTime now }
     ensures does { IfOk result (λ reply. Does (T.may_be disk.new) (T.writes disk.new) (symlink_call directory name.now link.now.settings link.now.text.now) caller.now now (made reply)) }
-    ensures few { IfOk result (λ _. length (T.writes disk.new) ≤ 7) }
+    ensures few { IfOk result (λ _. length (T.writes disk.new) ≤ 11) }
 {
     are_words(*caller);
     let settings = link.settings;
@@ -151,7 +150,7 @@ fn link_found<T: TreeDisk>(
     requires named { length name.now ≤ MOST_NAME }
     requires few { link_refusal found.now wanted.now.plan ≡ None → length wanted.now.text.now ≤ MOST_LINK }
     ensures links { IfOk result (LinksFound (T.may_be disk.old) (T.may_be disk.new) (T.writes disk.new) number found.now name.now wanted.now.plan wanted.now.text.now now) }
-    ensures few { IfOk result (λ _. length (T.writes disk.new) ≤ 7) }
+    ensures few { IfOk result (λ _. length (T.writes disk.new) ≤ 11) }
 {
     match link_refusal(found, &wanted.plan) {
         Some(status) => Ok(Err(status)),
@@ -184,12 +183,12 @@ fn link_node<T: TreeDisk>(
     requires named { length name.now ≤ MOST_NAME }
     requires few { length wanted.now.text.now ≤ MOST_LINK }
     ensures links { IfOk result (LinksNode (T.may_be disk.old) (T.may_be disk.new) (T.writes disk.new) number directory.now name.now wanted.now.plan.node wanted.now.text.now now) }
-    ensures few { IfOk result (λ _. length (T.writes disk.new) ≤ 7) }
+    ensures few { IfOk result (λ _. length (T.writes disk.new) ≤ 11) }
 {
     let blocks = spare.blocks;
-    match find_room(disk, &directory.head, spare)? {
+    match find_room(disk, &directory.head, tag_of(name), spare)? {
         None => Ok(Err(Status::NoSpace)),
-        Some(room) => link_within(disk, number, directory, name, wanted, (room, blocks), now),
+        Some(room) => link_within(disk, number, directory, name, wanted, (&room, blocks), now),
     }
 }
 
@@ -201,37 +200,25 @@ fn link_within<T: TreeDisk>(
     directory: &Record,
     name: &[u8],
     wanted: &Wanted,
-    spare: (FreeRoom, &[u32]),
+    spare: (&FreeRoom, &[u32]),
     now: Time,
 ) -> Result<Result<Made, Status>, T::Fault>
     requires first { T.writes disk.old ≡ [] }
     requires time { IsTime now }
     requires named { length name.now ≤ MOST_NAME }
     requires few { length wanted.now.text.now ≤ MOST_LINK }
-    requires young { spare.0.number.generation < LAST_GENERATION }
-    requires inside { IsInsidePlace spare.0.place }
-    ensures links { IfOk result (LinksWithin (T.may_be disk.old) (T.may_be disk.new) (T.writes disk.new) number directory.now name.now wanted.now.plan.node wanted.now.text.now spare.entry.0 now) }
-    ensures few { IfOk result (λ _. length (T.writes disk.new) ≤ 7) }
+    requires young { spare.0.now.number.generation < LAST_GENERATION }
+    requires inside { IsInsidePlace spare.0.now.place }
+    ensures links { IfOk result (LinksWithin (T.may_be disk.old) (T.may_be disk.new) (T.writes disk.new) number directory.now name.now wanted.now.plan.node wanted.now.text.now spare.entry.0.now now) }
+    ensures few { IfOk result (λ _. length (T.writes disk.new) ≤ 11) }
 {
     let room = spare.0;
-    let grown = widened(&directory.head, room.place);
-    match other_of(disk, &grown.blocks, spare.1)? {
+    match other_of(disk, &room.place, spare.1)? {
         None => Ok(Err(Status::NoSpace)),
         Some(block) => {
             let made = put_link(disk, number, directory, name, wanted, (room, block), now)?;
             Ok(Ok(made))
         }
-    }
-}
-
-// The directory, with the block that it gets.
-fn widened(directory: &Head, place: NewPlace) -> Head
-    requires { IsInsidePlace place }
-    ensures { result ≡ widened_head directory.now place }
-{
-    match place {
-        NewPlace::Here(_) => *directory,
-        NewPlace::Further(further) => with_further(directory, further.j, further.block),
     }
 }
 
@@ -242,37 +229,26 @@ fn put_link<T: TreeDisk>(
     directory: &Record,
     name: &[u8],
     wanted: &Wanted,
-    room: (FreeRoom, u32),
+    room: (&FreeRoom, u32),
     now: Time,
 ) -> Result<Made, T::Fault>
     requires first { T.writes disk.old ≡ [] }
     requires time { IsTime now }
     requires named { length name.now ≤ MOST_NAME }
     requires few { length wanted.now.text.now ≤ MOST_LINK }
-    requires young { room.0.number.generation < LAST_GENERATION }
-    requires inside { IsInsidePlace room.0.place }
-    ensures puts { IfOk result (PutsLink (T.may_be disk.old) (T.may_be disk.new) (T.writes disk.new) number directory.now name.now wanted.now.plan.node wanted.now.text.now room.0 room.1 now) }
-    ensures few { IfOk result (λ _. length (T.writes disk.new) ≤ 7) }
+    requires young { room.0.now.number.generation < LAST_GENERATION }
+    requires inside { IsInsidePlace room.0.now.place }
+    ensures puts { IfOk result (PutsLink (T.may_be disk.old) (T.may_be disk.new) (T.writes disk.new) number directory.now name.now wanted.now.plan.node wanted.now.text.now room.entry.0.now room.entry.1 now) }
+    ensures few { IfOk result (λ _. length (T.writes disk.new) ≤ 11) }
 {
-    let free = room.0.number;
-    let place = room.0.place;
+    let within = room.0;
+    let free = within.number;
     let text = wanted.text;
     let new = &wanted.plan.node;
-    let made = put_node(disk, number, directory, name, new, room.0, now)?;
-    let link = new_head(number, free, place_number(place), new);
+    let made = put_node(disk, number, directory, name, new, within, now)?;
+    let link = new_head(number, free, place_number(&within.place), new);
     put_text(disk, free.number, &link, name, room.1, text)?;
     Ok(made)
-}
-
-// The number of a new node's place.
-fn place_number(place: NewPlace) -> u32
-    requires { IsInsidePlace place }
-    ensures { result ≡ place_number place }
-{
-    match place {
-        NewPlace::Here(here) => here.place,
-        NewPlace::Further(further) => (BLOCK_PLACES * further.j) as u32,
-    }
 }
 
 // A new link gets a block with its text: the block is written, its record, and the link's inode

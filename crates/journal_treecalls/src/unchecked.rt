@@ -24,7 +24,7 @@ use journal_treestore::Head;
 
 /// CREATE in the mode UNCHECKED (RFC 1813, 3.3.8): a file of a name. If the directory has a file of
 /// the name, it is this one, and only its size is set, if one is asked for. Else one is made as by
-/// `create_guarded`. At most four objects are written.
+/// `create_guarded`. At most eight objects are written.
 ///
 /// # Errors
 /// - The call is given up.
@@ -48,7 +48,7 @@ pub fn create_unchecked<T: TreeDisk>(
     requires first { T.writes disk.old ≡ [] }
     requires time { IsTime now }
     ensures does { IfOk result (λ reply. Does (T.may_be disk.new) (T.writes disk.new) (create_call directory name.now (Unchecked settings)) caller.now now (made reply)) }
-    ensures few { IfOk result (λ _. length (T.writes disk.new) ≤ 4) }
+    ensures few { IfOk result (λ _. length (T.writes disk.new) ≤ 8) }
 {
     are_words(*caller);
     are_asked(settings);
@@ -91,7 +91,7 @@ fn create_found<T: TreeDisk>(
     requires time { IsTime now }
     requires named { length name.now ≤ MOST_NAME }
     ensures creates { IfOk result (Creates (T.may_be disk.old) (T.may_be disk.new) (T.writes disk.new) caller.now wanted.now.directory found.now name.now wanted.now.plan wanted.now.size now) }
-    ensures few { IfOk result (λ _. length (T.writes disk.new) ≤ 4) }
+    ensures few { IfOk result (λ _. length (T.writes disk.new) ≤ 8) }
 {
     let number = wanted.directory;
     match found.hit {

@@ -1,34 +1,41 @@
 // The entries of a directory, from a place on.
-ghost use Rattle.std.specs.Prelude.{◌≡◌, ◌+◌, ◌<◌, ◌≤◌, [], IfOk, get_or, length};
+ghost use Rattle.std.specs.Prelude.{◌≡◌, ◌+◌, ◌<◌, ◌≤◌, [], IfOk, length};
 ghost use Rattle.journal_tree.specs.declared.limits.TheConstants.{MOST_BLOCKS, MOST_NAME, MOST_PLACES};
 ghost use Rattle.journal_treestore.specs.Entries.{entry_from};
 ghost use Rattle.journal_treecalls.specs.Disks.{Learns};
+ghost use Rattle.journal_treecalls.specs.Seats.{AreWhole};
 ghost use Rattle.journal_treecalls.specs.Walks.{IsNodeLine, ShowsEntry, ShowsPlace, ShowsBytes, ShowsBlock, ShowsBlocks};
 
 use crate::TreeDisk;
 use crate::lines::{Line, Page, add, named_line};
 use crate::node::told;
+use crate::seats::BlockNumbers;
 use journal_tree::BLOCK_PLACES;
-use journal_treestore::{DIRECT_BLOCKS, Entry, Head, Inode, PLACES, name_in};
+use journal_treestore::{Entry, Head, Inode, PLACES, name_in};
 
-// The lines of the entries of a directory of these blocks come onto the page, from a place on.
+// The lines of the entries in the first blocks of a directory, which have these numbers, come onto
+// the page, from a place on.
 pub(crate) fn show_blocks<T: TreeDisk>(
     disk: &mut T,
-    blocks: &[u32; DIRECT_BLOCKS],
+    numbers: &BlockNumbers,
+    count: u64,
     begin: u64,
     page: &mut Page,
 ) -> Result<(), T::Fault>
     requires first { T.writes disk.old ≡ [] }
-    ensures learns { IfOk result (λ _. Learns (T.may_be disk.old) (T.may_be disk.new) (λ V. ShowsBlocks V begin blocks.now DIRECT_BLOCKS page.old page.new)) }
+    requires whole { AreWhole numbers.now }
+    requires few { count ≤ MOST_BLOCKS }
+    ensures learns { IfOk result (λ _. Learns (T.may_be disk.old) (T.may_be disk.new) (λ V. ShowsBlocks V begin numbers.now count page.old page.new)) }
     ensures first { T.writes disk.new ≡ [] }
 {
-    for j in 0..DIRECT_BLOCKS {
-        show_block(disk, blocks[j], j as u64, begin, page)?;
+    for j in 0..count {
+        show_block(disk, numbers.number(j), j, begin, page)?;
     }
     Ok(())
 }
 
-// So do those of block j, which has this number. Block 0 is none.
+// So do those of block j, which has this number. Block 0 is none, and none is read once the page
+// has no room.
 fn show_block<T: TreeDisk>(
     disk: &mut T,
     number: u32,
@@ -47,8 +54,13 @@ fn show_block<T: TreeDisk>(
     if BLOCK_PLACES * (j + 1) <= begin {
         return Ok(());
     }
-    let block = disk.block(number)?;
-    show_bytes(disk, block.bytes(), j, begin, page)
+    match page.room {
+        None => Ok(()),
+        Some(_room) => {
+            let block = disk.block(number)?;
+            show_bytes(disk, block.bytes(), j, begin, page)
+        }
+    }
 }
 
 // So do those of the bytes of a block.
@@ -97,7 +109,7 @@ fn show_place<T: TreeDisk>(
     }
 }
 
-// So does that of an entry.
+// So does that of an entry. A node's second entry has none.
 fn show_entry<T: TreeDisk>(
     disk: &mut T,
     number: u32,
@@ -112,6 +124,9 @@ fn show_entry<T: TreeDisk>(
     let bytes = disk.inode(number)?;
     match Inode::read(&bytes) {
         Inode::Used(head) => {
+            if u64::from(head.place) != place {
+                return Ok(());
+            }
             let shown = line_of(place, number, &head, name_in(&bytes));
             add(disk, page, shown)
         }

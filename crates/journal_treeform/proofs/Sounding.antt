@@ -1,5 +1,6 @@
 -- A view whose only inode in use is an empty root's has a sound tree.
 use Rattle.std.proofs.Common.{ℕ, ◌≡◌, ◌≢◌, ◌≤◌, ◌/◌, ◌%◌, ◌==◌, inl, Bool, true, false, cond, List, [], option_map, Some, None, refl, sym, ap, subst, ◌∙◌, arith}
+use Rattle.std.specs.Prelude.{nat_lt}
 use Rattle.std.proofs.lemmas.Bool.{eqb-true}
 use Rattle.journal_tree.specs.declared.limits.TheConstants.{ROOT}
 use Rattle.journal_tree.specs.Trees.{Home, Node, Slot, Tree}
@@ -10,7 +11,7 @@ use Rattle.journal_treestore.specs.declared.entry.Entry.{Entry}
 use Rattle.journal_treestore.specs.Entries.{no_entry}
 use Rattle.journal_treestore.specs.Owners.{no_owner}
 use Rattle.journal_treestore.specs.Places.{first_data, data_blocks}
-use Rattle.journal_treestore.specs.Views.{Held, Seen, View, held_of, block_at, slot_of, tree_of, entry_in, entry_of, entry_at, home_in, homes}
+use Rattle.journal_treestore.specs.Views.{Held, Seen, View, held_of, block_at, directory_block, slot_of, tree_of, entry_in, entry_of, entry_at, home_in, homes}
 use Rattle.journal_treestore.specs.Views.Seen.{free, used}
 use Rattle.journal_treestore.proofs.Indexing.{no-index}
 use Rattle.journal_treestore.specs.Sound.{IsHung, IsSoundInode, IsSoundView}
@@ -102,7 +103,6 @@ module _ (t : NewTree) (p : IsPossible t) where
       after = λ p _. none-at p;
       sized = λ p some. absurd (some (none-at p));
       whole = λ _. (0, refl);
-      plain = λ _. refl;
       first = λ j _. no-block j;
     }
 
@@ -115,17 +115,26 @@ module _ (t : NewTree) (p : IsPossible t) where
 
     -- ── entries ──
 
+    none-there : (j : ℕ) → directory_block V (root_held t) j ≡ 0
+    none-there j = by (nat_lt j 388)
+      where
+        by : (b : Bool) → cond b (block_at V (root_held t) j) 0 ≡ 0
+        by true = none-at j
+        by false = refl
+
     bare : (d place : ℕ) → entry_at V d place ≡ no_entry
     bare d place = by (d == ROOT)
       where
         by : (b : Bool) → entry_of V (cond b (used (root_held t)) (free 0)) place ≡ no_entry
-        by true = ap (λ b. entry_in V b (place % 512)) (no-block (place / 512))
+        by true = ap (λ b. entry_in V b (place % 512)) (none-there (place / 512))
         by false = refl
 
     is-hung : IsHung (homes V) (entry_at V)
     is-hung = record {
+      second = λ _. None;
       back = λ d place some. absurd (some (ap (λ (e : Entry). e.number) (bare d place)));
       hung = λ n home is other. absurd (apart n home (n == ROOT) refl is other);
+      seconds = λ n home is other. absurd (apart n home (n == ROOT) refl is other);
       blank = λ d place _. bare d place;
     }
       where

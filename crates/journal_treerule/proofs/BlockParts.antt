@@ -25,7 +25,7 @@ begins-late p r past other is = sym (ap begin_at (let e : p ≡ 2147483649 + r =
 pub number-is : (V : View) (b k : ℕ) → b ≢ 0 → number_in V b k ≡ word_at (V.block b) (4 * k)
 number-is V b k some = ap (λ t. cond t 0 (word_at (V.block b) (4 * k))) (ne_eqb b 0 some)
 
-no-number-there : (V : View) (b k : ℕ) → b ≡ 0 → number_in V b k ≡ 0
+pub no-number-there : (V : View) (b k : ℕ) → b ≡ 0 → number_in V b k ≡ 0
 no-number-there V b k none = ap (λ t. cond t 0 (word_at (V.block b) (4 * k))) (eq-eqb b 0 none)
 
 -- where there is one, there is the block in which it lies

@@ -1,5 +1,6 @@
 pub mod Disks
 pub mod RightInodes
+pub mod Seconds
 pub mod Trees
 pub mod Meeting
 pub mod Reaching

@@ -15,11 +15,12 @@ use Rattle.journal_treestore.specs.Views.{Held, Seen, View, entry_at}
 use Rattle.journal_treestore.specs.Views.Seen.{free, used}
 use Rattle.journal_treerule.specs.declared.children.Child.{Child}
 use Rattle.journal_treerule.specs.Parts.{AreInodesRight, is_used, AreInUse}
-use Rattle.journal_treerule.specs.Directories.{is_directory, child_of, IsChild, AreChildren, AreEntriesSound, AreBelow}
+use Rattle.journal_treerule.specs.Directories.{is_directory, child_of, IsChild, AreChildren, IsSoundDirectory, AreBelow}
 use Rattle.journal_treerule.specs.Walks.{links_of, waiting_after, queue_after, waiting_after_all, queue_after_all, IsQueueBelow, count_waiting, IsMet, IsReadThrough, HasMet, IsWalked}
 use Rattle.journal_treerule.proofs.Disks.{IsDisk}
 use Rattle.journal_treerule.proofs.Scanning.{at-before}
-use Rattle.journal_treerule.proofs.Trees.{named-of, is-directory, right-node, root-used}
+use Rattle.journal_treerule.proofs.Seconds.{own-at}
+use Rattle.journal_treerule.proofs.Trees.{is-directory, right-node, root-used}
 
 -- ── the table ──
 
@@ -250,7 +251,7 @@ walk-at-root V ws root has is kind = record {
 
 -- it has read one more directory
 pub walk-more : (V : View) (ws : List Bool) (q : List ℕ) (done : ℕ) (xs : List Child) → IsWalked V ws q done → done < length q
-    → AreEntriesSound V (get_or q done 0) MOST_PLACES → AreChildren V (get_or q done 0) MOST_PLACES xs → IsWalked V (waiting_after_all ws xs) (queue_after_all ws q xs) (done + 1)
+    → IsSoundDirectory V (get_or q done 0) → AreChildren V (get_or q done 0) MOST_PLACES xs → IsWalked V (waiting_after_all ws xs) (queue_after_all ws q xs) (done + 1)
 walk-more V ws q done xs w low sound children = record {
   met = meet-all V ws q xs w.met (recursion_from_All (IsReachedChild V) xs (All-weaker (Contains xs) (IsReachedChild V) reached xs (All-contains_itself xs)));
   root = stays-all ws xs ROOT w.root;
@@ -266,14 +267,14 @@ walk-more V ws q done xs w low sound children = record {
         let number : (entry_at V d c.place).number ≡ x.number = ap (λ (y : Child). y.number) c.is in
         record {
           is_directory_is = sym (ap (λ (y : Child). y.is_directory) c.is) ∙ ap (λ n. is_directory (V.inode n)) number;
-          reached = by_entry d c.place x.number (w.met.reached d (Contains-get_or q done 0 low)) (named-of (entry_at V d c.place).number c.some ∙ ap Some number);
+          reached = by_entry d c.place x.number (w.met.reached d (Contains-get_or q done 0 low)) (own-at V d c.place c.name c.own ∙ ap Some number);
         }
 
     later : (k : ℕ) → IsReadThrough V ws k → IsReadThrough V (waiting_after_all ws xs) k
-    later k r = record { sound = r.sound; met = λ place few some. stays-all ws xs (entry_at V k place).number (r.met place few some) }
+    later k r = record { sound = r.sound; met = λ place name few own. stays-all ws xs (entry_at V k place).number (r.met place name few own) }
 
     now : IsReadThrough V (waiting_after_all ws xs) d
-    now = record { sound = sound; met = λ place few some. met-child ws xs (child_of V (entry_at V d place).number) (children.all place few some) }
+    now = record { sound = sound; met = λ place name few own. met-child ws xs (child_of V (entry_at V d place).number) (children.all place name few own) }
 
     read : (k : ℕ) → k < done + 1 → (k ≡ done) ⊎ (k ≡ done → ⊥) → IsReadThrough V (waiting_after_all ws xs) (get_or (queue_after_all ws q xs) k 0)
     read k below (inl e) =
@@ -298,25 +299,25 @@ walk-first V before ws q root disk right in_use whole is table queue =
         let h = root-used V disk right in
         is-directory V ROOT h.0 h.1 ((right-node V disk right ROOT h.0 h.1).placed.kind refl)
 
-pub walk-next : (V : View) (ws ws2 : List Bool) (q q2 : List ℕ) (done d : ℕ) (xs : List Child) → IsWalked V ws q done → done < length q → d ≡ get_or q done 0 → AreEntriesSound V d MOST_PLACES × AreChildren V d MOST_PLACES xs
+pub walk-next : (V : View) (ws ws2 : List Bool) (q q2 : List ℕ) (done d : ℕ) (xs : List Child) → IsWalked V ws q done → done < length q → d ≡ get_or q done 0 → IsSoundDirectory V d × AreChildren V d MOST_PLACES xs
     → ws2 ≡ waiting_after_all ws xs → q2 ≡ queue_after_all ws q xs → IsWalked V ws2 q2 (done + 1)
 walk-next V ws ws2 q q2 done d xs w low at found table queue =
     subst (λ p. IsWalked V ws2 p (done + 1)) (sym queue)
     (subst (λ t. IsWalked V t (queue_after_all ws q xs) (done + 1)) (sym table)
-    (walk-more V ws q done xs w low (subst (λ k. AreEntriesSound V k MOST_PLACES) at found.0) (subst (λ k. AreChildren V k MOST_PLACES xs) at found.1)))
+    (walk-more V ws q done xs w low (subst (IsSoundDirectory V) at found.0) (subst (λ k. AreChildren V k MOST_PLACES xs) at found.1)))
 
 -- what was found of a directory, of the map before
 module _ {X : Type 0} (items : X → List Child) (c : Cut) (before now : Map) (trusted still : Bool) (same_map : now ≡ before) (same_trust : still ≡ trusted) (d : ℕ) (found : Option X)
     (answer : IsTrue still → AreInodesRight (view_of c now) c.numbers
-    → MatchOption found (AreEntriesSound (view_of c now) d MOST_PLACES → ⊥) (λ x. AreEntriesSound (view_of c now) d MOST_PLACES × AreChildren (view_of c now) d MOST_PLACES (items x))) where
+    → MatchOption found (IsSoundDirectory (view_of c now) d → ⊥) (λ x. IsSoundDirectory (view_of c now) d × AreChildren (view_of c now) d MOST_PLACES (items x))) where
   abbrev IsFound : Map → Option X → Type 0
-  IsFound m o = MatchOption o (AreEntriesSound (view_of c m) d MOST_PLACES → ⊥) (λ x. AreEntriesSound (view_of c m) d MOST_PLACES × AreChildren (view_of c m) d MOST_PLACES (items x))
+  IsFound m o = MatchOption o (IsSoundDirectory (view_of c m) d → ⊥) (λ x. IsSoundDirectory (view_of c m) d × AreChildren (view_of c m) d MOST_PLACES (items x))
 
   of-before : IsTrue trusted → AreInodesRight (view_of c before) c.numbers → IsFound before found
   of-before = at-before (λ m. AreInodesRight (view_of c m) c.numbers → IsFound m found) before now trusted still same_map same_trust answer
 
-  pub listing-none : found ≡ None → IsTrue trusted → AreInodesRight (view_of c before) c.numbers → AreEntriesSound (view_of c before) d MOST_PLACES → ⊥
+  pub listing-none : found ≡ None → IsTrue trusted → AreInodesRight (view_of c before) c.numbers → IsSoundDirectory (view_of c before) d → ⊥
   listing-none is trust right = subst (IsFound before) is (of-before trust right)
 
-  pub listing-some : (x : X) → found ≡ Some x → IsTrue trusted → AreInodesRight (view_of c before) c.numbers → AreEntriesSound (view_of c before) d MOST_PLACES × AreChildren (view_of c before) d MOST_PLACES (items x)
+  pub listing-some : (x : X) → found ≡ Some x → IsTrue trusted → AreInodesRight (view_of c before) c.numbers → IsSoundDirectory (view_of c before) d × AreChildren (view_of c before) d MOST_PLACES (items x)
   listing-some x is trust right = subst (IsFound before) is (of-before trust right)

@@ -1,6 +1,7 @@
 -- A set of names.
 use Rattle.std.proofs.Common.{ℕ, ◌≡◌, ◌||◌, Bool, true, false, List, [], ◌∷◌, map, refl, sym, ap, ◌∙◌}
-use Rattle.std.specs.Prelude.{bytes_eq}
+use Rattle.std.specs.Prelude.{◌↔◌, IsTrue, bytes_eq}
+use Rattle.std.proofs.lemmas.Bool.{false≢true}
 use Rattle.std.specs.List.{list_any}
 use Rattle.std.specs.Ordering.{nat_cmp, is_eq, match_ordering}
 use Rattle.std.specs.Cmp.Lexicographic.{slice_cmp}
@@ -55,3 +56,22 @@ module _ {K : Type 0} (text : K → List ℕ) where
           ap (λ o. has_name (map text (match_ordering o (k ∷ x ∷ xs) (x ∷ xs) (x ∷ insert_key by_text xs k))) other) is
           ∙ ap (λ b. bytes_eq (text x) other || b) rest
           ∙ or_swap (bytes_eq (text x) other) (bytes_eq (text k) other) r
+
+  -- a name of the set is that of a key
+  key-of : (ks : List K) (name : List ℕ) → has_name (map text ks) name ≡ true → (k : K) × (text k ≡ name)
+  key-of [] name has = absurd (false≢true has)
+  key-of (x ∷ xs) name has = by (bytes_eq (text x) name) refl (key-of xs name)
+    where
+      by : (b : Bool) → bytes_eq (text x) name ≡ b → (has_name (map text xs) name ≡ true → (k : K) × (text k ≡ name)) → (k : K) × (text k ≡ name)
+      by true is rest = (x, (bytes_eq-Decides (text x) name).0 is)
+      by false is rest = rest (sym (ap (λ b. b || has_name (map text xs) name) is) ∙ has)
+
+  -- the keys of a set are keys of another where its names are
+  pub subset-names : (ks js : List K) (b : Bool) → (IsTrue b ↔ ((q : K) → IsTrue (list_any (is_at (by_text q)) ks) → IsTrue (list_any (is_at (by_text q)) js)))
+      → IsTrue b ↔ ((name : List ℕ) → has_name (map text ks) name ≡ true → has_name (map text js) name ≡ true)
+  subset-names ks js b test = (
+    (λ yes name has.
+        let k = key-of ks name has in
+        ap (has_name (map text js)) (sym k.1) ∙ has-key js k.0 ∙ test.0 yes k.0 (sym (has-key ks k.0) ∙ ap (has_name (map text ks)) k.1 ∙ has)),
+    (λ all. test.1 (λ q has. sym (has-key js q) ∙ all (text q) (has-key ks q ∙ has))),
+  )

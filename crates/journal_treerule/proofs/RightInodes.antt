@@ -14,7 +14,7 @@ use Rattle.journal_treestore.specs.declared.owner.Owner.{Owner}
 use Rattle.journal_treestore.specs.Views.{Held, Seen, View, block_at, begin_at, zero_block, bytes_in, bytes_of, content, body_of, node_of, slot_of, tree_of}
 use Rattle.journal_treestore.specs.Views.Seen.{free, used}
 use Rattle.journal_treestore.specs.Sound.{IsSoundInode, IsSoundView}
-use Rattle.journal_treestore.proofs.Indexing.{at-direct, begin-content}
+use Rattle.journal_treestore.proofs.Indexing.{at-direct, at-index, begin-index}
 use Rattle.journal_treestore.proofs.Recording.{zero-long}
 use Rattle.journal_treestore.proofs.Viewing.{inode-node, used_some}
 use Rattle.journal_treerule.specs.Parts.{IsRootHome, IsInPlace, IsSizeOf, IsIndexOf, IsWithinBounds, IsSoundBlock, AreBlocksSound, IsNode, IsRightInode, AreInodesRight}
@@ -41,7 +41,7 @@ length-content V n h s = length-take-le h.size (bytes_of V (block_at V h) ((h.si
 whole-size : (size blocks : ℕ) → size ≡ 4096 * blocks → size % 4096 ≡ 0
 whole-size size blocks is = omega (arith, is)
 
-few-places : (size blocks : ℕ) → size ≡ 4096 * blocks → size / 8 ≤ 24576 → size ≤ 196608
+few-places : (size blocks : ℕ) → size ≡ 4096 * blocks → size / 8 ≤ 198656 → size ≤ 1589248
 few-places size blocks is few = omega (arith, is, few)
 
 size-of : (V : View) (n : ℕ) (h : Held) (kind : Kind) → IsSoundInode V n h → (kind ≡ Directory → (blocks : ℕ) × (h.size ≡ 4096 * blocks)) → IsFitBody (body_of V kind h) → IsSizeOf kind h.size
@@ -49,10 +49,11 @@ size-of V n h Directory s whole fit = let w = whole refl in (whole-size h.size w
 size-of V n h File s whole fit = subst (λ (k : ℕ). k ≤ MOST_BYTES) (length-content V n h s) fit
 size-of V n h Link s whole fit = subst (λ (k : ℕ). k ≤ MOST_LINK) (length-content V n h s) fit
 
-index-of : (kind : Kind) (index : ℕ) → (kind ≢ File → index ≡ 0) → IsIndexOf kind index
-index-of Directory index plain = plain (λ e. cc e)
-index-of File index plain = tt
-index-of Link index plain = plain (λ e. cc e)
+-- a link is too short for an index block
+index-of : (V : View) (n : ℕ) (h : Held) (kind : Kind) → IsSoundInode V n h → IsSizeOf kind h.size → IsIndexOf kind h.index
+index-of V n h Directory s sized = tt
+index-of V n h File s sized = tt
+index-of V n h Link s sized = sym (at-index V h) ∙ s.after 2147483648 (subst (λ b. h.size ≤ b) (sym begin-index) (omega (arith, sized)))
 
 -- what has places is a directory
 pub kind_of_places : (V : View) (h : Held) (kind : Kind) (p : ℕ) → places_of (body_of V kind h) ≡ Some p → kind ≡ Directory
@@ -81,7 +82,7 @@ module _ (V : View) (sound : IsSoundView V) where
         = sym (stem_from_node (tree_of V) n (node_of V h) node) ∙ ap (stems (tree_of V)) e ∙ sound.tree.root.is in
         cc
 
-    root_home_is : n ≡ ROOT → IsRootHome h.home
+    pub root_home_is : n ≡ ROOT → IsRootHome h.home
     root_home_is e =
         let home : h.home ≡ root_home = ap (λ (t : Stem). t.home) (root_stem e) in
         record {
@@ -100,12 +101,15 @@ module _ (V : View) (sound : IsSoundView V) where
     generation : ((tree_of V).at n).generation ≡ h.generation
     generation = ap (λ (y : Seen). (slot_of V y).generation) is
 
+    sized : IsSizeOf h.kind h.size
+    sized = size-of V n h h.kind s s.whole fit.body
+
     within : IsWithinBounds h
     within = record {
       home = fit.home;
       place = fit.place;
-      sized = size-of V n h h.kind s s.whole fit.body;
-      indexed = index-of h.kind h.index s.plain;
+      sized = sized;
+      indexed = index-of V n h h.kind s sized;
       attributes = record { mode = fit.mode; owner = fit.owner; group = fit.group; mtime = fit.mtime; ctime = fit.ctime; verifier = fit.verifier };
       born = let b = sound.fit.born n (node_of V h) node in omega (arith, b, generation);
       young = let y = sound.fit.young n in omega (arith, y, generation);
@@ -148,11 +152,12 @@ module _ (V : View) (n : ℕ) (h : Held) (right : IsNode V n h) (j : ℕ) (some 
       let e = at-direct V h j low-block in
       subst (IsSoundBlock V h.size (record { number = n; place = j })) e (right.blocks j (λ z. some (sym e ∙ z)))
 
-  pub first-inside : 4096 * j < h.size
-  first-inside = subst (λ at. at < h.size) (begin-content j (let low = low-block in omega (arith, low))) first-block.inside
+-- a block of a right inode, by its place
+pub sound-at : (V : View) (n : ℕ) (h : Held) → IsNode V n h → (p b : ℕ) → block_at V h p ≡ b → b ≢ 0 → IsSoundBlock V h.size (record { number = n; place = p }) b
+sound-at V n h right p b is some = subst (IsSoundBlock V h.size (record { number = n; place = p })) is (right.blocks p (λ z. some (sym is ∙ z)))
 
 -- a directory has no more than the most entries
-pub directory-size : (h : Held) → IsWithinBounds h → h.kind ≡ Directory → h.size ≤ 196608
+pub directory-size : (h : Held) → IsWithinBounds h → h.kind ≡ Directory → h.size ≤ 1589248
 directory-size h within kind = let sized : IsSizeOf Directory h.size = subst (λ k. IsSizeOf k h.size) kind within.sized in sized.1
 
 -- ── to the rule ──
@@ -167,11 +172,6 @@ module _ (V : View) (disk : IsDisk V) (n : ℕ) (h : Held) (right : IsNode V n h
   whole File size is e = absurd (cc e)
   whole Link size is e = absurd (cc e)
 
-  plain : (kind : Kind) (index : ℕ) → IsIndexOf kind index → kind ≢ File → index ≡ 0
-  plain Directory index is other = is
-  plain File index is other = absurd (other refl)
-  plain Link index is other = is
-
   pub sound-inode : IsSoundInode V n h
   sound-inode = record {
     owned = λ p some. (right.blocks p some).owned;
@@ -179,11 +179,10 @@ module _ (V : View) (disk : IsDisk V) (n : ℕ) (h : Held) (right : IsNode V n h
     after = λ p far. after p far (cases_eq (block_at V h p) 0);
     sized = λ p some. disk.sized (block_at V h p) (right.blocks p some).first (right.blocks p some).last;
     whole = whole h.kind h.size right.within.sized;
-    plain = plain h.kind h.index right.within.indexed;
     first = right.first;
   }
 
-  few_of_bytes : (size : ℕ) → size ≤ 196608 → size / 8 ≤ 24576
+  few_of_bytes : (size : ℕ) → size ≤ 1589248 → size / 8 ≤ 198656
   few_of_bytes size few = omega (arith, few)
 
   places : (size blocks : ℕ) → size ≡ 4096 * blocks → size / 8 ≡ 512 * blocks

@@ -1,8 +1,8 @@
 -- A disk whose inodes are right, whose directories' entries are sound, and of which all that is in
 -- use is reached, is sound; and what a sound disk says of these.
-use Rattle.std.proofs.Common.{ℕ, ◌≡◌, ◌≢◌, ◌<◌, ◌≤◌, ◌+◌, ◌*◌, ◌/◌, ◌%◌, ◌==◌, Bool, true, false, cond, List, [], Option, Some, None, refl, sym, ap, subst, ◌⊎◌, inl, inr, ◌∙◌, arith}
+use Rattle.std.proofs.Common.{ℕ, ◌≡◌, ◌≢◌, ◌<◌, ◌≤◌, ◌+◌, ◌*◌, ◌/◌, ◌%◌, Bool, true, false, cond, List, [], Option, Some, None, refl, sym, ap, subst, ◌⊎◌, inl, inr, ◌∙◌, arith}
 use Rattle.std.specs.Prelude.{option_map}
-use Rattle.std.proofs.lemmas.Bool.{cases_eq, cases_lt, eq-eqb, ne_eqb}
+use Rattle.std.proofs.lemmas.Bool.{cases_eq, cases_lt, le-ltb}
 use Rattle.journal_tree.specs.declared.limits.TheConstants.{ROOT, MOST_PLACES}
 use Rattle.journal_tree.specs.declared.reply.Kind.{Kind}
 use Rattle.journal_tree.specs.declared.reply.Kind.TheVariants.{Directory, File, Link}
@@ -15,27 +15,18 @@ use Rattle.journal_tree.proofs.Changing.{stem_from_node, node_from_stem}
 use Rattle.journal_tree.proofs.Linking.{links-are-trees}
 use Rattle.journal_treestore.specs.declared.entry.Entry.{Entry}
 use Rattle.journal_treestore.specs.Entries.{no_entry, tag_of}
-use Rattle.journal_treestore.specs.Views.{Held, Seen, View, body_of, node_of, slot_of, tree_of, entry_in, entry_by, entry_of, entry_at, home_in, homes}
+use Rattle.journal_treestore.specs.Levels.{IsBlockFor}
+use Rattle.journal_treestore.specs.Views.{Held, Seen, View, block_at, directory_block, body_of, node_of, slot_of, tree_of, entry_in, entry_by, entry_of, entry_at, home_in, homes}
 use Rattle.journal_treestore.specs.Views.Seen.{free, used}
-use Rattle.journal_treestore.specs.Sound.{entry_for, IsEntryOf, IsHung, IsSoundInode, IsSoundView}
+use Rattle.journal_treestore.specs.Sound.{entry_for, IsEntryOf, IsSecondEntry, HasSecond, IsHung, IsSoundInode, IsSoundView}
+use Rattle.journal_treestore.proofs.Indexing.{directory-after}
 use Rattle.journal_treestore.proofs.Viewing.{node-inode, inode-node}
 use Rattle.journal_treerule.specs.Parts.{IsNode, IsRightInode, AreInodesRight, IsRootHome, is_used}
-use Rattle.journal_treerule.specs.Directories.{is_of_directory, is_directory, IsSoundEntry, HasNameOf, AreEntriesSound}
-use Rattle.journal_treerule.specs.Walks.{named_number, links_of}
+use Rattle.journal_treerule.specs.Directories.{is_of_directory, is_directory, IsSecondPlace, IsEntryIn, own_entries, second_entries, IsSoundDirectory}
+use Rattle.journal_treerule.specs.Walks.{number_at, links_of}
 use Rattle.journal_treerule.proofs.Disks.{IsDisk}
-use Rattle.journal_treerule.proofs.RightInodes.{sound-inode, fit-node, first-inside, directory-size}
-
--- ── numbers that entries name ──
-
-pub named-some : (n k : ℕ) → named_number n ≡ Some k → (n ≡ k) × (n ≢ 0)
-named-some n k is = by (cases_eq n 0)
-  where
-    by : (n ≡ 0) ⊎ (n ≡ 0 → ⊥) → (n ≡ k) × (n ≢ 0)
-    by (inl none) = absurd (let e : None ≡ Some k = sym (ap (λ b. cond b None (Some n)) (eq-eqb n 0 none)) ∙ is in cc)
-    by (inr some) = let e : Some n ≡ Some k = sym (ap (λ b. cond b None (Some n)) (ne_eqb n 0 some)) ∙ is in (cc, some)
-
-pub named-of : (n : ℕ) → n ≢ 0 → named_number n ≡ Some n
-named-of n some = ap (λ b. cond b None (Some n)) (ne_eqb n 0 some)
+use Rattle.journal_treerule.proofs.Seconds.{IsOwnNumber, own-number, find_second, second_at, second-is, IsFound, found-is, found-none, found-one, cases_block}
+use Rattle.journal_treerule.proofs.RightInodes.{sound-inode, fit-node, directory-size}
 
 -- ── inodes, homes and kinds ──
 
@@ -81,7 +72,7 @@ entry-of-directory V d place = by (V.inode d) refl
     by (free g) at = inr (ap (λ x. entry_of V x place) at)
     by (used h) at = by_kind h at h.kind refl
 
-pub entry-in-block : (V : View) (d : ℕ) (x : IsDirectoryAt V d) (place : ℕ) → entry_at V d place ≡ entry_in V (x.held.blocks (place / 512)) (place % 512)
+pub entry-in-block : (V : View) (d : ℕ) (x : IsDirectoryAt V d) (place : ℕ) → entry_at V d place ≡ entry_in V (directory_block V x.held (place / 512)) (place % 512)
 entry-in-block V d x place = ap (λ y. entry_of V y place) x.is ∙ ap (λ k. entry_by V k x.held place) x.kind
 
 pub no-number : (e : Entry) → e ≡ no_entry → e.number ≡ 0
@@ -90,11 +81,16 @@ no-number e is = ap (λ (e : Entry). e.number) is
 inside_directory : (place size blocks : ℕ) → 4096 * (place / 512) < size → size ≡ 4096 * blocks → place < size / 8
 inside_directory place size blocks low whole = omega (arith, low, whole)
 
-few_places : (place size : ℕ) → place < size / 8 → size ≤ 196608 → place < 24576
+few_places : (place size : ℕ) → place < size / 8 → size ≤ 1589248 → place < 198656
 few_places place size low few = omega (arith, low, few)
 
-far_block : (place size : ℕ) → 24576 ≤ place → size ≤ 196608 → 4096 * (place / 512) < size → ⊥
-far_block place size far few low = omega (arith, far, few, low)
+-- a directory has no entry past the most places
+pub none-far : (V : View) (d place : ℕ) → MOST_PLACES ≤ place → entry_at V d place ≡ no_entry
+none-far V d place far = by (entry-of-directory V d place)
+  where
+    by : IsDirectoryAt V d ⊎ (entry_at V d place ≡ no_entry) → entry_at V d place ≡ no_entry
+    by (inl x) = entry-in-block V d x place ∙ ap (λ t. entry_in V (cond t (block_at V x.held (place / 512)) 0) (place % 512)) (le-ltb (place / 512) 388 (omega (arith, far)))
+    by (inr none) = none
 
 module _ (V : View) (disk : IsDisk V) (right : AreInodesRight V V.numbers) where
   -- what is in use has a number of the disk, and is right
@@ -127,49 +123,51 @@ module _ (V : View) (disk : IsDisk V) (right : AreInodesRight V V.numbers) where
   pub has-entry : (d place : ℕ) → (entry_at V d place).number ≢ 0 → HasEntry d place
   has-entry d place some = by (entry-of-directory V d place)
     where
-      by_block : (x : IsDirectoryAt V d) → (x.held.blocks (place / 512) ≡ 0) ⊎ (x.held.blocks (place / 512) ≡ 0 → ⊥) → HasEntry d place
-      by_block x (inl none) = absurd (some (no-number (entry_at V d place) (entry-in-block V d x place ∙ ap (λ b. entry_in V b (place % 512)) none)))
-      by_block x (inr there) =
+      by_size : (x : IsDirectoryAt V d) → (4096 * (place / 512) < x.held.size) ⊎ (x.held.size ≤ 4096 * (place / 512)) → HasEntry d place
+      by_size x (inl inside) =
           let node = right-node d x.held x.is in
-          let s = sound-inode V disk d x.held node in
-          let w = s.whole x.kind in
-          let low = inside_directory place x.held.size w.0 (first-inside V d x.held node (place / 512) there) w.1 in
+          let w = (sound-inode V disk d x.held node).whole x.kind in
+          let low = inside_directory place x.held.size w.0 inside w.1 in
           record { directory = x; inside = low; few = few_places place x.held.size low (directory-size x.held node.within x.kind) }
+      by_size x (inr after) =
+          let s = sound-inode V disk d x.held (right-node d x.held x.is) in
+          absurd (some (no-number (entry_at V d place) (entry-in-block V d x place ∙ ap (λ b. entry_in V b (place % 512)) (directory-after V d x.held s (place / 512) after))))
 
       by : IsDirectoryAt V d ⊎ (entry_at V d place ≡ no_entry) → HasEntry d place
-      by (inl x) = by_block x (cases_eq (x.held.blocks (place / 512)) 0)
+      by (inl x) = by_size x (cases_lt (4096 * (place / 512)) x.held.size)
       by (inr none) = absurd (some (no-number (entry_at V d place) none))
 
-  -- a directory has no entry past the most places
-  pub none-far : (d place : ℕ) → MOST_PLACES ≤ place → entry_at V d place ≡ no_entry
-  none-far d place far = by (entry-of-directory V d place)
-    where
-      by_block : (x : IsDirectoryAt V d) → (x.held.blocks (place / 512) ≡ 0) ⊎ (x.held.blocks (place / 512) ≡ 0 → ⊥) → entry_at V d place ≡ no_entry
-      by_block x (inl none) = entry-in-block V d x place ∙ ap (λ b. entry_in V b (place % 512)) none
-      by_block x (inr there) =
-          let node = right-node d x.held x.is in
-          absurd (far_block place x.held.size far (directory-size x.held node.within x.kind) (first-inside V d x.held node (place / 512) there))
+  module _ (directories : (d : ℕ) → is_directory (V.inode d) ≡ true → IsSoundDirectory V d) (reached : (n : ℕ) → is_used (V.inode n) ≡ true → IsReached (links_of V) n) where
+    -- what a directory with an entry is
+    sound-there : (d place : ℕ) → HasEntry d place → IsSoundDirectory V d
+    sound-there d place has = directories d (is-directory V d has.directory.held has.directory.is has.directory.kind)
 
-      by : IsDirectoryAt V d ⊎ (entry_at V d place ≡ no_entry) → entry_at V d place ≡ no_entry
-      by (inl x) = by_block x (cases_eq (x.held.blocks (place / 512)) 0)
-      by (inr none) = none
-
-  module _ (entries : (d : ℕ) → is_directory (V.inode d) ≡ true → AreEntriesSound V d MOST_PLACES) (reached : (n : ℕ) → is_used (V.inode n) ≡ true → IsReached (links_of V) n) where
-    back : (d place : ℕ) → (entry_at V d place).number ≢ 0 → IsEntryOf (homes V) d place (entry_at V d place)
-    back d place some =
-        let has = has-entry d place some in
-        ((entries d (is-directory V d has.directory.held has.directory.is has.directory.kind)).each place has.few).back some
+    entry-in : (d place : ℕ) → (entry_at V d place).number ≢ 0 → IsEntryIn (homes V) d place (entry_at V d place)
+    entry-in d place some = let has = has-entry d place some in ((sound-there d place has).entries.each place has.few).back some
 
     blank : (d place : ℕ) → (entry_at V d place).number ≡ 0 → entry_at V d place ≡ no_entry
     blank d place none = by (cases_lt place MOST_PLACES)
       where
         by_directory : place < MOST_PLACES → IsDirectoryAt V d ⊎ (entry_at V d place ≡ no_entry) → entry_at V d place ≡ no_entry
-        by_directory low (inl x) = ((entries d (is-directory V d x.held x.is x.kind)).each place low).blank none
+        by_directory low (inl x) = ((directories d (is-directory V d x.held x.is x.kind)).entries.each place low).blank none
         by_directory low (inr is) = is
 
         by : (place < MOST_PLACES) ⊎ (MOST_PLACES ≤ place) → entry_at V d place ≡ no_entry
         by (inl low) = by_directory low (entry-of-directory V d place)
-        by (inr far) = none-far d place far
+        by (inr far) = none-far V d place far
+
+    -- an entry of a node, by its number and home
+    entry-is : (d place n : ℕ) (home : Home) → (entry_at V d place).number ≡ n → n ≢ 0 → homes V n ≡ Some home → (home.directory ≡ d) × (entry_at V d place ≡ entry_for n home)
+    entry-is d place n home number some is = (ap (λ (h : Home). h.directory) home_is ∙ o.directory, (λ z. record { number = number z; tag = tag z }))
+      where
+        o : IsEntryIn (homes V) d place (entry_at V d place)
+        o = entry-in d place (λ e. some (sym number ∙ e))
+
+        home_is : home ≡ o.home
+        home_is = let e : Some home ≡ Some o.home = sym is ∙ ap (homes V) (sym number) ∙ o.is in cc
+
+        tag : (entry_at V d place).tag ≡ tag_of home.name
+        tag = o.tag ∙ ap tag_of (sym (ap (λ (h : Home). h.name) home_is))
 
     hung : (n : ℕ) (home : Home) → homes V n ≡ Some home → n ≢ ROOT → entry_at V home.directory home.place ≡ entry_for n home
     hung n home is other = let u = home-used V n home is in by n (reached n (ap is_used u.1)) is other
@@ -177,25 +175,16 @@ module _ (V : View) (disk : IsDisk V) (right : AreInodesRight V V.numbers) where
         by : (n : ℕ) → IsReached (links_of V) n → homes V n ≡ Some home → n ≢ ROOT → entry_at V home.directory home.place ≡ entry_for n home
         by _ the_root is other = absurd (other refl)
         by _ (by_entry d place n up stands) is other =
-            ap (λ (k : ℕ). entry_at V k home.place) directory ∙ ap (entry_at V d) at_place ∙ (λ z. record { number = number.0 z; tag = tag z })
+            ap (λ (k : ℕ). entry_at V k home.place) there.0 ∙ ap (entry_at V d) (ap (λ (h : Home). h.place) home_is ∙ own.at) ∙ there.1
           where
-            number : ((entry_at V d place).number ≡ n) × ((entry_at V d place).number ≢ 0)
-            number = named-some (entry_at V d place).number n stands
+            own : IsOwnNumber V d place n
+            own = own-number V d place n stands
 
-            o : IsEntryOf (homes V) d place (entry_at V d place)
-            o = back d place number.1
+            there : (home.directory ≡ d) × (entry_at V d place ≡ entry_for n home)
+            there = entry-is d place n home own.number own.some is
 
-            home_is : home ≡ o.home
-            home_is = let e : Some home ≡ Some o.home = sym is ∙ ap (homes V) (sym number.0) ∙ o.is in cc
-
-            directory : home.directory ≡ d
-            directory = ap (λ (h : Home). h.directory) home_is ∙ o.directory
-
-            at_place : home.place ≡ place
-            at_place = ap (λ (h : Home). h.place) home_is ∙ o.place_is
-
-            tag : (entry_at V d place).tag ≡ tag_of home.name
-            tag = o.tag ∙ ap tag_of (sym (ap (λ (h : Home). h.name) home_is))
+            home_is : home ≡ own.home
+            home_is = let e : Some home ≡ Some own.home = sym is ∙ own.is in cc
 
     stem-used : (n : ℕ) (s : Stem) → stems (tree_of V) n ≡ Some s → (h : Held) × (V.inode n ≡ used h) × (stem_of (node_of V h) ≡ s)
     stem-used n s is =
@@ -219,39 +208,43 @@ module _ (V : View) (disk : IsDisk V) (right : AreInodesRight V V.numbers) where
     zero (free g) at = ap (λ (y : Seen). option_map stem_of (slot_of V y).node) at
     zero (used h) at = absurd (zero-unused h at)
 
-    within : (d place n : ℕ) → named_number (entry_at V d place).number ≡ Some n → IsWithin (links_of V) d place
+    within : (d place n : ℕ) → number_at V d place ≡ Some n → IsWithin (links_of V) d place
     within d place n stands =
-        let has = has-entry d place (named-some (entry_at V d place).number n stands).1 in
+        let own = own-number V d place n stands in
+        let has = has-entry d place (λ e. own.some (sym own.number ∙ e)) in
         let h = has.directory.held in
         (stem_of (node_of V h), h.size / 8, stem-is d h has.directory.is, ap (λ kind. places_of (body_of V kind h)) has.directory.kind, has.inside)
 
-    hangs : (d place n : ℕ) → named_number (entry_at V d place).number ≡ Some n → HangsAt (links_of V) n d place
+    hangs : (d place n : ℕ) → number_at V d place ≡ Some n → HangsAt (links_of V) n d place
     hangs d place n stands =
-        let number = named-some (entry_at V d place).number n stands in
-        let o = back d place number.1 in
-        let u = home-used V n o.home (ap (homes V) (sym number.0) ∙ o.is) in (
+        let own = own-number V d place n stands in
+        let there = entry-is d place n own.home own.number own.some own.is in
+        let u = home-used V n own.home own.is in (
           stem_of (node_of V u.0),
           stem-is n u.0 u.1,
-          ap (λ (h : Home). h.directory) u.2 ∙ o.directory,
-          ap (λ (h : Home). h.place) u.2 ∙ o.place_is,
+          ap (λ (h : Home). h.directory) u.2 ∙ there.0,
+          ap (λ (h : Home). h.place) u.2 ∙ own.at,
         )
 
     -- the entry of a node that is not the root, at the place of its home
     name-at : (n : ℕ) (h : Held) → V.inode n ≡ used h → n ≢ ROOT → (entry_at V h.home.directory h.home.place).number ≡ n
     name-at n h is other = ap (λ (e : Entry). e.number) (hung n h.home (ap home_in is) other)
 
-    has-name : (n : ℕ) (h : Held) → V.inode n ≡ used h → n ≢ ROOT → HasNameOf (homes V) (entry_at V h.home.directory h.home.place) h.home.name
+    has-name : (n : ℕ) (h : Held) → V.inode n ≡ used h → n ≢ ROOT → own_entries V h.home.directory h.home.place h.home.name
     has-name n h is other = record {
-      some = λ e. (right-node n h is).placed.some (sym (name-at n h is other) ∙ e);
-      home = h.home;
-      is = ap (homes V) (name-at n h is other) ∙ ap home_in is;
-      named = refl;
+      names = record {
+        some = λ e. (right-node n h is).placed.some (sym (name-at n h is other) ∙ e);
+        home = h.home;
+        is = ap (homes V) (name-at n h is other) ∙ ap home_in is;
+        named = refl;
+      };
+      at = refl;
     }
 
     -- no node but the root hangs in directory 0
     not-in-zero : (n : ℕ) (h : Held) → V.inode n ≡ used h → n ≢ ROOT → h.home.directory ≡ 0 → ⊥
     not-in-zero n h is other none =
-        let has = has-entry h.home.directory h.home.place (has-name n h is other).some in
+        let has = has-entry h.home.directory h.home.place (has-name n h is other).names.some in
         zero-unused has.directory.held (ap V.inode (sym none) ∙ has.directory.is)
 
     apart : (i j : ℕ) (g h : Held) → V.inode i ≡ used g → V.inode j ≡ used h → g.home.directory ≡ h.home.directory → g.home.name ≡ h.home.name → i ≡ j
@@ -263,12 +256,12 @@ module _ (V : View) (disk : IsDisk V) (right : AreInodesRight V V.numbers) where
         both : i ≢ ROOT → j ≢ ROOT → i ≡ j
         both other_i other_j =
             let in_i = has-name i g is other_i in
-            let in_j : HasNameOf (homes V) (entry_at V g.home.directory h.home.place) g.home.name
-            = subst (λ (n : List ℕ). HasNameOf (homes V) (entry_at V g.home.directory h.home.place) n) (sym name)
-            (subst (λ (d : ℕ). HasNameOf (homes V) (entry_at V d h.home.place) h.home.name) (sym directory) (has-name j h at other_j)) in
-            let has_i = has-entry g.home.directory g.home.place in_i.some in
-            let has_j = has-entry g.home.directory h.home.place in_j.some in
-            let e = entries g.home.directory (is-directory V g.home.directory has_i.directory.held has_i.directory.is has_i.directory.kind) in
+            let in_j : own_entries V g.home.directory h.home.place g.home.name
+            = subst (λ (n : List ℕ). own_entries V g.home.directory h.home.place n) (sym name)
+            (subst (λ (d : ℕ). own_entries V d h.home.place h.home.name) (sym directory) (has-name j h at other_j)) in
+            let has_i = has-entry g.home.directory g.home.place in_i.names.some in
+            let has_j = has-entry g.home.directory h.home.place in_j.names.some in
+            let e = (sound-there g.home.directory g.home.place has_i).entries in
             let same = e.apart g.home.place h.home.place g.home.name has_i.few has_j.few in_i in_j in
             sym (name-at i g is other_i)
             ∙ ap (λ (p : ℕ). (entry_at V g.home.directory p).number) same
@@ -280,6 +273,110 @@ module _ (V : View) (disk : IsDisk V) (right : AreInodesRight V V.numbers) where
         by (inl a) (inr b) = absurd (not-in-zero j h at b (sym directory ∙ root-in-zero i g is a))
         by (inr a) (inl b) = absurd (not-in-zero i g is a (directory ∙ root-in-zero j h at b))
         by (inr a) (inr b) = both a b
+
+    -- ── second entries ──
+
+    -- each entry is at its node's home, or it is the second one
+    back : (d place : ℕ) → (entry_at V d place).number ≢ 0 → IsEntryOf (homes V) (second_at V) d place (entry_at V d place)
+    back d place some = record { home = o.home; is = o.is; directory = o.directory; at = by o.at; tag = o.tag }
+      where
+        o : IsEntryIn (homes V) d place (entry_at V d place)
+        o = entry-in d place some
+
+        has : HasEntry d place
+        has = has-entry d place some
+
+        n : ℕ
+        n = (entry_at V d place).number
+
+        -- a further entry of the node is a second one of its name
+        other : (q : ℕ) → (entry_at V d q).number ≡ n → q ≢ o.home.place → second_entries V d q o.home.name
+        other q number apart = record {
+          names = record { some = λ e. some (sym number ∙ e); home = o.home; is = ap (homes V) number ∙ o.is; named = refl };
+          other = λ e. apart (sym e);
+        }
+
+        by : (o.home.place ≡ place) ⊎ IsSecondPlace o.home place → (o.home.place ≡ place) ⊎ (second_at V n ≡ Some place)
+        by (inl at) = inl at
+        by (inr second) = inr (
+            second-is V n o.home o.is
+            ∙ ap (λ (k : ℕ). find_second V k n o.home.place MOST_PLACES) o.directory
+            ∙ found-one V d n o.home.place MOST_PLACES place has.few refl elsewhere
+            (λ q low number apart. (sound-there d place has).entries.once q place o.home.name low has.few (other q number apart) (other place refl elsewhere))
+            )
+          where
+            elsewhere : place ≢ o.home.place
+            elsewhere e = second.needed (subst (λ p. IsBlockFor (tag_of o.home.name) (p / 512)) e second.block)
+
+    -- a node that needs a second entry has it
+    seconds : (n : ℕ) (home : Home) → homes V n ≡ Some home → n ≢ ROOT → HasSecond (entry_at V) n home (second_at V n)
+    seconds n home is below = subst (HasSecond (entry_at V) n home) (sym (second-is V n home is)) (by (find_second V home.directory n home.place MOST_PLACES) refl)
+      where
+        u : (h : Held) × (V.inode n ≡ used h) × (h.home ≡ home)
+        u = home-used V n home is
+
+        some : n ≢ 0
+        some e = (right-node n u.0 u.1).placed.some e
+
+        number : (entry_at V home.directory home.place).number ≡ n
+        number = ap (λ (e : Entry). e.number) (hung n home is below)
+
+        own : own_entries V home.directory home.place home.name
+        own = record { names = record { some = λ e. some (sym number ∙ e); home = home; is = ap (homes V) number ∙ is; named = refl }; at = refl }
+
+        has : HasEntry home.directory home.place
+        has = has-entry home.directory home.place own.names.some
+
+        -- another entry of its name is one of the node
+        same : (q : ℕ) → (x : second_entries V home.directory q home.name) → (entry_at V home.directory q).number ≡ n
+        same q x =
+            apart j n v.0 u.0 v.1 u.1
+            (ap (λ (h : Home). h.directory) (v.2 ∙ home_is) ∙ o.directory ∙ sym (ap (λ (h : Home). h.directory) u.2))
+            (ap (λ (h : Home). h.name) v.2 ∙ x.names.named ∙ sym (ap (λ (h : Home). h.name) u.2))
+          where
+            j : ℕ
+            j = (entry_at V home.directory q).number
+
+            o : IsEntryIn (homes V) home.directory q (entry_at V home.directory q)
+            o = entry-in home.directory q x.names.some
+
+            v : (h : Held) × (V.inode j ≡ used h) × (h.home ≡ x.names.home)
+            v = home-used V j x.names.home x.names.is
+
+            home_is : x.names.home ≡ o.home
+            home_is = let e : Some x.names.home ≡ Some o.home = sym x.names.is ∙ o.is in cc
+
+        lacking : find_second V home.directory n home.place MOST_PLACES ≡ None → (IsBlockFor (tag_of home.name) (home.place / 512) → ⊥) → ⊥
+        lacking none needed =
+            let x = (sound-there home.directory home.place has).seconds home.name (record { place = home.place; low = has.few; here = record { own = own; needed = needed } }) in
+            found-none V home.directory n home.place MOST_PLACES none x.place x.low (same x.place x.here)
+            (λ e. x.here.other (ap (λ (h : Home). h.place) (home-is x.place x.here) ∙ sym e))
+          where
+            home-is : (q : ℕ) → (x : second_entries V home.directory q home.name) → x.names.home ≡ home
+            home-is q x = let e : Some x.names.home ≡ Some home = sym x.names.is ∙ ap (homes V) (same q x) ∙ is in cc
+
+        by_block : find_second V home.directory n home.place MOST_PLACES ≡ None → IsBlockFor (tag_of home.name) (home.place / 512) ⊎ (IsBlockFor (tag_of home.name) (home.place / 512) → ⊥) → IsBlockFor (tag_of home.name) (home.place / 512)
+        by_block none (inl block) = block
+        by_block none (inr needed) = absurd (lacking none needed)
+
+        by : (o : Option ℕ) → find_second V home.directory n home.place MOST_PLACES ≡ o → HasSecond (entry_at V) n home o
+        by None none = by_block none (cases_block (tag_of home.name) (home.place / 512))
+        by (Some p) found = by_place (o.at)
+          where
+            f : IsFound V home.directory n home.place MOST_PLACES p
+            f = found-is V home.directory n home.place MOST_PLACES p found
+
+            o : IsEntryIn (homes V) home.directory p (entry_at V home.directory p)
+            o = entry-in home.directory p (λ e. some (sym f.number ∙ e))
+
+            home_is : o.home ≡ home
+            home_is = let e : Some o.home ≡ Some home = sym o.is ∙ ap (homes V) f.number ∙ is in cc
+
+            by_place : (o.home.place ≡ p) ⊎ IsSecondPlace o.home p → IsSecondEntry (entry_at V) n home p
+            by_place (inl at) = absurd (f.apart (sym at ∙ ap (λ (h : Home). h.place) home_is))
+            by_place (inr second) =
+                let s : IsSecondPlace home p = subst (λ h. IsSecondPlace h p) home_is second in
+                record { block = s.block; is = (entry-is home.directory p n home f.number some is).1; needed = s.needed }
 
     linked : IsLinked (links_of V)
     linked = record {
@@ -326,5 +423,5 @@ module _ (V : View) (disk : IsDisk V) (right : AreInodesRight V V.numbers) where
       tree = links-are-trees (links_of V) linked;
       fit = fit;
       inodes = λ n h is. sound-inode V disk n h (right-node n h is);
-      hung = record { back = back; hung = hung; blank = blank };
+      hung = record { second = second_at V; back = back; hung = hung; seconds = seconds; blank = blank };
     }

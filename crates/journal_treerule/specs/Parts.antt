@@ -49,9 +49,9 @@ IsSizeOf Directory size = (size % 4096 ≡ 0) × (size ≤ ENTRY_BYTES * MOST_PL
 IsSizeOf File size = size ≤ MOST_BYTES
 IsSizeOf Link size = size ≤ MOST_LINK
 
--- files alone have an index
+-- files and directories may have an index
 abbrev pub IsIndexOf : Kind → ℕ → Type 0
-IsIndexOf Directory index = index ≡ 0
+IsIndexOf Directory index = Unit {0}
 IsIndexOf File index = Unit {0}
 IsIndexOf Link index = index ≡ 0
 

@@ -3,11 +3,12 @@ use Rattle.std.specs.Prelude.{ℕ, zero, suc, ◌≡◌, ◌≢◌, ◌<◌, ◌
 use Rattle.journal_tree.specs.declared.limits.TheConstants.{ROOT, MOST_PLACES}
 use Rattle.journal_tree.specs.Links.{Links, IsReached}
 use Rattle.journal_tree.specs.Rule.{stems}
-use Rattle.journal_treestore.specs.Views.{Seen, View, tree_of, entry_at}
+use Rattle.journal_tree.specs.Trees.{Home}
+use Rattle.journal_treestore.specs.Views.{Seen, View, tree_of, entry_at, homes}
 use Rattle.journal_treestore.specs.Views.Seen.{free, used}
 use Rattle.journal_treerule.specs.declared.children.Child.{Child}
 use Rattle.journal_treerule.specs.Parts.{is_used}
-use Rattle.journal_treerule.specs.Directories.{is_directory, AreEntriesSound}
+use Rattle.journal_treerule.specs.Directories.{is_directory, own_entries, IsSoundDirectory}
 
 -- ── the links of a disk ──
 
@@ -15,9 +16,17 @@ use Rattle.journal_treerule.specs.Directories.{is_directory, AreEntriesSound}
 abbrev pub named_number : ℕ → Option ℕ
 named_number n = if n == 0 then None else Some n
 
--- where the nodes hang, and what the entries name
+-- that, if the place is that of its home
+abbrev pub own_number : ℕ → Option Home → ℕ → Option ℕ
+own_number n None place = None
+own_number n (Some home) place = if home.place == place then named_number n else None
+
+abbrev pub number_at : View → ℕ → ℕ → Option ℕ
+number_at V d place = own_number (entry_at V d place).number (homes V (entry_at V d place).number) place
+
+-- where the nodes hang, and what the entries at their homes name
 abbrev pub links_of : View → Links
-links_of V = record { numbers = V.numbers; stem = stems (tree_of V); entry = λ d place. named_number (entry_at V d place).number }
+links_of V = record { numbers = V.numbers; stem = stems (tree_of V); entry = number_at V }
 
 -- ── a walk ──
 
@@ -52,10 +61,10 @@ pub record IsMet (V : View) (queue : List ℕ) (n : ℕ) : Type 0 where
   pub reached : IsReached (links_of V) n
   pub queued : is_directory (V.inode n) ≡ true → Contains queue n
 
--- The directory was read: its entries are sound, and nothing that they name waits
+-- The directory was read: it is sound, and nothing that hangs there waits
 pub record IsReadThrough (V : View) (waiting : List Bool) (d : ℕ) : Type 0 where
-  pub sound : AreEntriesSound V d MOST_PLACES
-  pub met : (place : ℕ) → place < MOST_PLACES → (entry_at V d place).number ≢ 0 → get_or waiting (entry_at V d place).number false ≡ false
+  pub sound : IsSoundDirectory V d
+  pub met : (place : ℕ) (name : List ℕ) → place < MOST_PLACES → own_entries V d place name → get_or waiting (entry_at V d place).number false ≡ false
 
 -- A node that waits is in use, and one that does not wait any more was met. All directories in the
 -- queue were reached, and the queue is no longer than the table

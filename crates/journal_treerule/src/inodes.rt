@@ -209,8 +209,8 @@ fn may_have_index(kind: Kind, index: u32) -> bool
     ensures { IsTrue result ↔ IsIndexOf kind index }
 {
     match kind {
-        Kind::Directory | Kind::Link => index == 0,
-        Kind::File => true,
+        Kind::Directory | Kind::File => true,
+        Kind::Link => index == 0,
     }
 }
 

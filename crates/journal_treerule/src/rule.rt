@@ -22,9 +22,10 @@ pub trait TreeRule: MapRule {
     ghost admits_tree: { (m : Map) → IsTreeMap m → Self.statement m };
 }
 
-/// The rule of a sound tree: the disk is cut for a tree and has its description, each inode is
-/// sound, each block that an inode has is its own, and each node but the root is named by one entry
-/// of a directory that is reached from the root.
+/// The rule of a sound tree. The disk is cut for a tree and has its description, each inode is
+/// sound, and each block that an inode has is its own. Each node but the root is named by the entry
+/// at its home's place, in a directory that is reached from the root, and by a second one where its
+/// name would not be looked for there.
 ///
 /// It keeps an allocator, for the tables of `admit`.
 #[derive(Drop)]

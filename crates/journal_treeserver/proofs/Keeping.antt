@@ -1,5 +1,6 @@
 -- The results of a call that was done, which are kept.
-use Rattle.std.proofs.Common.{◌≡◌, ℕ, List, [], Bool, true, false, Option, Some, None, Result, Ok, Err, refl, sym, ap, subst, ◌∙◌}
+use Rattle.std.proofs.Common.{◌≡◌, ℕ, ◌-◌, List, [], ◌++◌, length, take, drop, length-append, Bool, true, false, Option, Some, None, Result, Ok, Err, refl, sym, ap, subst, ◌∙◌, arith}
+use Rattle.std.proofs.Math.Seq.{take-length, drop-append_seam}
 use Rattle.std.specs.Prelude.{◌&&◌, IsOk, IsSome}
 use Rattle.std.proofs.lemmas.List.{append-nil}
 use Rattle.journal_world.specs.Histories.{Entry}
@@ -182,6 +183,14 @@ keeps S wait record_bytes text xid caller asked now old new results sent comes k
       done = was.1;
       is_text = is_text ∙ ap (λ (r : Results). outcome_text S.disk xid (told r)) was.2;
     }
+
+-- what was written behind other bytes
+pub written-behind : (old new shown text : List ℕ) (begun : ℕ) → shown ≡ new → begun ≡ length old → new ≡ old ++ text → take (length shown - begun) (drop begun shown) ≡ text
+written-behind old new shown text begun shown_is begun_is new_is =
+    (λ z. take (length ((shown_is ∙ new_is) z) - begun_is z) (drop (begun_is z) ((shown_is ∙ new_is) z)))
+    ∙ ap (take (length (old ++ text) - length old)) (drop-append_seam old text)
+    ∙ ap (λ n. take n text) (let l = length-append old text in let e : length (old ++ text) - length old ≡ length text = omega (arith, l) in e)
+    ∙ take-length text
 
 -- also as the call was sent
 pub kept_as_sent : (cut own_cut : Cut) (export own_export : Export) (record_bytes text shown : List ℕ) (front seen : List Entry) → cut ≡ own_cut → export ≡ own_export → shown ≡ text → front ≡ seen

@@ -1,5 +1,5 @@
 -- The meaning of the code's values.
-use Rattle.std.specs.Prelude.{ℕ, ◌≡◌, false, List, Option, Some, None}
+use Rattle.std.specs.Prelude.{ℕ, ◌≡◌, ◌++◌, false, List, Option, Some, None}
 use Rattle.journal_history.specs.Tokens.{SessionState, CommitPlace}
 use Rattle.journal_inode.specs.declared.node.Time.{Time as Moment}
 use Rattle.journal_protocol.specs.declared.held_reply.HeldReply.{HeldReply}

@@ -1,5 +1,5 @@
 // The reply to a call.
-ghost use Rattle.std.specs.Prelude.{◌≡◌, ℕ, List, IfOk, OnErr, Some, None, false};
+ghost use Rattle.std.specs.Prelude.{◌≡◌, ◌++◌, ℕ, List, IfOk, OnOk, OnErr, Some, None, false};
 ghost use Rattle.journal_world.specs.Histories.{Entry};
 ghost use Rattle.journal_rpc.specs.Calls.{message};
 ghost use Rattle.journal_rpc.specs.CallViews.{message_of};

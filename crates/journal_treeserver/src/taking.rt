@@ -48,22 +48,26 @@ const WRITE: Need = Need {
     blocks: 20,
 };
 
-// A new node, and a further block of its directory.
+// The blocks that a directory may get at once: one for the entry, an index block with its number,
+// and the block with the number of that.
+const DIRECTORY_BLOCKS: u64 = 3;
+
+// A new node, and blocks of its directory. One more is drawn, since another call may take one.
 const NODE: Need = Need {
     numbers: 2,
-    blocks: 2,
+    blocks: DIRECTORY_BLOCKS as usize + 1,
 };
 
-// A new symbolic link, the block of its text, and a further block of its directory.
+// A new symbolic link, the block of its text, and blocks of its directory.
 const LINK: Need = Need {
     numbers: 2,
-    blocks: 4,
+    blocks: DIRECTORY_BLOCKS as usize + 3,
 };
 
-// A further block of a directory.
+// Blocks of a directory.
 const ENTRY: Need = Need {
     numbers: 0,
-    blocks: 2,
+    blocks: DIRECTORY_BLOCKS as usize + 1,
 };
 
 // The numbers and blocks that are drawn for a call.
@@ -149,7 +153,7 @@ fn taken_by(results: &TreeResults) -> Taken {
     match results {
         TreeResults::Made(Ok(made)) => Taken {
             number: Some(made.node.number),
-            blocks: growth(&made.directory).saturating_add(text_blocks(made)),
+            blocks: directory_growth(&made.directory).saturating_add(text_blocks(made)),
         },
         TreeResults::Write {
             outcome: Ok(changed),
@@ -160,7 +164,7 @@ fn taken_by(results: &TreeResults) -> Taken {
         },
         TreeResults::Renamed(Ok(renamed)) => Taken {
             number: None,
-            blocks: growth(&renamed.goal),
+            blocks: directory_growth(&renamed.goal),
         },
         _ => Taken {
             number: None,
@@ -175,6 +179,11 @@ fn text_blocks(made: &Made) -> u64 {
         Kind::Link => 1,
         Kind::Directory | Kind::File => 0,
     }
+}
+
+// By how many blocks a directory has grown, at most. It may have holes.
+fn directory_growth(directory: &Changed) -> u64 {
+    growth(directory).min(DIRECTORY_BLOCKS)
 }
 
 // By how many blocks a node has grown.

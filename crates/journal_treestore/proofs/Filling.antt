@@ -11,7 +11,7 @@ use Rattle.journal_treestore.specs.Views.{Held, Seen, View, block_at, zero_block
 use Rattle.journal_treestore.specs.Views.Seen.{used}
 use Rattle.journal_treestore.specs.Sound.{IsHung, IsSoundInode, IsSoundView}
 use Rattle.journal_treestore.specs.Steps.{Filling, IsFilling, filled_held, text_block, filled_view, filled_node, FillingShows}
-use Rattle.journal_treestore.proofs.Indexing.{at-direct, first-after, plain-sound}
+use Rattle.journal_treestore.proofs.Indexing.{at-direct, at-index, begin-index, first-after, plain-sound}
 use Rattle.journal_treestore.proofs.Changing.{AreInodes, tree-inode, homes-inode, entries-inode, inodes-inode}
 use Rattle.journal_treestore.proofs.Planting.{with_home-again}
 use Rattle.journal_treestore.proofs.Spare.{spare_view, spare-block-here, spare-owner-here, inodes-spare, tree-spare, all-entries-spare}
@@ -44,7 +44,7 @@ module _ (V : View) (f : Filling) (sound : IsSoundView V) (filling : IsFilling V
       ∙ first-after V f.n f.h old j (let s = filling.sized in let few = filling.few in omega (arith, s, few, other))
 
   none : f.h.index ≡ 0
-  none = old.plain (λ e. absurd (cc (sym filling.kind ∙ e)))
+  none = sym (at-index V f.h) ∙ old.after 2147483648 (subst (λ b. f.h.size ≤ b) (sym begin-index) (let s = filling.sized in let few = filling.few in omega (arith, s, few)))
 
   -- its inode is sound
   new : IsSoundInode U f.n k

@@ -1,156 +1,136 @@
--- A directory gets its next block.
-use Rattle.std.proofs.Common.{◌≡◌, ◌≢◌, ℕ, ◌+◌, ◌*◌, ◌/◌, ◌%◌, ◌<◌, ◌≤◌, cond, length, Some, refl, sym, ap, subst, ◌⊎◌, inl, inr, ◌∙◌, arith}
-use Rattle.std.specs.Prelude.{option_map}
-use Rattle.std.proofs.lemmas.Bool.{cases_eq, eq-eqb, ne_eqb, le-ltb}
-use Rattle.journal_tree.specs.Trees.{Body, with_slot}
+-- A directory gets a block: it has the places of that, and a node may be put there at once.
+use Rattle.std.proofs.Common.{◌≡◌, ◌≢◌, ℕ, ◌+◌, ◌*◌, ◌/◌, ◌<◌, ◌≤◌, true, cond, Option, Some, None, refl, sym, ap, subst, ◌⊎◌, inl, inr, ◌∙◌, arith}
+use Rattle.std.specs.Prelude.{option_map, max, nat_lt}
+use Rattle.std.proofs.lemmas.Bool.{cases_eq, cases_lt, eq-eqb, ne_eqb, lt-ltb, le-ltb}
+use Rattle.journal_tree.specs.declared.limits.TheConstants.{MOST_PLACES}
+use Rattle.journal_tree.specs.declared.time.Time.{Time}
+use Rattle.journal_tree.specs.Trees.{Node, Tree, with_node, is_directory}
 use Rattle.journal_tree.specs.Trees.Body.{directory}
-use Rattle.journal_tree.specs.Changes.{grown_body}
-use Rattle.journal_treestore.specs.declared.owner.Owner.{Owner}
-use Rattle.journal_treestore.specs.Entries.{no_entry, entry_from}
-use Rattle.journal_treestore.specs.Views.{Held, Seen, View, block_at, with_owner, with_block, zero_block, node_of, body_of, slot_of, tree_of, entry_in, entry_by, entry_of, entry_at, home_in, homes}
-use Rattle.journal_treestore.specs.Views.Seen.{used}
-use Rattle.journal_treestore.specs.Sound.{IsHung, IsSoundInode, IsSoundView}
-use Rattle.journal_treestore.specs.Steps.{Growth, IsGrowth, grown_held, grown_view, widened, widen, GrowingShows}
-use Rattle.journal_treestore.proofs.Recording.{zero-entries, zero-long}
-use Rattle.journal_treestore.proofs.Indexing.{first-after, first-owned, first-there, first-sized, plain-sound}
-use Rattle.journal_treestore.proofs.Changing.{tree-inode, homes-inode, AreInodes, inode-same, inode-other}
-use Rattle.journal_treestore.proofs.Planting.{with_home-again}
-use Rattle.journal_treestore.proofs.Spare.{nobody_has_first, spare-block, spare-block-here, spare-owner, spare-owner-here, inodes-spare, tree-spare, entry-spare, entries-spare}
+use Rattle.journal_tree.specs.Rule.{stem_of, stems, IsTree, HasTree}
+use Rattle.journal_tree.specs.Fit.{IsFit, HasFit}
+use Rattle.journal_tree.specs.Changes.{grown_body, opened, touch_place}
+use Rattle.journal_tree.proofs.Stems.{with_stem}
+use Rattle.journal_tree.proofs.Bounds.{grown-body-fits}
+use Rattle.journal_tree.proofs.Changing.{stems-with_slot, HasTree-place, same_generation}
+use Rattle.journal_treestore.specs.declared.place.TheConstants.{MOST_DISK_BLOCKS, MOST_NUMBERS}
+use Rattle.journal_treestore.specs.Views.{Held, Seen, View, body_of, node_of, slot_of, tree_of}
+use Rattle.journal_treestore.specs.Sound.{IsSoundView}
+use Rattle.journal_treestore.specs.Steps.{IsSameForm, IsNodeStep, IsGrowth, widened, widen, Shows, GrowingShows, GrowingStaysSound}
+use Rattle.journal_treestore.proofs.Viewing.{inode-node}
+use Rattle.journal_treestore.proofs.Stepping.{tree-step, shows-step}
 
-module _ (V : View) (sound : IsSoundView V) (g : Growth) (growth : IsGrowth V g) where
-  abbrev V1 : View
-  V1 = with_owner (with_block V g.b (zero_block)) g.b (record { number = g.d; place = g.j })
+-- the stems are those of a directory in which a name is put
+same_stems : (T : Tree) (d place : ℕ) (now : Time) → stems (widen T d place) ≡ stems (touch_place T d place now)
+same_stems T d place now =
+    stems-with_slot T d (record { generation = (T.at d).generation; node = option_map (widened place) (T.at d).node })
+    ∙ ap (with_stem (stems T) d) (by (T.at d).node)
+    ∙ sym (stems-with_slot T d (record { generation = (T.at d).generation; node = option_map (opened place now) (T.at d).node }))
+  where
+    by : (o : Option Node) → option_map stem_of (option_map (widened place) o) ≡ option_map stem_of (option_map (opened place now) o)
+    by None = refl
+    by (Some x) = refl
 
-  old : IsSoundInode V g.d g.h
-  old = sound.inodes g.d g.h growth.is
+widened-tree : (T : Tree) (d : ℕ) (x : Node) (place : ℕ) → HasTree T → (T.at d).node ≡ Some x → is_directory x.body ≡ true → HasTree (widen T d place)
+widened-tree T d x place tree is kind = subst (IsTree T.numbers) (sym (same_stems T d place x.attributes.mtime)) (HasTree-place T d x place x.attributes.mtime tree is kind).0
 
-  apart : (n : ℕ) (h : Held) (j : ℕ) → V.inode n ≡ used h → h.blocks j ≢ g.b
-  apart n h j is = nobody_has_first V g.b sound growth.some growth.unowned n h j is
+widened-node : (place : ℕ) (x : Node) → place < MOST_PLACES → IsFit x → IsFit (widened place x)
+widened-node place x low f = record { home = f.home; place = f.place; body = grown-body-fits place x.body low f.body; mode = f.mode; owner = f.owner; group = f.group; mtime = f.mtime; ctime = f.ctime; verifier = f.verifier }
 
-  abbrev owner : Owner
-  owner = record { number = g.d; place = g.j }
+widened-fit : (T : Tree) (d : ℕ) (x : Node) (place : ℕ) → (T.at d).node ≡ Some x → place < MOST_PLACES → HasFit T → HasFit (widen T d place)
+widened-fit T d x place is low fit = record {
+  nodes = λ n y at. nodes n y at (cases_eq n d);
+  born = λ n y at. subst (λ g. 1 ≤ g) (sym (generation n)) (born n y at (cases_eq n d));
+  young = λ n. subst (λ g. g ≤ 4294967295) (sym (generation n)) (fit.young n);
+}
+  where
+    generation : (n : ℕ) → ((widen T d place).at n).generation ≡ (T.at n).generation
+    generation n = same_generation T d n (option_map (widened place) (T.at d).node)
 
-  block-other : (b : ℕ) → b ≢ g.b → V1.block b ≡ V.block b
-  block-other b other = spare-block V sound g.b growth.some growth.unowned (zero_block) owner b other
+    here : (n : ℕ) → n ≡ d → ((widen T d place).at n).node ≡ Some (widened place x)
+    here n same =
+        ap (λ t. (cond t (record { generation = (T.at d).generation; node = option_map (widened place) (T.at d).node }) (T.at n)).node) (eq-eqb n d same)
+        ∙ ap (option_map (widened place)) is
 
-  block-here : V1.block g.b ≡ zero_block
-  block-here = spare-block-here V sound g.b growth.some growth.unowned (zero_block) owner
+    other : (n : ℕ) → n ≢ d → ((widen T d place).at n).node ≡ (T.at n).node
+    other n apart = ap (λ t. (cond t (record { generation = (T.at d).generation; node = option_map (widened place) (T.at d).node }) (T.at n)).node) (ne_eqb n d apart)
 
-  owner-other : (b : ℕ) → b ≢ g.b → V1.owner b ≡ V.owner b
-  owner-other b other = spare-owner V sound g.b growth.some growth.unowned (zero_block) owner b other
+    nodes : (n : ℕ) (y : Node) → ((widen T d place).at n).node ≡ Some y → (n ≡ d) ⊎ (n ≡ d → ⊥) → IsFit y
+    nodes n y at (inl same) = let e : Some (widened place x) ≡ Some y = sym (here n same) ∙ at in let q : widened place x ≡ y = cc in subst IsFit q (widened-node place x low (fit.nodes d x is))
+    nodes n y at (inr apart) = fit.nodes n y (sym (other n apart) ∙ at)
 
-  owner-here : V1.owner g.b ≡ record { number = g.d; place = g.j }
-  owner-here = spare-owner-here V sound g.b growth.some growth.unowned (zero_block) owner
+    born : (n : ℕ) (y : Node) → ((widen T d place).at n).node ≡ Some y → (n ≡ d) ⊎ (n ≡ d → ⊥) → 1 ≤ (T.at n).generation
+    born n y at (inl same) = fit.born n x (ap (λ i. (T.at i).node) same ∙ is)
+    born n y at (inr apart) = fit.born n y (sym (other n apart) ∙ at)
 
-  blocks-other : (l : ℕ) → l ≢ g.j → (grown_held g).blocks l ≡ g.h.blocks l
-  blocks-other l other = ap (λ t. cond t g.b (g.h.blocks l)) (ne_eqb l g.j other)
+-- the greater of two numbers
+larger : (a b : ℕ) → b ≤ a → max a b ≡ a
+larger a b less = grind arith
 
-  blocks-here : (grown_held g).blocks g.j ≡ g.b
-  blocks-here = ap (λ t. cond t g.b (g.h.blocks g.j)) (eq-eqb g.j g.j refl)
+smaller : (a b : ℕ) → a ≤ b → max a b ≡ b
+smaller a b less = grind arith
 
-  -- the inodes are sound
-  others : AreInodes V1
-  others = inodes-spare V sound g.b growth.some growth.unowned (zero_block) owner
-
-  grown : IsSoundInode V1 g.d (grown_held g)
-  grown =
-      plain-sound V1 g.d (grown_held g) (old.plain (λ e. absurd (cc (sym growth.kind ∙ e)))) (λ l past. blocks-other l (not_past l past) ∙ old.first l past)
-      (λ l some. owned l some (cases_eq l g.j))
-      (λ l some. there l some (cases_eq l g.j))
-      (λ l far. blocks-other l (not_j l far) ∙ first-after V g.d g.h old l (shorter l far))
-      (λ l some. sized l some (cases_eq l g.j))
-      (λ _. (g.j + 1, refl))
-    where
-      not_past : (l : ℕ) → 48 ≤ l → l ≢ g.j
-      not_past l past e = absurd (let f = growth.few in omega (arith, past, e, f))
-
-      not_j : (l : ℕ) → 4096 * (g.j + 1) ≤ 4096 * l → l ≢ g.j
-      not_j l far e = absurd (omega (arith, far, e))
-
-      shorter : (l : ℕ) → 4096 * (g.j + 1) ≤ 4096 * l → g.h.size ≤ 4096 * l
-      shorter l far = let e = growth.next in omega (arith, far, e)
-
-      was : (l : ℕ) → (grown_held g).blocks l ≢ 0 → l ≢ g.j → g.h.blocks l ≢ 0
-      was l some other e = some (blocks-other l other ∙ e)
-
-      owned : (l : ℕ) → (grown_held g).blocks l ≢ 0 → (l ≡ g.j) ⊎ (l ≡ g.j → ⊥) → V1.owner ((grown_held g).blocks l) ≡ record { number = g.d; place = l }
-      owned l some (inl same) = ap V1.owner (ap (grown_held g).blocks same ∙ blocks-here) ∙ owner-here ∙ ap (λ j. record { number = g.d; place = j }) (sym same)
-      owned l some (inr other) = ap V1.owner (blocks-other l other) ∙ owner-other (g.h.blocks l) (apart g.d g.h l growth.is) ∙ first-owned V g.d g.h old l (was l some other)
-
-      there : (l : ℕ) → (grown_held g).blocks l ≢ 0 → (l ≡ g.j) ⊎ (l ≡ g.j → ⊥) → (V.first_data ≤ (grown_held g).blocks l) × ((grown_held g).blocks l < V.first_data + V.data_blocks)
-      there l some (inl same) = subst (λ b. (V.first_data ≤ b) × (b < V.first_data + V.data_blocks)) (sym (ap (grown_held g).blocks same ∙ blocks-here)) (growth.from, growth.to)
-      there l some (inr other) = subst (λ b. (V.first_data ≤ b) × (b < V.first_data + V.data_blocks)) (sym (blocks-other l other)) (first-there V g.d g.h old l (was l some other))
-
-      sized : (l : ℕ) → (grown_held g).blocks l ≢ 0 → (l ≡ g.j) ⊎ (l ≡ g.j → ⊥) → length (V1.block ((grown_held g).blocks l)) ≡ 4096
-      sized l some (inl same) = ap (λ b. length (V1.block b)) (ap (grown_held g).blocks same ∙ blocks-here) ∙ ap length block-here ∙ zero-long
-      sized l some (inr other) = ap (λ b. length (V1.block b)) (blocks-other l other) ∙ ap length (block-other (g.h.blocks l) (apart g.d g.h l growth.is)) ∙ first-sized V g.d g.h old l (was l some other)
-
-  pub inodes-grown : AreInodes (grown_view V g)
-  unfolding block_at
-  inodes-grown n h is = by (cases_eq n g.d)
-    where
-      carry : IsSoundInode V1 n h → IsSoundInode (grown_view V g) n h
-      carry s = record { owned = s.owned; there = s.there; after = s.after; sized = s.sized; whole = s.whole; plain = s.plain; first = s.first }
-
-      by : (n ≡ g.d) ⊎ (n ≡ g.d → ⊥) → IsSoundInode (grown_view V g) n h
-      by (inl same) =
-          let e : used (grown_held g) ≡ used h = sym (inode-same V1 g.d (used (grown_held g))) ∙ ap (grown_view V g).inode (sym same) ∙ is in
-          let q : grown_held g ≡ h = cc in
-          carry (subst (λ n. IsSoundInode V1 n h) (sym same) (subst (IsSoundInode V1 g.d) q grown))
-      by (inr other) = carry (others n h (sym (inode-other V1 g.d n (used (grown_held g)) other) ∙ is))
+module _ (V W : View) (d : ℕ) (h k : Held) (j : ℕ) (sound : IsSoundView V) (growth : IsGrowth V W d h k j) where
+  step : IsNodeStep V W d h k
+  step = growth.step
 
   -- the tree's directory has the places
-  pub tree-grown : (q : ℕ) → q < 512 → tree_of (grown_view V g) ≡ widen (tree_of V) g.d (512 * g.j + q)
+  pub tree-grown : (q : ℕ) → q < 512 → tree_of W ≡ widen (tree_of V) d (512 * j + q)
   tree-grown q low =
-      tree-inode V1 g.d (used (grown_held g))
-      ∙ ap (λ T. with_slot T g.d (slot_of V1 (used (grown_held g)))) (tree-spare V sound g.b growth.some growth.unowned (zero_block) owner)
-      ∙ ap (λ x. with_slot (tree_of V) g.d (record { generation = g.h.generation; node = Some x })) (sym node)
-      ∙ ap (λ (y : Seen). with_slot (tree_of V) g.d (record { generation = (slot_of V y).generation; node = option_map (widened (512 * g.j + q)) (slot_of V y).node })) (sym growth.is)
+      tree-step V W d h k sound step
+      ∙ ap (λ x. with_node (tree_of V) d (Some x)) (sym node)
+      ∙ ap (λ (y : Seen). with_node (tree_of V) d (option_map (widened (512 * j + q)) (slot_of V y).node)) (sym step.is)
     where
-      past : g.h.size / 8 ≤ 512 * g.j + q
-      past = let e = growth.next in omega (arith, e)
+      sized : max h.size (4096 * (j + 1)) / 8 ≡ k.size / 8
+      sized = ap (λ n. n / 8) (sym growth.size)
 
-      places : 512 * ((512 * g.j + q) / 512 + 1) ≡ 4096 * (g.j + 1) / 8
-      places = omega (arith, low)
+      whole : (blocks : ℕ) × (h.size ≡ 4096 * blocks)
+      whole = (sound.inodes d h step.is).whole growth.kind
 
-      grows : grown_body (512 * g.j + q) (body_of V g.h.kind g.h) ≡ body_of V1 g.h.kind (grown_held g)
+      grows : grown_body (512 * j + q) (body_of V h.kind h) ≡ body_of W k.kind k
       grows =
-          ap (λ kind. grown_body (512 * g.j + q) (body_of V kind g.h)) growth.kind
-          ∙ ap (λ t. directory (cond t (g.h.size / 8) (512 * ((512 * g.j + q) / 512 + 1)))) (le-ltb (512 * g.j + q) (g.h.size / 8) past)
-          ∙ ap directory places
-          ∙ sym (ap (λ kind. body_of V1 kind (grown_held g)) growth.kind)
+          ap (λ kind. grown_body (512 * j + q) (body_of V kind h)) growth.kind
+          ∙ ap directory (by (cases_lt (512 * j + q) (h.size / 8)))
+          ∙ sym (ap (λ kind. body_of W kind k) growth.still)
+        where
+          by : (512 * j + q < h.size / 8) ⊎ (h.size / 8 ≤ 512 * j + q) → cond (nat_lt (512 * j + q) (h.size / 8)) (h.size / 8) (512 * ((512 * j + q) / 512 + 1)) ≡ k.size / 8
+          by (inl inside) =
+              ap (λ t. cond t (h.size / 8) (512 * ((512 * j + q) / 512 + 1))) (lt-ltb (512 * j + q) (h.size / 8) inside)
+              ∙ ap (λ n. n / 8) (sym (larger h.size (4096 * (j + 1)) (let e = whole.1 in omega (arith, e, inside, low))))
+              ∙ sized
+          by (inr past) =
+              ap (λ t. cond t (h.size / 8) (512 * ((512 * j + q) / 512 + 1))) (le-ltb (512 * j + q) (h.size / 8) past)
+              ∙ (let e : 512 * ((512 * j + q) / 512 + 1) ≡ 4096 * (j + 1) / 8 = omega (arith, low) in e)
+              ∙ ap (λ n. n / 8) (sym (smaller h.size (4096 * (j + 1)) (let e = whole.1 in omega (arith, e, past, low))))
+              ∙ sized
 
-      node : widened (512 * g.j + q) (node_of V g.h) ≡ node_of V1 (grown_held g)
-      node = ap (λ (body : Body). record { attributes = g.h.attributes; home = g.h.home; body = body }) grows
+      node : widened (512 * j + q) (node_of V h) ≡ node_of W k
+      node = λ z. record { attributes = sym growth.attributes z; home = sym step.home z; body = grows z }
 
-  -- entries and homes stay
-  pub entries-grown : entry_at (grown_view V g) ≡ entry_at V
-  entries-grown = λ z. λ a. λ p. each a p (cases_eq a g.d) z
-    where
-      new_block : (p : ℕ) → (p / 512 ≡ g.j) ⊎ (p / 512 ≡ g.j → ⊥) → entry_in V1 ((grown_held g).blocks (p / 512)) (p % 512) ≡ entry_in V (g.h.blocks (p / 512)) (p % 512)
-      new_block p (inl same) =
-          ap (λ b. entry_in V1 b (p % 512)) (ap (grown_held g).blocks same ∙ blocks-here)
-          ∙ ap (λ t. cond t no_entry (entry_from (V1.block g.b) (p % 512))) (ne_eqb g.b 0 growth.some)
-          ∙ ap (λ w. entry_from w (p % 512)) block-here
-          ∙ zero-entries (p % 512) (omega arith)
-          ∙ sym (ap (λ b. entry_in V b (p % 512)) (first-after V g.d g.h old (p / 512) (let e = growth.next in omega (arith, e, same))))
-      new_block p (inr other) = ap (λ b. entry_in V1 b (p % 512)) (blocks-other (p / 512) other) ∙ entry-spare V sound g.b growth.some growth.unowned (zero_block) owner g.d p g.h growth.is
-
-      each : (a p : ℕ) → (a ≡ g.d) ⊎ (a ≡ g.d → ⊥) → entry_at (grown_view V g) a p ≡ entry_at V a p
-      each a p (inl same) =
-          ap (λ a. entry_at (grown_view V g) a p) same
-          ∙ ap (λ y. entry_of V1 y p) (inode-same V1 g.d (used (grown_held g)))
-          ∙ ap (λ kind. entry_by V1 kind (grown_held g) p) growth.kind
-          ∙ new_block p (cases_eq (p / 512) g.j)
-          ∙ sym (ap (λ a. entry_at V a p) same ∙ ap (λ y. entry_of V y p) growth.is ∙ ap (λ kind. entry_by V kind g.h p) growth.kind)
-      each a p (inr other) = ap (λ y. entry_of V1 y p) (inode-other V1 g.d a (used (grown_held g)) other) ∙ entries-spare V sound g.b growth.some growth.unowned (zero_block) owner a p (V.inode a) refl
-
-  pub homes-grown : homes (grown_view V g) ≡ homes V
-  homes-grown = homes-inode V1 g.d (used (grown_held g)) ∙ with_home-again (homes V) g.d (Some g.h.home) (ap home_in growth.is)
+  pub growing-is-shown : (q : ℕ) → q < 512 → Shows W (widen (tree_of V) d (512 * j + q))
+  growing-is-shown q low = let shows = shows-step V W d h k sound step in record { tree = tree-grown q low; inodes = shows.inodes; hung = shows.hung }
 
 pub growing-shows : GrowingShows
-growing-shows V g q sound growth low = record {
-  tree = tree-grown V sound g growth q low;
-  inodes = inodes-grown V sound g growth;
-  hung = subst (λ H. IsHung H (entry_at (grown_view V g))) (sym (homes-grown V sound g growth)) (subst (IsHung (homes V)) (sym (entries-grown V sound g growth)) sound.hung);
+growing-shows V W d h k j q sound growth low = growing-is-shown V W d h k j sound growth q low
+
+pub growing-stays-sound : GrowingStaysSound
+growing-stays-sound V W d h k j sound growth = record {
+  few_numbers = subst (λ n. n ≤ MOST_NUMBERS) (sym form.numbers) sound.few_numbers;
+  few_blocks = subst (λ n. n ≤ MOST_DISK_BLOCKS) (sym (ap (λ n. n + W.data_blocks) form.first_data ∙ ap (λ n. V.first_data + n) form.data_blocks)) sound.few_blocks;
+  no_data = subst (λ n. 1 ≤ n) (sym form.first_data) sound.no_data;
+  tree = subst HasTree (sym shows.tree) (widened-tree (tree_of V) d (node_of V h) (512 * j + 0) sound.tree node kind);
+  fit = subst HasFit (sym shows.tree) (widened-fit (tree_of V) d (node_of V h) (512 * j + 0) node (let f = growth.few in omega (arith, f)) sound.fit);
+  inodes = shows.inodes;
+  hung = shows.hung;
 }
+  where
+    form : IsSameForm V W
+    form = growth.step.form
+
+    shows : Shows W (widen (tree_of V) d (512 * j + 0))
+    shows = growing-is-shown V W d h k j sound growth 0 (omega arith)
+
+    node : ((tree_of V).at d).node ≡ Some (node_of V h)
+    node = inode-node V d h growth.step.is
+
+    kind : is_directory (node_of V h).body ≡ true
+    kind = ap (λ k. is_directory (body_of V k h)) growth.kind

@@ -2,11 +2,11 @@
 use Rattle.std.proofs.Common.{◌≡◌, ◌≢◌, ℕ, zero, suc, ◌++◌, ◌+◌, ◌-◌, ◌*◌, ◌/◌, ◌%◌, ◌<◌, ◌≤◌, ◌&&◌, Bool, false, cond, eqb, List, length, refl, sym, ap, subst, ◌⊎◌, inl, inr, ◌∙◌, arith}
 use Rattle.std.specs.Prelude.{nat_lt, nat_le}
 use Rattle.std.proofs.lemmas.Bool.{cases_eq, cases_lt, eq-eqb, ne_eqb, lt-ltb, le-ltb, le-leb, lt-leb, and_from, and_left, and_right}
-use Rattle.journal_tree.specs.declared.reply.Kind.TheVariants.{Directory, File}
+use Rattle.journal_tree.specs.declared.reply.Kind.TheVariants.{Directory}
 use Rattle.journal_treestore.specs.declared.owner.Owner.{Owner}
 use Rattle.journal_treestore.specs.declared.inode.Head.{Head}
 use Rattle.journal_treestore.specs.Bytes.{word_at}
-use Rattle.journal_treestore.specs.Views.{Held, Seen, View, held_of, with_inode, with_owner, with_block, zero_block, bytes_in, bytes_of, number_in, index_block, block_at, begin_at}
+use Rattle.journal_treestore.specs.Views.{Held, Seen, View, held_of, with_inode, with_owner, with_block, zero_block, bytes_in, bytes_of, number_in, index_block, block_at, begin_at, directory_block}
 use Rattle.journal_treestore.specs.Sound.{IsSoundInode}
 
 -- ── at each kind of place ──
@@ -110,10 +110,6 @@ module _ (V : View) (h : Held) where
       by (PlaceOf.leaf_place i low is) = ap (block_at V h) is ∙ at-leaf i low ∙ no_leaf i ∙ sym (first p (omega (arith, is)))
       by (PlaceOf.no_place past other far) = at-none p past other far ∙ sym (first p (omega (arith, past)))
 
--- a directory and a link have their first blocks alone, whatever the blocks of the disk
-pub plain-blocks : (V W : View) (n : ℕ) (h : Held) → IsSoundInode V n h → h.kind ≢ File → (p : ℕ) → block_at W h p ≡ h.blocks p
-plain-blocks V W n h s kind p = no-index W h (s.plain kind) s.first p
-
 -- ── where a block begins ──
 
 abbrev begin_by : Bool → Bool → ℕ → ℕ
@@ -139,6 +135,13 @@ begin-leaf i =
     ∙ ap (λ t. begin_by false t (2147483649 + i)) (ne_eqb (2147483649 + i) 2147483648 (λ e. absurd (omega (arith, e))))
     ∙ ap (λ n. 4096 * (48 + 1024 * n)) (let e : 2147483649 + i - 2147483649 ≡ i = omega arith in e)
 
+-- what is not longer than its first blocks has those alone, whatever the blocks of the disk
+pub short-blocks : (V W : View) (n : ℕ) (h : Held) → IsSoundInode V n h → h.size ≤ 196608 → (p : ℕ) → block_at W h p ≡ h.blocks p
+short-blocks V W n h s short p = no-index W h (no_index V n h s short) s.first p
+  where
+    no_index : (V : View) (n : ℕ) (h : Held) → IsSoundInode V n h → h.size ≤ 196608 → h.index ≡ 0
+    no_index V n h s short = sym (at-index V h) ∙ s.after 2147483648 (subst (λ b. h.size ≤ b) (sym begin-index) short)
+
 -- no first block lies after the size
 pub first-after : (V : View) (n : ℕ) (h : Held) → IsSoundInode V n h → (j : ℕ) → h.size ≤ 4096 * j → h.blocks j ≡ 0
 first-after V n h s j far = by (cases_lt j 48)
@@ -146,6 +149,27 @@ first-after V n h s j far = by (cases_lt j 48)
     by : (j < 48) ⊎ (48 ≤ j) → h.blocks j ≡ 0
     by (inl low) = sym (at-direct V h j low) ∙ s.after j (subst (λ b. h.size ≤ b) (sym (begin-content j (omega (arith, low)))) far)
     by (inr past) = s.first j past
+
+-- a block of a directory is one of its first, or one whose number lies in index block 0
+pub directory-first : (V : View) (h : Held) (j : ℕ) → j < 48 → directory_block V h j ≡ h.blocks j
+directory-first V h j low = ap (λ t. cond t (block_at V h j) 0) (lt-ltb j 388 (omega (arith, low))) ∙ at-direct V h j low
+
+pub directory-level : (V : View) (h : Held) (j : ℕ) → 48 ≤ j → j < 388 → directory_block V h j ≡ number_in V (index_block V h 0) (j - 48)
+directory-level V h j past low =
+    ap (λ t. cond t (block_at V h j) 0) (lt-ltb j 388 low)
+    ∙ at-content V h j past (omega (arith, low))
+    ∙ ap (λ i. number_in V (index_block V h i) ((j - 48) % 1024)) (let e : (j - 48) / 1024 ≡ 0 = omega (arith, past, low) in e)
+    ∙ ap (number_in V (index_block V h 0)) (let e : (j - 48) % 1024 ≡ j - 48 = omega (arith, past, low) in e)
+
+-- nor does a block of a directory lie after the size
+pub directory-after : (V : View) (n : ℕ) (h : Held) → IsSoundInode V n h → (j : ℕ) → h.size ≤ 4096 * j → directory_block V h j ≡ 0
+directory-after V n h s j far = by (cases_lt j 388)
+  where
+    by : (j < 388) ⊎ (388 ≤ j) → directory_block V h j ≡ 0
+    by (inl low) =
+        ap (λ t. cond t (block_at V h j) 0) (lt-ltb j 388 low)
+        ∙ s.after j (subst (λ b. h.size ≤ b) (sym (begin-content j (omega (arith, low)))) far)
+    by (inr past) = ap (λ t. cond t (block_at V h j) 0) (le-ltb j 388 past)
 
 -- a first block that is there is one of the first 48
 pub low-first : (V : View) (n : ℕ) (h : Held) → IsSoundInode V n h → (j : ℕ) → h.blocks j ≢ 0 → j < 48
@@ -182,7 +206,6 @@ plain-sound V n h none first owned there after sized whole = record {
   after = λ p far. is p ∙ behind p far (cases_lt p 48);
   sized = λ p some. subst (λ b. length (V.block b) ≡ 4096) (sym (is p)) (sized p (was p some));
   whole = whole;
-  plain = λ _. none;
   first = first;
 }
   where
@@ -294,7 +317,6 @@ sound-frame V W n h first_data data_blocks is owners sizes s = record {
   after = λ p far. is p ∙ s.after p far;
   sized = λ p some. subst (λ b. length (W.block b) ≡ 4096) (sym (is p)) (sizes p (was p some));
   whole = s.whole;
-  plain = s.plain;
   first = s.first;
 }
   where

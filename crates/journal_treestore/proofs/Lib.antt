@@ -5,6 +5,7 @@ pub mod Whole
 pub mod Describing
 pub mod Recording
 pub mod Shaping
+pub mod Leveling
 pub mod Placing
 pub mod Viewing
 pub mod Numbering
@@ -18,7 +19,6 @@ pub mod Filling
 pub mod Placed
 pub mod Removing
 pub mod Growing
-pub mod Widening
 pub mod Dropping
 pub mod Renaming
 pub mod Moving
@@ -26,3 +26,4 @@ pub mod Following
 pub mod Merging
 pub mod Keeping
 pub mod Staying
+pub mod Stepping

@@ -1,6 +1,6 @@
 -- A node is put into a directory.
-use Rattle.std.proofs.Common.{◌≡◌, ◌≢◌, ℕ, zero, suc, ◌++◌, take, replicate, ◌+◌, ◌*◌, ◌/◌, ◌<◌, ◌≤◌, cond, List, Option, Some, refl, sym, ap, subst, ◌⊎◌, inl, inr, ◌∙◌, arith}
-use Rattle.std.specs.Prelude.{option_map}
+use Rattle.std.proofs.Common.{◌≡◌, ◌≢◌, ℕ, zero, suc, ◌++◌, take, replicate, ◌+◌, ◌*◌, ◌/◌, ◌%◌, ◌<◌, ◌≤◌, Bool, true, false, cond, List, Option, Some, None, refl, sym, ap, subst, ◌⊎◌, inl, inr, ◌∙◌, arith}
+use Rattle.std.specs.Prelude.{option_map, nat_lt}
 use Rattle.std.proofs.lemmas.List.{take-replicate, replicate-append-replicate}
 use Rattle.std.proofs.lemmas.Bool.{cases_eq, cases_lt, eq-eqb, ne_eqb, lt-ltb}
 use Rattle.journal_tree.specs.declared.limits.TheConstants.{LAST_GENERATION, MOST_PLACES}
@@ -14,25 +14,33 @@ use Rattle.journal_tree.specs.Trees.Body.{directory, file, link}
 use Rattle.journal_tree.specs.Fit.{IsFitBody}
 use Rattle.journal_tree.specs.Op.{IsRoom}
 use Rattle.journal_tree.specs.Changes.{with_times, grown_body, opened, touch_place, planted}
-use Rattle.journal_treestore.specs.Entries.{with_entry}
-use Rattle.journal_treestore.specs.Views.{Held, Seen, View, block_at, zero_block, bytes_in, bytes_of, with_inode, with_block, node_of, body_of, slot_of, tree_of, entry_of, entry_by, entry_at, home_in, homes}
+use Rattle.journal_treestore.specs.declared.entry.Entry.{Entry}
+use Rattle.journal_treestore.specs.Entries.{tag_of}
+use Rattle.journal_treestore.specs.Levels.{IsBlockFor}
+use Rattle.journal_treestore.specs.Positions.{Position, place_at, IsPosition, with_put}
+use Rattle.journal_treestore.specs.Views.{Held, Seen, View, block_at, zero_block, bytes_in, bytes_of, with_inode, node_of, body_of, slot_of, tree_of, entry_in, entry_of, entry_by, entry_at, home_in, homes}
 use Rattle.journal_treestore.specs.Views.Seen.{free, used}
 use Rattle.journal_treestore.specs.Sound.{entry_for, IsHung, IsSoundInode, IsSoundView}
 use Rattle.journal_treestore.specs.Steps.{Spot, place_of, home_of, IsSpot, with_moment, new_held, new_body, new_node, planted_view, PlantingShows}
-use Rattle.journal_treestore.proofs.Recording.{length-with, tag-low, zero_block-is}
+use Rattle.journal_treestore.proofs.Recording.{tag-low, zero_block-is}
 use Rattle.journal_treestore.proofs.Hanging.{with_home, with_place, hang}
 use Rattle.journal_treestore.proofs.Viewing.{inode-node, zero_free, no_node_at}
-use Rattle.journal_treestore.proofs.Indexing.{no-index, first-after, first-sized, plain-sound, bytes_of-frame}
-use Rattle.journal_treestore.proofs.Changing.{tree-inode, homes-inode, entries-inode, AreInodes, inodes-inode, inodes-block, tree-block, entries-block, inode-other}
+use Rattle.journal_treestore.proofs.Indexing.{no-index, directory-after, plain-sound, bytes_of-frame}
+use Rattle.journal_treestore.proofs.Changing.{tree-inode, homes-inode, entries-inode, AreInodes, inodes-inode, inode-other, IsPut, put, entries-put}
 
 -- the directory's entries are those of before
 pub entry_by-moment : (V : View) (h : Held) (now : Time) (kind : Kind) (place : ℕ) → entry_by V kind (with_moment h now) place ≡ entry_by V kind h place
+unfolding block_at
 entry_by-moment V h now Directory place = refl
 entry_by-moment V h now File place = refl
 entry_by-moment V h now Link place = refl
 
 no_entries : (V : View) (s : Spot) (name : List ℕ) (a : Attributes) (kind : Kind) (size : ℕ) (place : ℕ) → entry_by V kind (new_held s name a kind size) place ≡ record { number = 0; tag = 0 }
-no_entries V s name a Directory size place = refl
+no_entries V s name a Directory size place = ap (λ b. entry_in V b (place % 512)) (by (nat_lt (place / 512) 388))
+  where
+    by : (t : Bool) → cond t (block_at V (new_held s name a Directory size) (place / 512)) 0 ≡ 0
+    by true = no-index V (new_held s name a Directory size) refl (λ _ _. refl) (place / 512)
+    by false = refl
 no_entries V s name a File size place = refl
 no_entries V s name a Link size place = refl
 
@@ -56,17 +64,29 @@ with_home-again H n v is = λ z. λ i. by i (cases_eq i n) z
     by i (inl same) = rw (eq-eqb i n same) (sym is ∙ ap H (sym same))
     by i (inr other) = rw (ne_eqb i n other) refl
 
-module _ (V : View) (sound : IsSoundView V) (s : Spot) (spot : IsSpot V s) where
+-- a position lies within its directory
+pub position-inside : (V : View) (d : ℕ) (h : Held) (p : Position) → IsSoundInode V d h → h.kind ≡ Directory → IsPosition V h p → place_at p < h.size / 8
+position-inside V d h p s kind at = by (cases_lt (4096 * p.j) h.size)
+  where
+    by : (4096 * p.j < h.size) ⊎ (h.size ≤ 4096 * p.j) → place_at p < h.size / 8
+    by (inr behind) = absurd (at.some (sym at.is ∙ directory-after V d h s p.j behind))
+    by (inl low) = let w = s.whole kind in let e = w.1 in let q = at.low in omega (arith, e, q, low)
+
+-- a directory of other times is as sound as before
+pub inode-moment : (V : View) (d : ℕ) (h : Held) (now : Time) → IsSoundInode V d h → (g : Held) → used (with_moment h now) ≡ used g → IsSoundInode V d g
+unfolding block_at
+inode-moment V d h now old g is = by (cc)
+  where
+    by : with_moment h now ≡ g → IsSoundInode V d g
+    by same = subst (IsSoundInode V d) same (record { owned = old.owned; there = old.there; after = old.after; sized = old.sized; whole = old.whole; first = old.first })
+
+module _ (V : View) (sound : IsSoundView V) (s : Spot) (name : List ℕ) (spot : IsSpot V s name) where
   head : IsSoundInode V s.d s.h
   head = sound.inodes s.d s.h spot.is
 
   -- the place is one of the directory
   pub inside : place_of s < s.h.size / 8
-  inside = by (cases_lt (4096 * s.j) s.h.size)
-    where
-      by : (4096 * s.j < s.h.size) ⊎ (s.h.size ≤ 4096 * s.j) → place_of s < s.h.size / 8
-      by (inr behind) = absurd (spot.there (first-after V s.d s.h head s.j behind))
-      by (inl low) = let w = head.whole spot.kind in let e = w.1 in let q = spot.low in omega (arith, e, q, low)
+  inside = position-inside V s.d s.h s.at head spot.kind spot.at
 
   not_d : s.n ≢ s.d
   not_d e = absurd (cc (sym spot.free_is ∙ ap V.inode e ∙ spot.is))
@@ -88,9 +108,12 @@ module _ (V : View) (sound : IsSoundView V) (s : Spot) (spot : IsSpot V s) where
       within : place_of s < MOST_PLACES
       within = let f = fits.0 in let i = inside in omega (arith, f, i)
 
-  module _ (name : List ℕ) (a : Attributes) (kind : Kind) (size : ℕ) (now : Time) (plain : kind ≡ Directory → size ≡ 0) where
+  module _ (a : Attributes) (kind : Kind) (size : ℕ) (now : Time) (plain : kind ≡ Directory → size ≡ 0) where
+    abbrev entry : Entry
+    entry = entry_for s.n (home_of s name)
+
     abbrev V1 : View
-    V1 = with_block V (s.h.blocks s.j) (with_entry (V.block (s.h.blocks s.j)) s.q (entry_for s.n (home_of s name)))
+    V1 = with_put V s.at.b s.at.q (entry_for s.n (home_of s name))
 
     abbrev V2 : View
     V2 = with_inode V1 s.d (used (with_moment s.h now))
@@ -101,18 +124,11 @@ module _ (V : View) (sound : IsSoundView V) (s : Spot) (spot : IsSpot V s) where
     small : s.n < 4294967296
     small = let o = spot.on_disk in let few = sound.few_numbers in omega (arith, o, few)
 
-    heads1 : AreInodes V1
-    heads1 = inodes-block V s.d s.h s.j sound.inodes spot.is spot.there (with_entry (V.block (s.h.blocks s.j)) s.q (entry_for s.n (home_of s name))) (length-with (V.block (s.h.blocks s.j)) s.q (entry_for s.n (home_of s name)) (first-sized V s.d s.h head s.j spot.there) spot.low)
+    put1 : IsPut V (with_put V s.at.b s.at.q (entry_for s.n (home_of s name)))
+    put1 = put V s.d s.h s.at (entry_for s.n (home_of s name)) sound.inodes spot.is spot.kind spot.at
 
     heads2 : AreInodes V2
-    unfolding block_at
-    heads2 = inodes-inode V1 s.d (used (with_moment s.h now)) heads1 (λ g is. by g (cc))
-      where
-        old : IsSoundInode V1 s.d s.h
-        old = heads1 s.d s.h spot.is
-
-        by : (g : Held) → with_moment s.h now ≡ g → IsSoundInode V1 s.d g
-        by g is = subst (IsSoundInode V1 s.d) is (record { owned = old.owned; there = old.there; after = old.after; sized = old.sized; whole = old.whole; plain = old.plain; first = old.first })
+    heads2 = inodes-inode V1 s.d (used (with_moment s.h now)) put1.heads (inode-moment V1 s.d s.h now (put1.heads s.d s.h spot.is))
 
     pub inodes-planted : AreInodes (planted_view V s name a kind size now)
     inodes-planted = inodes-inode V2 s.n (used (new_held s name a kind size)) heads2 (λ g is. by g (cc))
@@ -139,7 +155,7 @@ module _ (V : View) (sound : IsSoundView V) (s : Spot) (spot : IsSpot V s) where
         touched : tree_of V2 ≡ touch_place (tree_of V) s.d (place_of s) now
         touched =
             tree-inode V1 s.d (used (with_moment s.h now))
-            ∙ ap (λ T. with_slot T s.d (slot_of V1 (used (with_moment s.h now)))) (tree-block V s.d s.h s.j sound.inodes spot.is spot.there (with_entry (V.block (s.h.blocks s.j)) s.q (entry_for s.n (home_of s name))) spot.kind)
+            ∙ ap (λ T. with_slot T s.d (slot_of V1 (used (with_moment s.h now)))) put1.tree
             ∙ ap (λ x. with_slot (tree_of V) s.d (record { generation = s.h.generation; node = Some x })) (sym node)
             ∙ ap (λ (y : Seen). with_slot (tree_of V) s.d (record { generation = (slot_of V y).generation; node = option_map (opened (place_of s) now) (slot_of V y).node })) (sym spot.is)
 
@@ -167,7 +183,7 @@ module _ (V : View) (sound : IsSoundView V) (s : Spot) (spot : IsSpot V s) where
     hung-planted = subst (λ H. IsHung H (entry_at V3)) (sym homes3) (subst (IsHung (with_home (homes V) s.n (Some (home_of s name)))) (sym entries3) hangs)
       where
         entries1 : entry_at V1 ≡ with_place (entry_at V) s.d (place_of s) (entry_for s.n (home_of s name))
-        entries1 = entries-block V s.d s.h s.j sound.inodes spot.is spot.there s.q (entry_for s.n (home_of s name)) spot.kind spot.low small (tag-low name)
+        entries1 = entries-put V s.d s.h s.at (entry_for s.n (home_of s name)) sound.inodes spot.is spot.kind spot.at (small, tag-low name)
 
         entries2 : entry_at V2 ≡ entry_at V1
         entries2 = entries-inode V1 s.d (used (with_moment s.h now)) (λ place. entry_by-moment V1 s.h now s.h.kind place ∙ sym (ap (λ y. entry_of V1 y place) spot.is))
@@ -185,15 +201,18 @@ module _ (V : View) (sound : IsSoundView V) (s : Spot) (spot : IsSpot V s) where
             homes-inode V2 s.n (used (new_held s name a kind size))
             ∙ ap (λ H. with_home H s.n (Some (home_of s name))) (homes-inode V1 s.d (used (with_moment s.h now)) ∙ with_home-again (homes V) s.d (Some s.h.home) (ap home_in spot.is))
 
+        block : IsBlockFor (tag_of name) (place_of s / 512)
+        block = subst (IsBlockFor (tag_of name)) (let low = spot.at.low in let e : s.at.j ≡ (512 * s.at.j + s.at.q) / 512 = omega (arith, low) in e) spot.block
+
         hangs : IsHung (with_home (homes V) s.n (Some (home_of s name))) (with_place (entry_at V) s.d (place_of s) (entry_for s.n (home_of s name)))
-        hangs = hang (homes V) (entry_at V) s.n (home_of s name) (zero_free V sound) (ap home_in spot.free_is) spot.some spot.empty sound.hung
+        hangs = hang (homes V) (entry_at V) s.n (home_of s name) None (zero_free V sound) (ap home_in spot.free_is) spot.some spot.empty block sound.hung
 
 pub planting-shows : PlantingShows
 planting-shows V s name a kind size now sound spot plain = (
-  room V sound s spot,
+  room V sound s name spot,
   record {
-    tree = tree-planted V sound s spot name a kind size now plain;
-    inodes = inodes-planted V sound s spot name a kind size now plain;
-    hung = hung-planted V sound s spot name a kind size now plain;
+    tree = tree-planted V sound s name spot a kind size now plain;
+    inodes = inodes-planted V sound s name spot a kind size now plain;
+    hung = hung-planted V sound s name spot a kind size now plain;
   },
 )

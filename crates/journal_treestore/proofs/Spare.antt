@@ -1,18 +1,18 @@
 -- A block that nobody has is overwritten, and its record: the disk stays sound and shows the same
 -- tree.
-use Rattle.std.proofs.Common.{◌≡◌, ◌≢◌, ℕ, ◌+◌, ◌/◌, ◌%◌, cond, eqb, List, length, take, Some, refl, sym, ap, ◌∙◌}
-use Rattle.std.proofs.lemmas.Bool.{eq-eqb, ne_eqb}
+use Rattle.std.proofs.Common.{◌≡◌, ◌≢◌, ℕ, ◌+◌, ◌/◌, ◌%◌, cond, eqb, List, length, take, Some, refl, sym, ap, ◌⊎◌, inl, inr, ◌∙◌}
+use Rattle.std.proofs.lemmas.Bool.{cases_eq, eq-eqb, ne_eqb}
 use Rattle.journal_tree.specs.declared.reply.Kind.{Kind}
 use Rattle.journal_tree.specs.declared.reply.Kind.TheVariants.{Directory, File, Link}
 use Rattle.journal_tree.specs.Trees.Body.{file, link}
 use Rattle.journal_treestore.specs.declared.owner.Owner.{Owner}
 use Rattle.journal_treestore.specs.Entries.{no_entry, entry_from}
-use Rattle.journal_treestore.specs.Views.{Held, Seen, View, block_at, with_owner, with_block, bytes_of, body_of, slot_of, tree_of, entry_in, entry_by, entry_of, entry_at}
+use Rattle.journal_treestore.specs.Views.{Held, Seen, View, block_at, with_owner, with_block, bytes_of, body_of, slot_of, tree_of, directory_block, entry_in, entry_by, entry_of, entry_at}
 use Rattle.journal_treestore.specs.Views.Seen.{free, used}
 use Rattle.journal_treestore.specs.Sound.{IsSoundView}
 use Rattle.journal_treestore.specs.Steps.{IsUnowned}
-use Rattle.journal_treestore.proofs.Indexing.{first-at, block_at-frame, bytes_of-frame, bytes_in-frame, sound-frame}
-use Rattle.journal_treestore.proofs.Changing.{AreInodes}
+use Rattle.journal_treestore.proofs.Indexing.{block_at-frame, bytes_of-frame, bytes_in-frame, sound-frame}
+use Rattle.journal_treestore.proofs.Changing.{AreInodes, at-directory, directory-frame}
 
 -- a block of which the named owner says that it has it not is nobody's
 pub nobody_has : (V : View) (b : ℕ) → IsSoundView V → b ≢ 0 → IsUnowned V b → (n : ℕ) (h : Held) (j : ℕ) → V.inode n ≡ used h → block_at V h j ≢ b
@@ -21,11 +21,6 @@ nobody_has V b sound some unowned n h j is has =
   where
     owner : V.owner b ≡ record { number = n; place = j }
     owner = ap V.owner (sym has) ∙ (sound.inodes n h is).owned j (λ z. some (sym has ∙ z))
-
--- nor is it a first block
-pub nobody_has_first : (V : View) (b : ℕ) → IsSoundView V → b ≢ 0 → IsUnowned V b → (n : ℕ) (h : Held) (j : ℕ) → V.inode n ≡ used h → h.blocks j ≢ b
-nobody_has_first V b sound some unowned n h j is has =
-    nobody_has V b sound some unowned n h j is (first-at V n h (sound.inodes n h is) j (λ z. some (sym has ∙ z)) ∙ has)
 
 -- the block and its record are written
 abbrev pub spare_view : View → ℕ → List ℕ → Owner → View
@@ -80,8 +75,17 @@ module _ (V : View) (sound : IsSoundView V) (b : ℕ) (some : b ≢ 0) (unowned 
       by i (used h) at = λ z. record { generation = h.generation; node = Some (record { attributes = h.attributes; home = h.home; body = body i h at h.kind z }) }
 
   -- so do the entries
-  pub entry-spare : (a p : ℕ) (h : Held) → V.inode a ≡ used h → entry_in (spare_view V b v o) (h.blocks (p / 512)) (p % 512) ≡ entry_in V (h.blocks (p / 512)) (p % 512)
-  entry-spare a p h at = ap (λ w. cond (eqb (h.blocks (p / 512)) 0) no_entry (entry_from w (p % 512))) (spare-block (h.blocks (p / 512)) (nobody_has_first V b sound some unowned a h (p / 512) at))
+  pub entry-spare : (a p : ℕ) (h : Held) → V.inode a ≡ used h
+      → entry_in (spare_view V b v o) (directory_block (spare_view V b v o) h (p / 512)) (p % 512) ≡ entry_in V (directory_block V h (p / 512)) (p % 512)
+  entry-spare a p h at =
+      ap (λ b. entry_in V1 b (p % 512)) (directory-frame V (spare_view V b v o) h h (p / 512) (blocks-spare a h at (p / 512)))
+      ∙ by (cases_eq (directory_block V h (p / 512)) 0)
+    where
+      by : (directory_block V h (p / 512) ≡ 0) ⊎ (directory_block V h (p / 512) ≡ 0 → ⊥) → entry_in V1 (directory_block V h (p / 512)) (p % 512) ≡ entry_in V (directory_block V h (p / 512)) (p % 512)
+      by (inl none) = ap (λ b. entry_in V1 b (p % 512)) none ∙ sym (ap (λ b. entry_in V b (p % 512)) none)
+      by (inr there) =
+          ap (λ w. cond (eqb (directory_block V h (p / 512)) 0) no_entry (entry_from w (p % 512)))
+          (spare-block (directory_block V h (p / 512)) (λ e. apart a h (p / 512) at ((at-directory V h (p / 512) there).0 ∙ e)))
 
   pub entries-spare : (a p : ℕ) (x : Seen) → V.inode a ≡ x → entry_of (spare_view V b v o) x p ≡ entry_of V x p
   entries-spare a p (free f) at = refl

@@ -1,5 +1,6 @@
 -- A disk that gets more blocks stays sound, and shows the same nodes.
-use Rattle.std.proofs.Common.{◌≡◌, ◌≢◌, ◌<◌, ◌≤◌, ℕ, zero, suc, ◌+◌, ◌/◌, ◌%◌, cond, eqb, length, take, Some, refl, sym, ap, subst, ◌∙◌, arith}
+use Rattle.std.proofs.Common.{◌≡◌, ◌≢◌, ◌<◌, ◌≤◌, ℕ, ◌+◌, ◌/◌, ◌%◌, cond, eqb, length, take, Some, refl, sym, ap, subst, ◌⊎◌, inl, inr, ◌∙◌, arith}
+use Rattle.std.proofs.lemmas.Bool.{cases_eq}
 use Rattle.journal_tree.specs.declared.reply.Kind.{Kind}
 use Rattle.journal_tree.specs.declared.reply.Kind.TheVariants.{Directory, File, Link}
 use Rattle.journal_tree.specs.Trees.{Tree}
@@ -7,11 +8,12 @@ use Rattle.journal_tree.specs.Trees.Body.{file, link}
 use Rattle.journal_tree.specs.Rule.{HasTree}
 use Rattle.journal_tree.specs.Fit.{HasFit}
 use Rattle.journal_treestore.specs.Entries.{no_entry, entry_from}
-use Rattle.journal_treestore.specs.Views.{Held, Seen, View, block_at, bytes_of, body_of, slot_of, tree_of, entry_in, entry_by, entry_of, entry_at, home_in, homes}
+use Rattle.journal_treestore.specs.Views.{Held, Seen, View, block_at, bytes_of, body_of, slot_of, tree_of, directory_block, entry_in, entry_by, entry_of, entry_at, home_in, homes}
 use Rattle.journal_treestore.specs.Views.Seen.{free, used}
 use Rattle.journal_treestore.specs.Sound.{IsHung, IsSoundInode, IsSoundView}
 use Rattle.journal_treestore.specs.Growths.{IsGrownView, with_blocks, GrowthKeepsTheTree}
-use Rattle.journal_treestore.proofs.Indexing.{first-there, block_at-frame, bytes_of-frame, bytes_in-frame}
+use Rattle.journal_treestore.proofs.Indexing.{block_at-frame, bytes_of-frame, bytes_in-frame}
+use Rattle.journal_treestore.proofs.Changing.{at-directory, directory-frame}
 
 -- the rules of a tree say nothing of how many blocks there are
 tree-wider : (T : Tree) (blocks : ℕ) → HasTree T → HasTree (with_blocks T blocks)
@@ -24,9 +26,6 @@ module _ (V W : View) (sound : IsSoundView V) (g : IsGrownView V W) where
   -- a block of a sound inode has the same bytes
   same-block : (n : ℕ) (h : Held) (p : ℕ) → V.inode n ≡ used h → block_at V h p ≢ 0 → W.block (block_at V h p) ≡ V.block (block_at V h p)
   same-block n h p is some = let there = (sound.inodes n h is).there p some in g.blocks (block_at V h p) there.0 there.1
-
-  same-first : (n : ℕ) (h : Held) (j : ℕ) → V.inode n ≡ used h → h.blocks j ≢ 0 → W.block (h.blocks j) ≡ V.block (h.blocks j)
-  same-first n h j is some = let there = first-there V n h (sound.inodes n h is) j some in g.blocks (h.blocks j) there.0 there.1
 
   -- so it has the same blocks
   same-blocks : (n : ℕ) (h : Held) → V.inode n ≡ used h → (p : ℕ) → block_at W h p ≡ block_at V h p
@@ -49,7 +48,6 @@ module _ (V W : View) (sound : IsSoundView V) (g : IsGrownView V W) where
     after = λ p far. same-blocks n h is p ∙ s.after p far;
     sized = λ p some. let t = was n h is p some in subst (λ b. length (W.block b) ≡ 4096) (sym (same-blocks n h is p)) (ap length (same-block n h p is t) ∙ s.sized p t);
     whole = s.whole;
-    plain = s.plain;
     first = s.first;
   }
 
@@ -74,12 +72,14 @@ module _ (V W : View) (sound : IsSoundView V) (g : IsGrownView V W) where
   -- ── entries ──
 
   same-entry : (d p : ℕ) (h : Held) → V.inode d ≡ used h → (kind : Kind) → entry_by W kind h p ≡ entry_by V kind h p
-  same-entry d p h is Directory = by (h.blocks (p / 512)) refl
+  same-entry d p h is Directory = ap (λ b. entry_in W b (p % 512)) (directory-frame V W h h (p / 512) (same-blocks d h is (p / 512))) ∙ in_block (cases_eq (directory_block V h (p / 512)) 0)
     where
-      by : (b : ℕ) → h.blocks (p / 512) ≡ b → entry_in W b (p % 512) ≡ entry_in V b (p % 512)
-      by zero at = refl
-      by (suc b) at = ap (λ w. cond (eqb (suc b) 0) no_entry (entry_from w (p % 512)))
-          (subst (λ k. W.block k ≡ V.block k) at (same-first d h (p / 512) is (λ e. absurd (let f = sym at ∙ e in omega (arith, f)))))
+      in_block : (directory_block V h (p / 512) ≡ 0) ⊎ (directory_block V h (p / 512) ≡ 0 → ⊥) → entry_in W (directory_block V h (p / 512)) (p % 512) ≡ entry_in V (directory_block V h (p / 512)) (p % 512)
+      in_block (inl none) = ap (λ b. entry_in W b (p % 512)) none ∙ sym (ap (λ b. entry_in V b (p % 512)) none)
+      in_block (inr some) =
+          let at = (at-directory V h (p / 512) some).0 in
+          ap (λ w. cond (eqb (directory_block V h (p / 512)) 0) no_entry (entry_from w (p % 512)))
+          (subst (λ b. W.block b ≡ V.block b) at (same-block d h (p / 512) is (λ e. some (sym at ∙ e))))
   same-entry d p h is File = refl
   same-entry d p h is Link = refl
 

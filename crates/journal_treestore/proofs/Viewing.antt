@@ -1,5 +1,5 @@
 -- Nodes and their inodes, and what a search of a directory's entries finds.
-use Rattle.std.proofs.Common.{◌≡◌, ◌≢◌, ℕ, ◌*◌, ◌/◌, ◌%◌, ◌<◌, ◌≤◌, List, Option, Some, None, refl, sym, ap, ◌⊎◌, inl, inr, ◌∙◌, arith}
+use Rattle.std.proofs.Common.{◌≡◌, ◌≢◌, ℕ, ◌*◌, ◌/◌, ◌%◌, ◌<◌, ◌≤◌, List, Option, Some, None, refl, sym, ap, subst, ◌⊎◌, inl, inr, ◌∙◌, arith}
 use Rattle.std.proofs.lemmas.Bool.{cases_lt}
 use Rattle.journal_tree.specs.declared.limits.TheConstants.{ROOT}
 use Rattle.journal_tree.specs.declared.reply.Kind.TheVariants.{Directory}
@@ -11,11 +11,12 @@ use Rattle.journal_tree.proofs.Hanging.{low, one_name}
 use Rattle.journal_treestore.specs.declared.entry.Entry.{Entry}
 use Rattle.journal_treestore.specs.declared.owner.Owner.{Owner}
 use Rattle.journal_treestore.specs.Entries.{tag_of, no_entry}
+use Rattle.journal_treestore.specs.Levels.{IsBlockFor}
 use Rattle.journal_treestore.specs.Views.{Held, Seen, View, node_of, slot_of, tree_of, entry_in, entry_by, entry_of, entry_at, home_in, homes}
 use Rattle.journal_treestore.specs.Views.Seen.{free, used}
-use Rattle.journal_treestore.specs.Sound.{entry_for, IsEntryOf, IsSoundInode, IsSoundView}
+use Rattle.journal_treestore.specs.Sound.{entry_for, IsEntryOf, HasSecond, IsSoundInode, IsSoundView}
 use Rattle.journal_treestore.specs.Lookups.{IsMiss, BlocksAreHadOnce}
-use Rattle.journal_treestore.proofs.Indexing.{first-after}
+use Rattle.journal_treestore.proofs.Indexing.{directory-after}
 
 -- the inode of a node
 pub node-inode : (V : View) (i : ℕ) (x : Node) → ((tree_of V).at i).node ≡ Some x → (h : Held) × (V.inode i ≡ used h) × (node_of V h ≡ x)
@@ -65,7 +66,7 @@ module _ (V : View) (sound : IsSoundView V) where
   pub finds : (d place : ℕ) (name : List ℕ) (g : Held) → (entry_at V d place).number ≢ 0 → V.inode (entry_at V d place).number ≡ used g → g.home.name ≡ name → find (tree_of V) d name ≡ Some (entry_at V d place).number
   finds d place name g some at named = by (find (tree_of V) d name) refl
     where
-      o : IsEntryOf (homes V) d place (entry_at V d place)
+      o : IsEntryOf (homes V) sound.hung.second d place (entry_at V d place)
       o = sound.hung.back d place some
 
       home : g.home ≡ o.home
@@ -83,12 +84,38 @@ module _ (V : View) (sound : IsSoundView V) where
           let h = find-some (tree_of V) d name m is in
           ap Some (one_name (tree_of V) m (entry_at V d place).number h.0 (node_of V g) sound.tree h.1 node (h.2 ∙ sym directory) (h.3 ∙ sym named))
 
+  -- where an entry is not at the place of its node's home, no node hangs there
+  pub not_home : (d place i : ℕ) (h g : Held) → V.inode d ≡ used h → V.inode i ≡ used g → (entry_at V d place).number ≡ i → g.home.place ≢ place → find_place (tree_of V) d place ≡ None
+  not_home d place i h g is at names other = by (find_place (tree_of V) d place) refl
+    where
+      by : (f : Option ℕ) → find_place (tree_of V) d place ≡ f → f ≡ None
+      by None found = refl
+      by (Some m) found = absurd (other (ap (λ (g : Held). g.home.place) same ∙ ap (λ (h : Home). h.place) home_is ∙ f.3))
+        where
+          f : (x : Node) × (((tree_of V).at m).node ≡ Some x) × (x.home.directory ≡ d) × (x.home.place ≡ place)
+          f = find_place-some (tree_of V) d place m found
+
+          inode : (g : Held) × (V.inode m ≡ used g) × (node_of V g ≡ f.0)
+          inode = node-inode V m f.0 f.1
+
+          home_is : inode.0.home ≡ f.0.home
+          home_is = ap (λ (x : Node). x.home) inode.2
+
+          e : entry_at V d inode.0.home.place ≡ entry_for m inode.0.home
+          e = entry_of_node d m h inode.0 is inode.1 (ap (λ (h : Home). h.directory) home_is ∙ f.2)
+
+          number : i ≡ m
+          number = sym names ∙ ap (λ p. (entry_at V d p).number) (sym (ap (λ (h : Home). h.place) home_is ∙ f.3)) ∙ ap (λ (e : Entry). e.number) e
+
+          same : g ≡ inode.0
+          same = let q : used g ≡ used inode.0 = sym at ∙ ap V.inode number ∙ inode.1 in cc
+
   -- where a directory has no place there is no entry
   pub none_after : (d place : ℕ) (h : Held) → V.inode d ≡ used h → h.kind ≡ Directory → h.size / 8 ≤ place → entry_at V d place ≡ no_entry
   none_after d place h is kind after =
       ap (λ y. entry_of V y place) is
       ∙ ap (λ kind. entry_by V kind h place) kind
-      ∙ ap (λ b. entry_in V b (place % 512)) (first-after V d h s (place / 512) far)
+      ∙ ap (λ b. entry_in V b (place % 512)) (directory-after V d h s (place / 512) far)
     where
       s : IsSoundInode V d h
       s = sound.inodes d h is
@@ -96,12 +123,28 @@ module _ (V : View) (sound : IsSoundView V) where
       far : h.size ≤ 4096 * (place / 512)
       far = let w = s.whole kind in let e = w.1 in omega (arith, e, after)
 
-  -- where no entry with the name's tag is of a node of that name, there is none
+  -- an entry that a directory has lies within it
+  inside : (d place : ℕ) (h : Held) → V.inode d ≡ used h → h.kind ≡ Directory → (entry_at V d place).number ≢ 0 → place < h.size / 8
+  inside d place h is kind some = cases (cases_lt place (h.size / 8))
+    where
+      cases : (place < h.size / 8) ⊎ (h.size / 8 ≤ place) → place < h.size / 8
+      cases (inl low) = low
+      cases (inr after) = absurd (some (ap (λ (e : Entry). e.number) (none_after d place h is kind after)))
+
+  -- a node has an entry where its name may lie
+  pub entry_for_name : (d i : ℕ) (h g : Held) → V.inode d ≡ used h → V.inode i ≡ used g → g.home.directory ≡ d → (place : ℕ) × IsBlockFor (tag_of g.home.name) (place / 512) × (entry_at V d place ≡ entry_for i g.home)
+  entry_for_name d i h g is at directory = by (sound.hung.second i) (sound.hung.seconds i g.home (ap home_in at) (λ e. root_apart d h g is (ap V.inode (sym e) ∙ at) directory))
+    where
+      by : (o : Option ℕ) → HasSecond (entry_at V) i g.home o → (place : ℕ) × IsBlockFor (tag_of g.home.name) (place / 512) × (entry_at V d place ≡ entry_for i g.home)
+      by None block = (g.home.place, block, entry_of_node d i h g is at directory)
+      by (Some place) more = (place, more.block, ap (λ d. entry_at V d place) (sym directory) ∙ more.is)
+
+  -- where no entry with the name's tag in a block for it is of a node of that name, there is none
   pub misses : (d : ℕ) (name : List ℕ) (h : Held) → V.inode d ≡ used h → h.kind ≡ Directory → IsMiss V d h name → find (tree_of V) d name ≡ None
   misses d name h is kind miss = by (find (tree_of V) d name) refl
     where
       impossible : (m : ℕ) → find (tree_of V) d name ≡ Some m → ⊥
-      impossible m at = miss g.home.place g inside some tag node (ap (λ (x : Node). x.home.name) inode.2 ∙ f.3)
+      impossible m at = miss e.0 g (inside d e.0 h is kind some) (subst (λ n. IsBlockFor (tag_of n) (e.0 / 512)) named e.1) some tag node named
         where
           f : (x : Node) × (((tree_of V).at m).node ≡ Some x) × (x.home.directory ≡ d) × (x.home.name ≡ name)
           f = find-some (tree_of V) d name m at
@@ -115,26 +158,22 @@ module _ (V : View) (sound : IsSoundView V) where
           home_is : g.home ≡ f.0.home
           home_is = ap (λ (x : Node). x.home) inode.2
 
-          e : entry_at V d g.home.place ≡ entry_for m g.home
-          e = entry_of_node d m h g is inode.1 (ap (λ (h : Home). h.directory) home_is ∙ f.2)
+          named : g.home.name ≡ name
+          named = ap (λ (h : Home). h.name) home_is ∙ f.3
 
-          number : (entry_at V d g.home.place).number ≡ m
-          number = ap (λ (e : Entry). e.number) e
+          e : (place : ℕ) × IsBlockFor (tag_of g.home.name) (place / 512) × (entry_at V d place ≡ entry_for m g.home)
+          e = entry_for_name d m h g is inode.1 (ap (λ (h : Home). h.directory) home_is ∙ f.2)
 
-          some : (entry_at V d g.home.place).number ≢ 0
+          number : (entry_at V d e.0).number ≡ m
+          number = ap (λ (e : Entry). e.number) e.2
+
+          some : (entry_at V d e.0).number ≢ 0
           some z = used_some m g inode.1 (sym number ∙ z)
 
-          inside : g.home.place < h.size / 8
-          inside = cases (cases_lt g.home.place (h.size / 8))
-            where
-              cases : (g.home.place < h.size / 8) ⊎ (h.size / 8 ≤ g.home.place) → g.home.place < h.size / 8
-              cases (inl low) = low
-              cases (inr after) = absurd (some (ap (λ (e : Entry). e.number) (none_after d g.home.place h is kind after)))
+          tag : (entry_at V d e.0).tag ≡ tag_of name
+          tag = ap (λ (e : Entry). e.tag) e.2 ∙ ap tag_of named
 
-          tag : (entry_at V d g.home.place).tag ≡ tag_of name
-          tag = ap (λ (e : Entry). e.tag) e ∙ ap tag_of (ap (λ (h : Home). h.name) home_is ∙ f.3)
-
-          node : V.inode (entry_at V d g.home.place).number ≡ used g
+          node : V.inode (entry_at V d e.0).number ≡ used g
           node = ap V.inode number ∙ inode.1
 
       by : (f : Option ℕ) → find (tree_of V) d name ≡ f → f ≡ None

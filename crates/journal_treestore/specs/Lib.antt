@@ -1,6 +1,7 @@
 pub mod Bytes
 pub mod Owners
 pub mod Entries
+pub mod Levels
 pub mod Inodes
 pub mod Descriptions
 pub mod Places
@@ -8,5 +9,6 @@ pub mod Views
 pub mod Sound
 pub mod Growths
 pub mod Lookups
+pub mod Positions
 pub mod Steps
 pub mod Moves

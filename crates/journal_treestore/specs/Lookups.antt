@@ -11,7 +11,9 @@ use Rattle.journal_tree.specs.Calls.{told, name_kind}
 use Rattle.journal_tree.specs.Op.{Op}
 use Rattle.journal_tree.specs.Op.Call.{lookup}
 use Rattle.journal_tree.specs.Op.Reply.{found}
+use Rattle.journal_treestore.specs.declared.entry.TheConstants.{PLACES}
 use Rattle.journal_treestore.specs.Entries.{tag_of}
+use Rattle.journal_treestore.specs.Levels.{IsBlockFor}
 use Rattle.journal_treestore.specs.Views.{Held, View, block_at, node_of, tree_of, entry_at}
 use Rattle.journal_treestore.specs.Views.Seen.{used}
 use Rattle.journal_treestore.specs.Sound.{IsSoundInode, IsSoundView}
@@ -27,11 +29,11 @@ pub record IsHit (V : View) (d : ℕ) (name : List ℕ) (place : ℕ) (g : Held)
   pub is : V.inode (entry_at V d place).number ≡ used g
   pub named : g.home.name ≡ name
 
--- All entries of a directory were read, and each inode that one of the name's tag names, and none
--- has the name
+-- All entries of a directory in the blocks in which the name may lie were read, and each inode
+-- that one of the name's tag names, and none has the name
 abbrev pub IsMiss : View → ℕ → Held → List ℕ → Type 0
-IsMiss V d h name = (place : ℕ) (g : Held) → place < h.size / 8 → (entry_at V d place).number ≢ 0 → (entry_at V d place).tag ≡ tag_of name
-    → V.inode (entry_at V d place).number ≡ used g → g.home.name ≢ name
+IsMiss V d h name = (place : ℕ) (g : Held) → place < h.size / 8 → IsBlockFor (tag_of name) (place / PLACES) → (entry_at V d place).number ≢ 0
+    → (entry_at V d place).tag ≡ tag_of name → V.inode (entry_at V d place).number ≡ used g → g.home.name ≢ name
 
 abbrev pub found_by : View → ℕ → Held → ℕ → Held → Found
 found_by V d h n g = record { generation = g.generation; node = told n (node_of V g); directory = told d (node_of V h) }

@@ -1,7 +1,7 @@
 -- The writes of calls, by steps: a node is put into a directory, a symbolic link gets its text, a
 -- node is taken out, a directory gets a block.
-use Rattle.std.specs.Prelude.{ℕ, ◌≡◌, ◌≢◌, ◌<◌, ◌≤◌, ◌+◌, ◌*◌, ◌-◌, ◌==◌, if◌then◌else◌, List, ◌++◌, length, replicate, Some, option_map}
-use Rattle.journal_tree.specs.declared.limits.TheConstants.{LAST_GENERATION, MOST_LINK, MOST_PLACES}
+use Rattle.std.specs.Prelude.{ℕ, ◌≡◌, ◌≢◌, ◌<◌, ◌≤◌, ◌+◌, ◌*◌, ◌-◌, ◌==◌, max, if◌then◌else◌, List, ◌++◌, length, replicate, Option, Some, None, option_map}
+use Rattle.journal_tree.specs.declared.limits.TheConstants.{LAST_GENERATION, MOST_LINK, MOST_BLOCKS}
 use Rattle.journal_tree.specs.declared.time.Time.{Time}
 use Rattle.journal_tree.specs.declared.reply.Attributes.{Attributes}
 use Rattle.journal_tree.specs.declared.reply.Kind.{Kind}
@@ -13,8 +13,11 @@ use Rattle.journal_tree.specs.Times.{IsTime, time_of_names}
 use Rattle.journal_tree.specs.Changes.{with_times, grown_body, touch_place, planted, cut}
 use Rattle.journal_tree.specs.Fit.{IsCallable, IsCaller}
 use Rattle.journal_tree.specs.Op.{Call, Reply, IsRoom, Op}
-use Rattle.journal_treestore.specs.Entries.{with_entry, no_entry}
-use Rattle.journal_treestore.specs.Views.{Held, View, block_at, with_inode, with_owner, with_block, entry_of, entry_at, zero_block, tree_of, homes}
+use Rattle.journal_treestore.specs.declared.entry.TheConstants.{PLACES}
+use Rattle.journal_treestore.specs.Entries.{tag_of, no_entry}
+use Rattle.journal_treestore.specs.Levels.{IsBlockFor}
+use Rattle.journal_treestore.specs.Positions.{Position, place_at, IsPosition, with_put, with_puts}
+use Rattle.journal_treestore.specs.Views.{Held, View, block_at, with_inode, with_owner, with_block, entry_of, entry_at, tree_of, homes}
 use Rattle.journal_treestore.specs.Views.Seen.{free, used}
 use Rattle.journal_treestore.specs.Sound.{entry_for, IsHung, IsSoundInode, IsSoundView}
 
@@ -28,28 +31,28 @@ with_moment h now = with_attributes h (with_times h.attributes (time_of_names h.
 
 -- ── a node is put into a directory ──
 
--- Where: at place q of block j of the directory of number d, as number n, whose last node had this
+-- Where: at a position of the directory of number d, as number n, whose last node had this
 -- generation
 pub record Spot : Type 0 where
   pub d : ℕ
   pub h : Held
-  pub j : ℕ
-  pub q : ℕ
+  pub at : Position
   pub n : ℕ
   pub generation : ℕ
 
 abbrev pub place_of : Spot → ℕ
-place_of s = 512 * s.j + s.q
+place_of s = place_at s.at
 
 abbrev pub home_of : Spot → List ℕ → Home
 home_of s name = record { directory = s.d; place = place_of s; name = name }
 
--- The directory has the block, nothing is at the place, and the number is free
-pub record IsSpot (V : View) (s : Spot) : Type 0 where
+-- The directory has the block, the name may lie in it, nothing is at the place, and the number is
+-- free
+pub record IsSpot (V : View) (s : Spot) (name : List ℕ) : Type 0 where
   pub is : V.inode s.d ≡ used s.h
   pub kind : s.h.kind ≡ Directory
-  pub there : s.h.blocks s.j ≢ 0
-  pub low : s.q < 512
+  pub at : IsPosition V s.h s.at
+  pub block : IsBlockFor (tag_of name) s.at.j
   pub empty : (entry_at V s.d (place_of s)).number ≡ 0
   pub free_is : V.inode s.n ≡ free s.generation
   pub some : s.n ≢ 0
@@ -71,7 +74,7 @@ new_node s name a kind size = record { attributes = a; home = home_of s name; bo
 -- its entry, the directory's inode and its own are written
 abbrev pub planted_view : View → Spot → List ℕ → Attributes → Kind → ℕ → Time → View
 planted_view V s name a kind size now =
-    with_inode (with_inode (with_block V (s.h.blocks s.j) (with_entry (V.block (s.h.blocks s.j)) s.q (entry_for s.n (home_of s name)))) s.d (used (with_moment s.h now)))
+    with_inode (with_inode (with_put V s.at.b s.at.q (entry_for s.n (home_of s name))) s.d (used (with_moment s.h now)))
     s.n (used (new_held s name a kind size))
 
 -- ── a symbolic link gets its text ──
@@ -124,68 +127,79 @@ filled_node f = record { attributes = f.h.attributes; home = f.h.home; body = li
 
 -- ── a node is taken out ──
 
--- The entry at place q of block j of directory d, and the inode n that it names
+-- Node n of directory d, with the position of its home's entry, and that of its second entry if it
+-- has one
 pub record Seat : Type 0 where
   pub d : ℕ
   pub h : Held
-  pub j : ℕ
-  pub q : ℕ
+  pub at : Position
+  pub more : Option Position
   pub n : ℕ
   pub g : Held
 
 abbrev pub seat_place : Seat → ℕ
-seat_place s = 512 * s.j + s.q
+seat_place s = place_at s.at
 
--- They are so, and the node has no entries of its own
-pub record IsSeat (V : View) (s : Seat) : Type 0 where
+-- It has none where its name may lie at its home's place
+abbrev pub IsSecondAt : View → Seat → Option Position → Type 0
+IsSecondAt V s None = IsBlockFor (tag_of s.g.home.name) s.at.j
+IsSecondAt V s (Some p) = IsPosition V s.h p × (place_at p ≢ seat_place s) × ((entry_at V s.d (place_at p)).number ≡ s.n)
+
+-- The node hangs there. It may have entries of its own
+pub record IsPlaced (V : View) (s : Seat) : Type 0 where
   pub is : V.inode s.d ≡ used s.h
   pub kind : s.h.kind ≡ Directory
-  pub there : s.h.blocks s.j ≢ 0
-  pub low : s.q < 512
-  pub names : (entry_at V s.d (seat_place s)).number ≡ s.n
   pub some : s.n ≢ 0
   pub node : V.inode s.n ≡ used s.g
+  pub directory : s.g.home.directory ≡ s.d
+  pub place : s.g.home.place ≡ seat_place s
+  pub at : IsPosition V s.h s.at
+  pub more : IsSecondAt V s s.more
+
+-- and has none
+pub record IsSeat (V : View) (s : Seat) : Type 0 where
+  pub placed : IsPlaced V s
   pub bare : (place : ℕ) → entry_of V (used s.g) place ≡ no_entry
 
--- its entry goes, the directory's inode is written, and its own is free. Its blocks are nobody's
+-- its entries go, the directory's inode is written, and its own is free. Its blocks are nobody's
 -- then, and nothing of them is written
 abbrev pub cut_view : View → Seat → Time → View
-cut_view V s now =
-    with_inode (with_inode (with_block V (s.h.blocks s.j) (with_entry (V.block (s.h.blocks s.j)) s.q no_entry)) s.d (used (with_moment s.h now))) s.n (free s.g.generation)
+cut_view V s now = with_inode (with_inode (with_puts V s.at s.more no_entry) s.d (used (with_moment s.h now))) s.n (free s.g.generation)
 
--- ── a directory gets its next block ──
+-- ── one inode is written ──
 
--- Block b becomes block j of directory d
-pub record Growth : Type 0 where
-  pub d : ℕ
-  pub h : Held
-  pub j : ℕ
-  pub b : ℕ
+-- Two disks are of one form
+pub record IsSameForm (V W : View) : Type 0 where
+  pub numbers : W.numbers ≡ V.numbers
+  pub first_data : W.first_data ≡ V.first_data
+  pub data_blocks : W.data_blocks ≡ V.data_blocks
 
-pub record IsGrowth (V : View) (g : Growth) : Type 0 where
-  pub is : V.inode g.d ≡ used g.h
-  pub kind : g.h.kind ≡ Directory
-  pub next : g.h.size ≡ 4096 * g.j
-  pub few : 512 * (g.j + 1) ≤ MOST_PLACES
-  pub some : g.b ≢ 0
-  pub from : V.first_data ≤ g.b
-  pub to : g.b < V.first_data + V.data_blocks
-  pub unowned : IsUnowned V g.b
+-- Inode n was of these fields, and is of those. It hangs where it did and has the entries that it
+-- had, and what the other nodes have is as it was
+pub record IsNodeStep (V W : View) (n : ℕ) (h k : Held) : Type 0 where
+  pub form : IsSameForm V W
+  pub is : V.inode n ≡ used h
+  pub new : W.inode n ≡ used k
+  pub others : (i : ℕ) → i ≢ n → W.inode i ≡ V.inode i
+  pub blocks : (i : ℕ) (g : Held) (p : ℕ) → i ≢ n → V.inode i ≡ used g → block_at V g p ≢ 0 → W.block (block_at V g p) ≡ V.block (block_at V g p)
+  pub owners : (i : ℕ) (g : Held) (p : ℕ) → i ≢ n → V.inode i ≡ used g → block_at V g p ≢ 0 → W.owner (block_at V g p) ≡ V.owner (block_at V g p)
+  pub sound : IsSoundInode W n k
+  pub home : k.home ≡ h.home
+  pub generation : k.generation ≡ h.generation
+  pub entries : (place : ℕ) → entry_of W (used k) place ≡ entry_of V (used h) place
 
-abbrev pub grown_held : Growth → Held
-grown_held g = record {
-  generation = g.h.generation;
-  attributes = g.h.attributes;
-  home = g.h.home;
-  kind = g.h.kind;
-  size = 4096 * (g.j + 1);
-  blocks = λ i. if i == g.j then g.b else g.h.blocks i;
-  index = g.h.index;
-}
+-- ── a directory gets a block ──
 
--- the block without entries, its record, and the directory's inode are written
-abbrev pub grown_view : View → Growth → View
-grown_view V g = with_inode (with_owner (with_block V g.b zero_block) g.b (record { number = g.d; place = g.j })) g.d (used (grown_held g))
+-- It gets block j, and index blocks where it needs them for the number of that. It keeps those that
+-- it has, and grows until it has the places of the block
+pub record IsGrowth (V W : View) (d : ℕ) (h k : Held) (j : ℕ) : Type 0 where
+  pub step : IsNodeStep V W d h k
+  pub kind : h.kind ≡ Directory
+  pub still : k.kind ≡ Directory
+  pub attributes : k.attributes ≡ h.attributes
+  pub few : j < MOST_BLOCKS
+  pub size : k.size ≡ max h.size (4096 * (j + 1))
+  pub kept : (p : ℕ) → block_at V h p ≢ 0 → block_at W k p ≡ block_at V h p
 
 -- its node, which has the places
 abbrev pub widened : ℕ → Node → Node
@@ -196,12 +210,6 @@ widen T d place = with_node T d (option_map (widened place) (T.at d).node)
 
 -- ── what is shown then ──
 
--- Two disks are of one form
-pub record IsSameForm (V W : View) : Type 0 where
-  pub numbers : W.numbers ≡ V.numbers
-  pub first_data : W.first_data ≡ V.first_data
-  pub data_blocks : W.data_blocks ≡ V.data_blocks
-
 -- A disk shows a tree, and its inodes, entries and records of blocks keep the rule
 pub record Shows (W : View) (T : Tree) : Type 0 where
   pub tree : tree_of W ≡ T
@@ -210,7 +218,7 @@ pub record Shows (W : View) (T : Tree) : Type 0 where
 
 -- A node that is put into a directory has room there, and the tree has it then
 abbrev pub PlantingShows : Type 0
-PlantingShows = (V : View) (s : Spot) (name : List ℕ) (a : Attributes) (kind : Kind) (size : ℕ) (now : Time) → IsSoundView V → IsSpot V s → (kind ≡ Directory → size ≡ 0)
+PlantingShows = (V : View) (s : Spot) (name : List ℕ) (a : Attributes) (kind : Kind) (size : ℕ) (now : Time) → IsSoundView V → IsSpot V s name → (kind ≡ Directory → size ≡ 0)
     → IsRoom (tree_of V) s.d (record { number = s.n; place = place_of s })
     × Shows (planted_view V s name a kind size now) (planted (touch_place (tree_of V) s.d (place_of s) now) s.n (new_node s name a kind size))
 
@@ -222,13 +230,13 @@ FillingShows = (V : View) (f : Filling) → IsSoundView V → IsFilling V f → 
 abbrev pub CuttingShows : Type 0
 CuttingShows = (V : View) (s : Seat) (now : Time) → IsSoundView V → IsSeat V s → Shows (cut_view V s now) (cut (tree_of V) s.d s.n now)
 
--- A directory that gets its next block has the places of that block then
+-- A directory that gets a block has the places of that block then
 abbrev pub GrowingShows : Type 0
-GrowingShows = (V : View) (g : Growth) (q : ℕ) → IsSoundView V → IsGrowth V g → q < 512 → Shows (grown_view V g) (widen (tree_of V) g.d (512 * g.j + q))
+GrowingShows = (V W : View) (d : ℕ) (h k : Held) (j q : ℕ) → IsSoundView V → IsGrowth V W d h k j → q < PLACES → Shows W (widen (tree_of V) d (PLACES * j + q))
 
--- and the disk with it is sound, so that a node may be put into the block at once
+-- and the disk with it is sound, so that an entry may be put into the block at once
 abbrev pub GrowingStaysSound : Type 0
-GrowingStaysSound = (V : View) (g : Growth) → IsSoundView V → IsGrowth V g → IsSoundView (grown_view V g)
+GrowingStaysSound = (V W : View) (d : ℕ) (h k : Held) (j : ℕ) → IsSoundView V → IsGrowth V W d h k j → IsSoundView W
 
 -- The disk of a call that goes by such steps is sound again
 abbrev pub CallsStaySound : Type 0

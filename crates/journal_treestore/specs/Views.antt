@@ -1,7 +1,7 @@
 -- The objects of a disk: inodes, owners of blocks, blocks. And the tree that
 -- they make.
 use Rattle.std.specs.Prelude.{ℕ, zero, suc, ◌+◌, ◌-◌, ◌*◌, ◌/◌, ◌%◌, ◌==◌, ◌&&◌, nat_le, nat_lt, if◌then◌else◌, List, [], ◌++◌, take, replicate, get_or, Option, Some, None}
-use Rattle.journal_tree.specs.declared.limits.TheConstants.{MOST_FILE_BLOCKS}
+use Rattle.journal_tree.specs.declared.limits.TheConstants.{MOST_BLOCKS, MOST_FILE_BLOCKS}
 use Rattle.journal_tree.specs.declared.reply.Attributes.{Attributes}
 use Rattle.journal_tree.specs.declared.reply.Kind.{Kind}
 use Rattle.journal_tree.specs.declared.reply.Kind.TheVariants.{Directory, File, Link}
@@ -133,8 +133,12 @@ tree_of V = record { numbers = V.numbers; blocks = V.data_blocks; at = λ n. slo
 abbrev pub entry_in : View → ℕ → ℕ → Entry
 entry_in V b at = if b == 0 then no_entry else entry_from (V.block b) at
 
+-- block j of a directory, if it has one there
+abbrev pub directory_block : View → Held → ℕ → ℕ
+directory_block V h j = if nat_lt j MOST_BLOCKS then block_at V h j else 0
+
 abbrev pub entry_by : View → Kind → Held → ℕ → Entry
-entry_by V Directory h place = entry_in V (h.blocks (place / PLACES)) (place % PLACES)
+entry_by V Directory h place = entry_in V (directory_block V h (place / PLACES)) (place % PLACES)
 entry_by V File h place = no_entry
 entry_by V Link h place = no_entry
 

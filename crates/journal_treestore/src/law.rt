@@ -18,15 +18,16 @@ pub fn blocks_are_had_once()
 {}
 
 /// LOOKUP's answer follows from what it reads of a sound disk: from an entry of the directory whose
-/// inode has the name, or, where none has it, from all entries of the name's tag and their inodes.
+/// inode has the name, or, where none has it, from all entries of the name's tag in the blocks in
+/// which the name may lie, and their inodes.
 pub fn lookups_answer_by_what_they_read()
     ensures found { LookupFinds }
     ensures missed { LookupMisses }
 {}
 
 /// The tree that a sound disk shows after the writes of a step: a node is put into a directory by
-/// three, a symbolic link gets its text by three, a node is taken out by three, or a directory gets
-/// a block. A node that is taken out may be as large as it likes.
+/// three, a symbolic link gets its text by three, a node is taken out by three, or four where it
+/// has a second entry, or a directory gets a block. A node that is taken out may have any size.
 pub fn writes_show_the_tree_after_them()
     ensures planted { PlantingShows }
     ensures filled { FillingShows }
@@ -37,7 +38,8 @@ pub fn writes_show_the_tree_after_them()
 
 /// The tree that a sound disk shows once a node that is replaced goes by two writes, and once a
 /// node gets another name in its directory by three, or a free place of another directory by five.
-/// They are as many however large the node is, and whatever hangs in it.
+/// Each second entry that goes or comes is one write more. They are as many however large the node
+/// is, and whatever hangs in it.
 pub fn renames_show_the_tree_after_them()
     ensures dropped { DroppingShows }
     ensures sound { DroppingStaysSound }

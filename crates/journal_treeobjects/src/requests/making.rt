@@ -27,7 +27,7 @@ impl<'n> TreeOperation for CreateGuarded<'n> {
 
     ghost told = { made };
 
-    ghost most = { λ o. 4 };
+    ghost most = { λ o. 8 };
 
     fn attempt<T: TreeDisk>(
         &self,
@@ -62,7 +62,7 @@ impl<'n> TreeOperation for CreateUnchecked<'n> {
 
     ghost told = { made };
 
-    ghost most = { λ o. 4 };
+    ghost most = { λ o. 8 };
 
     fn attempt<T: TreeDisk>(
         &self,
@@ -98,7 +98,7 @@ impl<'n> TreeOperation for CreateExclusive<'n> {
 
     ghost told = { made };
 
-    ghost most = { λ o. 4 };
+    ghost most = { λ o. 8 };
 
     fn attempt<T: TreeDisk>(
         &self,
@@ -132,7 +132,7 @@ impl<'n> TreeOperation for MkDir<'n> {
 
     ghost told = { made };
 
-    ghost most = { λ o. 4 };
+    ghost most = { λ o. 8 };
 
     fn attempt<T: TreeDisk>(
         &self,
@@ -166,7 +166,7 @@ impl<'n> TreeOperation for SymLink<'n> {
 
     ghost told = { made };
 
-    ghost most = { λ o. 7 };
+    ghost most = { λ o. 11 };
 
     fn attempt<T: TreeDisk>(
         &self,

@@ -48,7 +48,7 @@ impl<'n> TreeOperation for Remove<'n> {
 
     ghost told = { removed };
 
-    ghost most = { λ o. 3 };
+    ghost most = { λ o. 4 };
 
     fn attempt<T: TreeDisk>(
         &self,
@@ -77,7 +77,7 @@ impl<'n> TreeOperation for RmDir<'n> {
 
     ghost told = { removed };
 
-    ghost most = { λ o. 3 };
+    ghost most = { λ o. 4 };
 
     fn attempt<T: TreeDisk>(
         &self,
@@ -112,7 +112,7 @@ impl<'n> TreeOperation for Rename<'n> {
 
     ghost told = { renamed };
 
-    ghost most = { λ o. 6 };
+    ghost most = { λ o. 11 };
 
     fn attempt<T: TreeDisk>(
         &self,

@@ -12,10 +12,10 @@ returns-in-Ok-clause-answered g c =
     waited_no_wait _ _ _ _ _ _ _ _ _ c.in_ok-wait.wait c.in_ok-wait.ensures.answered _ c.in-Some.awaited c.in-Some.is c.in-Ok.ensures.session c.seen-seen.ensures.sound.ruled
     _ c.new-reply.ensures c.into_bytes-in-Ok.ensures c.in-Ok._note.count c.in-Ok.ensures.stable.covers c.in-Ok.ensures.stable.marked c.in-Ok.ensures.exact
 
-pub returns-in-Err-clause-answered : goal.returns-in-Err-clause-answered
-returns-in-Err-clause-answered g c =
+pub returns-clause-answered : goal.returns-clause-answered
+returns-clause-answered g c =
     unsure_told _ _ _ _ _ _ _ _ _ c.in_ok-wait.wait c.in_ok-wait.ensures.answered _ c.in-Some.awaited c.in-Some.is c.in-Err.ensures.session c.seen-seen.ensures.sound.ruled c.in-Err.why
-    _ _ _ c.clear.ensures c.in_ok-refused_reply.ensures.text c.into_bytes-in-Err.ensures
+    _ _ _ c.clear.ensures c.in_ok-refused_reply-in-Err.ensures.text c.into_bytes-in-Err.ensures
 
 pub returns-in_err-refused_reply-in-Err-clause-lost : goal.returns-in_err-refused_reply-in-Err-clause-lost
 returns-in_err-refused_reply-in-Err-clause-lost g c =

@@ -16,4 +16,4 @@ pub make_found-requires-clause-named : goal.make_found-requires-clause-named
 make_found-requires-clause-named g c = name-short c.args.name.now (subst (HasKind c.args.name.now) c.in-Ok.is c.in_ok-found.ensures.named)
 
 pub returns-in-Err-clause-few : goal.returns-in-Err-clause-few
-returns-in-Err-clause-few g c = none-few _ 4 c.in_ok-found.ensures.first
+returns-in-Err-clause-few g c = none-few _ 8 c.in_ok-found.ensures.first

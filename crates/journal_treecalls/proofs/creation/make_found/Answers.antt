@@ -10,4 +10,4 @@ pub returns-in-Some-clause-makes : goal.returns-in-Some-clause-makes
 returns-in-Some-clause-makes g c = made-there _ _ c.args.number c.args.found.now c.args.name.now c.args.plan.now c.args.now _ c.requires.first c.in-Some.is
 
 pub returns-in-Some-clause-few : goal.returns-in-Some-clause-few
-returns-in-Some-clause-few g c = none-few _ 4 c.requires.first
+returns-in-Some-clause-few g c = none-few _ 8 c.requires.first

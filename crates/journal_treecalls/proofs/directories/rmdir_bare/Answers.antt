@@ -9,4 +9,4 @@ pub returns-in_ok-changed-in-None-clause-removes : goal.returns-in_ok-changed-in
 returns-in_ok-changed-in-None-clause-removes g c = bare-taken _ _ c.args.number c.args.directory.now c.args.hit.now c.args.now _ c.in_ok-find_entry.ensures.learns _ _ _ c.in-None.is c.in_ok-changed-in-None.ensures.takes
 
 pub returns-in-Some-clause-few : goal.returns-in-Some-clause-few
-returns-in-Some-clause-few g c = none-few _ 3 c.in_ok-find_entry.ensures.first
+returns-in-Some-clause-few g c = none-few _ 4 c.in_ok-find_entry.ensures.first

@@ -10,4 +10,4 @@ pub returns-in-Some-clause-creates : goal.returns-in-Some-clause-creates
 returns-in-Some-clause-creates g c = once-there _ _ _ c.args.wanted.now.directory c.args.found.now c.args.name.now c.args.wanted.now.plan c.args.wanted.now.verifier c.args.now c.in-Some.hit c.told-directory.result c.told_before.result c.requires.first c.in-Some.is c.told-directory.ensures c.told_before.ensures (λ V m. m)
 
 pub returns-in-Some-clause-few : goal.returns-in-Some-clause-few
-returns-in-Some-clause-few g c = none-few _ 4 c.requires.first
+returns-in-Some-clause-few g c = none-few _ 8 c.requires.first

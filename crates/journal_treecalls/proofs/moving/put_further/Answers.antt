@@ -1,14 +1,15 @@
-use Rattle.std.proofs.Common.{ap, arith}
-use Rattle.journal_treecalls.specs.declared.moving.PlacedEntry.{PlacedEntry}
+use Rattle.std.proofs.Common.{Some, ap, arith}
 use Rattle.journal_treecalls.proofs.Learned.{IfOk-like}
+use Rattle.journal_treecalls.proofs.Putting.{two-blocks, inside-if, inside-one}
 use Rattle.journal_treecalls.proofs.Going.{into-further}
-use Rattle.journal_treecalls.proofs.Learning.{one-longer}
 use Rattle.journal_treecalls.proofs.moving.put_further.Goals as goal
 
+pub put_changes-requires-clause-inside : goal.put_changes-requires-clause-inside
+put_changes-requires-clause-inside g c = (inside-one c.in_ok-old.old.home _ _ c.placed.ensures c.in_ok-old.ensures.inside.home, (inside-if _ _ _ c.placed_if.ensures c.in_ok-old.ensures.inside.second, tt))
+
 pub returns-clause-moves : goal.returns-clause-moves
-returns-clause-moves g c = IfOk-like c.put_three_heads.result _ _ (λ reply k. into-further _ _ _ _ _ c.args.way.now c.args.hit.now c.args.new_name.now c.args.now c.args.further c.first_place-place.result c.moved_heads.result c.moved.result c.with_further-grown.result _ _ _ _ _ c.in_ok-zeros.zeros c.put_entry.result _ _ reply
-    c.in_ok-put_one.ensures.puts c.in_ok-put_block.ensures.same c.in_ok-put_owner.ensures.same c.moved_heads.ensures c.first_place-place.ensures c.with_further-grown.ensures c.moved.ensures c.no_entry_at.ensures (ap (λ (p : PlacedEntry). p.entry) c.entry_at-new.ensures)
-    c.in_ok-zeros.ensures.zeros c.put_entry.ensures.written c.in_ok-put_block.ensures.written c.in_ok-put_owner.ensures.written c.owner_at.ensures k) c.put_three_heads.ensures.puts
+returns-clause-moves g c = IfOk-like c.put_three_heads.result _ _ (λ reply three. into-further _ _ _ _ c.args.way.now c.args.hit.now c.args.new_name.now c.args.now _ c.named_entry-entry.ensures _ c.in_ok-old.ensures.learns _ _ reply _ c.args.growth.now c.first_place-place.result _ _ _ c.moved_heads.result _ _ c.first_place-place.ensures
+    (ap Some c.placed.ensures) c.placed_if.ensures c.in_ok-put_changes.ensures.puts c.in_ok-put_first.ensures.puts c.moved_heads.ensures c.grown-goal.ensures c.moved.ensures three) c.put_three_heads.ensures.puts
 
 pub returns-clause-few : goal.returns-clause-few
-returns-clause-few g c = IfOk-like c.put_three_heads.result _ _ (λ _ more. omega (arith, more, c.in_ok-put_one.ensures.few, one-longer _ _ _ c.in_ok-put_block.ensures.written, one-longer _ _ _ c.in_ok-put_owner.ensures.written)) c.put_three_heads.ensures.few
+returns-clause-few g c = IfOk-like c.put_three_heads.result _ _ (λ _ more. let few = c.in_ok-put_changes.ensures.few in let b = two-blocks (Some c.placed.result) c.placed_if.result in let grown = c.in_ok-put_first.ensures.few in omega (arith, more, few, b, grown)) c.put_three_heads.ensures.few

@@ -10,4 +10,4 @@ pub returns-in-Some-clause-removes : goal.returns-in-Some-clause-removes
 returns-in-Some-clause-removes g c = IfOk-like c.remove_hit.result _ _ (λ reply k. removes-hit _ _ _ c.args.caller.now c.args.number c.args.found.now c.in-Some.hit c.args.now reply c.in-Some.is k) c.remove_hit.ensures.removes
 
 pub returns-in-None-clause-few : goal.returns-in-None-clause-few
-returns-in-None-clause-few g c = none-few _ 3 c.requires.first
+returns-in-None-clause-few g c = none-few _ 4 c.requires.first

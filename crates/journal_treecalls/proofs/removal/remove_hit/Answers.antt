@@ -9,4 +9,4 @@ pub returns-in_ok-changed-in-None-clause-removes : goal.returns-in_ok-changed-in
 returns-in_ok-changed-in-None-clause-removes g c = hit-taken _ _ _ c.args.caller.now c.args.number c.args.directory.now c.args.hit.now c.args.now c.removal_status.result _ c.removal_status.ensures c.in-None.is c.in_ok-changed-in-None.ensures.takes
 
 pub returns-in-Some-clause-few : goal.returns-in-Some-clause-few
-returns-in-Some-clause-few g c = none-few _ 3 c.requires.first
+returns-in-Some-clause-few g c = none-few _ 4 c.requires.first

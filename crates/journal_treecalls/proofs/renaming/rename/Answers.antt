@@ -11,4 +11,4 @@ pub returns-in-Err-clause-does : goal.returns-in-Err-clause-does
 returns-in-Err-clause-does g c = rename-err _ _ _ (g.T.TreeDisk.are_sound c.find_way.new.disk) _ c.args.source.now.directory c.args.goal.now.directory c.args.caller.now c.args.source.now.name.now c.args.goal.now.name.now c.args.now _ c.in_ok-way.ensures.learns c.in-Err.status c.in_ok-way.ensures.first c.in-Err.is (λ V m. m)
 
 pub returns-in-Err-clause-few : goal.returns-in-Err-clause-few
-returns-in-Err-clause-few g c = none-few _ 6 c.in_ok-way.ensures.first
+returns-in-Err-clause-few g c = none-few _ 11 c.in_ok-way.ensures.first

@@ -6,4 +6,4 @@ pub returns-in_ok-renamed-in-Ok-clause-renames : goal.returns-in_ok-renamed-in-O
 returns-in_ok-renamed-in-Ok-clause-renames g c = named-ok _ _ (g.T.TreeDisk.are_sound c.perform.new.disk) _ c.args.caller.now c.args.way.now c.args.name.now c.args.new_name.now c.args.now _ _ c.in-Ok.decision c.in_ok-renamed-in-Ok.renamed c.in_ok-decision.ensures.learns c.in-Ok.is c.in_ok-renamed-in-Ok.ensures.performs
 
 pub returns-in-Err-clause-few : goal.returns-in-Err-clause-few
-returns-in-Err-clause-few g c = none-few _ 6 c.in_ok-decision.ensures.first
+returns-in-Err-clause-few g c = none-few _ 11 c.in_ok-decision.ensures.first

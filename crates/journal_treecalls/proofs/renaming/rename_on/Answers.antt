@@ -14,4 +14,4 @@ pub rename_named-requires-clause-short : goal.rename_named-requires-clause-short
 rename_named-requires-clause-short g c = new-short c.args.name.now c.args.new_name.now (sym c.names_status.ensures ∙ c.in-None.is)
 
 pub returns-in-Some-clause-few : goal.returns-in-Some-clause-few
-returns-in-Some-clause-few g c = none-few _ 6 c.requires.first
+returns-in-Some-clause-few g c = none-few _ 11 c.requires.first

@@ -1,4 +1,4 @@
-use Rattle.journal_treecalls.proofs.Made.{free-number, young-number}
+use Rattle.journal_treecalls.proofs.Rooming.{free-number, young-number}
 use Rattle.journal_treecalls.proofs.room.free_number.Goals as goal
 
 pub returns-in-Free-clause-learns : goal.returns-in-Free-clause-learns

@@ -7,5 +7,5 @@ use Rattle.journal_treecalls.proofs.search.hit_in.Given as goal
 abbrev pub invariant-loop-at : goal.invariant-loop-at
 invariant-loop-at g l = record {
   first : g.T.TreeDisk.writes l.disk ≡ [];
-  learns : Learns (g.T.TreeDisk.may_be l.fn.disk) (g.T.TreeDisk.may_be l.disk) (λ V. HasNoHit V l.number l.block l.tag l.name l.at);
+  learns : Learns (g.T.TreeDisk.may_be l.fn.disk) (g.T.TreeDisk.may_be l.disk) (λ V. HasNoHit V l.which l.block l.tag l.name l.at);
 }

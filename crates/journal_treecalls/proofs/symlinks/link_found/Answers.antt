@@ -14,4 +14,4 @@ pub link_node-requires-clause-few : goal.link_node-requires-clause-few
 link_node-requires-clause-few g c = c.requires.few (sym c.link_refusal.ensures ∙ c.in-None.is)
 
 pub returns-in-Some-clause-few : goal.returns-in-Some-clause-few
-returns-in-Some-clause-few g c = none-few _ 7 c.requires.first
+returns-in-Some-clause-few g c = none-few _ 11 c.requires.first

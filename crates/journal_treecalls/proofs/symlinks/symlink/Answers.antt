@@ -19,4 +19,4 @@ pub link_found-requires-clause-few : goal.link_found-requires-clause-few
 link_found-requires-clause-few g c = few-text c.args.caller.now c.args.link.now.settings c.args.link.now.text.now c.in-Ok.found.directory.head.attributes c.args.now c.in-Ok.found c.link_plan-plan.result c.link_plan-plan.ensures
 
 pub returns-in-Err-clause-few : goal.returns-in-Err-clause-few
-returns-in-Err-clause-few g c = none-few _ 7 c.in_ok-found.ensures.first
+returns-in-Err-clause-few g c = none-few _ 11 c.in_ok-found.ensures.first

@@ -7,5 +7,5 @@ use Rattle.journal_treecalls.proofs.walk.show_blocks.Given as goal
 abbrev pub invariant-loop-j : goal.invariant-loop-j
 invariant-loop-j g l = record {
   first : g.T.TreeDisk.writes l.disk ≡ [];
-  learns : Learns (g.T.TreeDisk.may_be l.fn.disk) (g.T.TreeDisk.may_be l.disk) (λ V. ShowsBlocks V l.begin l.blocks l.j l.fn.page l.page);
+  learns : Learns (g.T.TreeDisk.may_be l.fn.disk) (g.T.TreeDisk.may_be l.disk) (λ V. ShowsBlocks V l.begin l.numbers l.j l.fn.page l.page);
 }

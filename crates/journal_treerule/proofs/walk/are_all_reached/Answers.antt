@@ -6,12 +6,12 @@ use Rattle.std.proofs.lemmas.List.Elements.{Contains-get_or}
 use Rattle.journal_tree.specs.declared.limits.TheConstants.{MOST_PLACES}
 use Rattle.journal_treeobjects.specs.Maps.{view_of}
 use Rattle.journal_treerule.specs.Parts.{AreInodesRight}
-use Rattle.journal_treerule.specs.Directories.{AreEntriesSound, AreChildren, AreBelow}
+use Rattle.journal_treerule.specs.Directories.{AreChildren, AreBelow}
 use Rattle.journal_treerule.specs.Walks.{IsQueueBelow, queue_after}
 use Rattle.journal_treerule.proofs.Disks.{disk-of-map}
 use Rattle.journal_treerule.proofs.Scanning.{not-within}
 use Rattle.journal_treerule.proofs.Meeting.{listing-none, listing-some, queue-below-one, queue-below-all, length-after-all, walk-first, walk-next}
-use Rattle.journal_treerule.proofs.Reaching.{entries-sound, walk-answers}
+use Rattle.journal_treerule.proofs.Reaching.{directory-sound, walk-answers}
 use Rattle.journal_world.specs.Maps.{Map}
 use Rattle.journal_treerule.proofs.walk.are_all_reached.Goals as goal
 
@@ -47,7 +47,7 @@ children_of-requires-clause-inside g c = subst (λ k. k < c.args.cut.numbers) (s
 pub returns-in_default-clause-sound : goal.returns-in_default-clause-sound
 returns-in_default-clause-sound g c = λ trusted right in_use. (
   (λ no. absurd (false≢true no)),
-  (λ sound. absurd (listing-none (λ v. v.items) c.args.cut _ _ _ _ c.loop-done.invariant.same_map c.loop-done.invariant.same_trust c.directory_at-directory.result _ c.in_ok-children.ensures.sound c.in_default.is trusted right (entries-sound (view_of c.args.cut (g.O.ObjectReader.map c.args.reader.now)) sound c.directory_at-directory.result MOST_PLACES))),
+  (λ sound. absurd (listing-none (λ v. v.items) c.args.cut _ _ _ _ c.loop-done.invariant.same_map c.loop-done.invariant.same_trust c.directory_at-directory.result _ c.in_ok-children.ensures.sound c.in_default.is trusted right (directory-sound (view_of c.args.cut (g.O.ObjectReader.map c.args.reader.now)) sound c.directory_at-directory.result))),
 )
 
 pub meet_all-requires : goal.meet_all-requires

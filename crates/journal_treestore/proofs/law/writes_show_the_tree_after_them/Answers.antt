@@ -1,8 +1,7 @@
 use Rattle.journal_treestore.proofs.Planting.{planting-shows}
 use Rattle.journal_treestore.proofs.Filling.{filling-shows}
 use Rattle.journal_treestore.proofs.Removing.{cutting-shows}
-use Rattle.journal_treestore.proofs.Growing.{growing-shows}
-use Rattle.journal_treestore.proofs.Widening.{growing-stays-sound}
+use Rattle.journal_treestore.proofs.Growing.{growing-shows, growing-stays-sound}
 use Rattle.journal_treestore.proofs.law.writes_show_the_tree_after_them.Goals as goal
 
 pub returns : goal.returns

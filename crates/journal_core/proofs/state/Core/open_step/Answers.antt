@@ -8,3 +8,6 @@ returns-clause-well_formed g c = c.in_ok-durable.ensures.well_formed
 
 pub returns-clause-bounds : goal.returns-clause-bounds
 returns-clause-bounds g c = c.in_ok-durable.ensures.bounds
+
+pub invariant_of-core : goal.invariant_of-core
+invariant_of-core g c = record { pair = c.in_ok-durable.ensures.pair; room = λ running. c.in-Some.ensures }

@@ -8,7 +8,7 @@ use Rattle.journal_treeserver.specs.Asking.{files}
 use Rattle.journal_treeserver.specs.Answers.{awaiting, ComesTo, told, outcome_text}
 use Rattle.journal_treeserver.specs.CodeViews.{served_as}
 use Rattle.journal_treeserver.proofs.Holding.{loses, on_err}
-use Rattle.journal_treeserver.proofs.Keeping.{keeps, kept_as_sent}
+use Rattle.journal_treeserver.proofs.Keeping.{keeps, kept_as_sent, written-behind}
 use Rattle.journal_treeserver.proofs.server.TreeServer.do_once.Goals as goal
 
 pub returns-in_err-tell-clause-lost : goal.returns-in_err-tell-clause-lost
@@ -28,7 +28,7 @@ new-requires g c =
     let results = results_of S.disk c.serve-done.result.results in
     let text = outcome_text S.disk c.args.sent.now.xid (told results) in
     kept_as_sent c.args.sent.now.cut cut c.args.sent.now.export export c.args.sent.now.bytes.now text _ c.front.result c.serve-done.new.session.seen
-    c.requires.cut c.requires.export ?same c.front.ensures
+    c.requires.cut c.requires.export (written-behind c.args.writer.now c.tell.new.writer c.as_bytes.result.now text c.len-begun.result c.as_bytes.ensures c.len-begun.ensures c.in_ok-tell.ensures) c.front.ensures
     (keeps S c.serve-done.result.wait c.args.sent.now.bytes.now text c.args.sent.now.xid c.args.caller asked _ c.args.session.now c.serve-done.new.session results
     c.requires.sent c.serve-done.ensures (c.is_to_keep-is_kept.ensures.done c.if-is_kept.true) (c.is_to_keep-is_kept.ensures.call c.if-is_kept.true) refl)
 

@@ -62,8 +62,8 @@ returns-in_err-tell-in-Err-clause-lost g c =
     (extends_trans old mid new c.see.ensures.extends c.flush.ensures.session) (prefix_trans front mid.seen new.seen c.see.ensures.all c.flush.ensures.session.seen)
     c.args.sent.now.xid c.args.caller (request_of c.args.requested.now) c.requires.sent)
 
-pub returns-in-Err-clause-held : goal.returns-in-Err-clause-held
-returns-in-Err-clause-held g c =
+pub returns-clause-held : goal.returns-clause-held
+returns-clause-held g c =
     let S = served_as c.args.self.now.store.now.cut c.args.self.now.export in
     let old = c.args.session.now in
     let mid = c.see.new.self in

@@ -1,6 +1,0 @@
-use Rattle.std.proofs.Common.{◌≡◌, []}
-use Rattle.journal_treestore.specs.Views.{View}
-use Rattle.journal_treecalls.proofs.room.find_block.Given as goal
-
-abbrev pub invariant-loop-block : goal.invariant-loop-block
-invariant-loop-block g l = record { first : g.T.TreeDisk.writes l.disk ≡ []; same : (V : View) → g.T.TreeDisk.may_be l.disk V → g.T.TreeDisk.may_be l.fn.disk V }
