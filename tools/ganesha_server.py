@@ -36,16 +36,16 @@ def is_open(address, port):
     return True
 
 
-def start(words, log):
+def start(words, log, environment=None):
     """A process that ends with this one."""
     line = ["setpriv", "--pdeathsig", "KILL", *map(str, words)]
-    return subprocess.Popen(line, stdin=subprocess.DEVNULL, stdout=log, stderr=subprocess.STDOUT)
+    return subprocess.Popen(line, stdin=subprocess.DEVNULL, stdout=log, stderr=subprocess.STDOUT, env=environment)
 
 
 class Ganesha:
-    """A run of the server, with a portmapper of its own."""
+    """A run of the server, with a portmapper of its own, in this environment."""
 
-    def __init__(self, folder, export, address, port, mount_port):
+    def __init__(self, folder, export, address, port, mount_port, environment=None):
         self.folder, self.port, self.mount_port, self.processes = folder, port, mount_port, []
         if PORTMAPPER.exists() and is_portmapper():
             raise OSError(f"a portmapper runs already ({PORTMAPPER})")
@@ -57,7 +57,7 @@ class Ganesha:
             self.processes.append(start(["unshare", "--net", "rpcbind", "-f"], self.log))
             self.wait(is_portmapper)
             line = ["ganesha.nfsd", "-F", "-L", folder / "ganesha.log", "-f", configuration, "-p", folder / "ganesha.pid"]
-            self.processes.append(start(line, self.log))
+            self.processes.append(start(line, self.log, environment))
             self.wait(lambda: is_open(address, port) and is_open(address, mount_port))
         except BaseException:
             self.stop()

@@ -2,6 +2,8 @@
 // write (its offset and bytes) before it is made, and each sync once it has succeeded, with the number of
 // records that were there when it began.
 //
+// With KEEP_OLD a write is noted with the bytes that it replaces, so that it can be taken back.
+//
 // With FAIL_SYNC=N the process's N-th sync of DISK fails by EIO. It is not made, and is noted as failed.
 // With FAIL_SYNC=N:F-L only those syncs count that come after a write of a block from F to L.
 #define _GNU_SOURCE
@@ -59,6 +61,15 @@ static void append(struct record head, const void *bytes) {
         abort();
 }
 
+// Notes a write with the bytes that stand in its place. Where the file has none, they are zeros.
+static void append_old(struct record head, int file) {
+    char *bytes = calloc(1, head.size);
+    if (bytes == NULL || pread(file, bytes, head.size, head.at) < 0)
+        abort();
+    append(head, bytes);
+    free(bytes);
+}
+
 static struct choice chosen(void) {
     struct choice of = {0, 0, ULONG_MAX};
     const char *words = getenv("FAIL_SYNC");
@@ -87,8 +98,12 @@ static ssize_t traced_write(ssize_t (*next)(int, const void *, size_t, off_t), i
                             const void *bytes, size_t size, off_t at) {
     if (!is_disk(file))
         return next(file, bytes, size, at);
+    struct record head = {1, size, at};
     pthread_mutex_lock(&lock);
-    append((struct record){1, size, at}, bytes);
+    if (getenv("KEEP_OLD"))
+        append_old(head, file);
+    else
+        append(head, bytes);
     count_write(at, size);
     ssize_t done = next(file, bytes, size, at);
     pthread_mutex_unlock(&lock);

@@ -49,9 +49,12 @@ def build(source, folder):
     return library
 
 
-def traced(library, disk, trace, fails=None):
-    """The environment of a program whose writes and syncs of the disk are noted. FAIL_SYNC is as `fails` says."""
+def traced(library, disk, trace, fails=None, keeps_old=False):
+    """The environment of a program whose writes and syncs of the disk are noted, with what a write replaces if that is
+    asked for. FAIL_SYNC is as `fails` says."""
     more = {"LD_PRELOAD": str(library), "TRACE": str(trace), "DISK": str(disk)}
+    if keeps_old:
+        more["KEEP_OLD"] = "yes"
     if fails:
         more["FAIL_SYNC"] = fails
     return dict(os.environ, **more)

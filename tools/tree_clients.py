@@ -11,6 +11,7 @@ one, and never both or none; what had the new name is there or replaced; and a R
 answered is done.
 """
 
+import collections
 import random
 import re
 import struct
@@ -19,18 +20,20 @@ import threading
 from typing import NamedTuple, Optional
 
 from tree_calls import *
-from tree_content import EMPTY, Content, content_of
+from tree_content import EMPTY, Content
 
 FILE_BYTES = 20000
-# Of a client with large files: how large they get, where another index block is needed, and how much
-# it writes at once and in a row.
-LARGE_BYTES, INDEX_EDGES = 12 << 20, tuple(4096 * (48 + 1024 * index) for index in range(3))
+# Of a client with large files: how large they get, from where on and how often another index block is
+# needed, and how much it writes at once and in a row.
+LARGE_BYTES, FIRST_INDEX, INDEX_BYTES = 12 << 20, 4096 * 48, 4096 * 1024
 MOST_WRITTEN, MOST_IN_A_ROW = 65536, 48
+MOST_READ, READS_AT_ONCE = 65536, 8
 SHARED = b"shared"
 FOLDERS = 3
 FILES_EACH = 2
 NAMES_SHARE, RENAMES_SHARE = 0.4, 0.4
 START_SECONDS = 60
+BLOCK, MOST_TOLD = 4096, 12
 
 
 class Wrong(Exception):
@@ -48,12 +51,13 @@ class Node(NamedTuple):
     ctime: Optional[Time]
 
     def is_found_as(self, found):
+        # The bytes are looked at last, because that takes longest.
         return (
             found is not None
             and self.mode == found.mode
-            and is_same_content(self.content, found.content)
             and self.handle in (None, found.handle)
             and self.ctime in (None, found.ctime)
+            and is_same_content(self.content, found.content)
         )
 
     def __str__(self):
@@ -73,14 +77,22 @@ def is_same_content(one, other):
 def runs(content):
     """The bytes by fours, each the number of the write that wrote it, and how often it stands there
     in a row."""
-    data, found = content.part(0, content.size), []
-    for at in range(0, len(data), 4):
-        stamp = data[at : at + 4]
+    found = []
+    for stamp, count in (run for at in range(0, content.size, BLOCK) for run in runs_of_block(content.part(at, BLOCK))):
         if found and found[-1][0] == stamp:
-            found[-1][1] += 1
+            found[-1][1] += count
+        elif len(found) < MOST_TOLD:
+            found.append([stamp, count])
         else:
-            found.append([stamp, 1])
-    return found[:12]
+            break
+    return found
+
+
+def runs_of_block(data):
+    """Most blocks have the bytes of one write."""
+    if data == data[:4] * (BLOCK // 4):
+        return [(data[:4], BLOCK // 4)]
+    return [(data[at : at + 4], 1) for at in range(0, len(data), 4)]
 
 
 class Call:
@@ -198,22 +210,32 @@ class Set(Call):
 
 
 class Write(Call):
+    """A WRITE of so many bytes, by fours from the file's first one on its stamp. They are not kept,
+    because a file may have a GiB."""
+
     procedure = WRITE
     verifier = None
 
-    def __init__(self, path, handle, offset, data, how):
+    def __init__(self, path, handle, offset, size, stamp, how):
         super().__init__(path)
-        self.arguments = written(handle, offset, data, how)
-        self.offset, self.data, self.tells_stable = offset, data, how != UNSTABLE
+        self.to, self.offset, self.size, self.stamp, self.how = handle, offset, size, stamp, how
+        self.tells_stable = how != UNSTABLE
+
+    @property
+    def arguments(self):
+        return written(self.to, self.offset, self.data(), self.how)
+
+    def data(self):
+        return (self.stamp * (self.size // 4 + 2))[self.offset % 4 :][: self.size]
 
     def take(self, wrote):
         self.ctime, self.verifier = wrote.change.after.ctime, wrote.verifier
-        wanted = (len(self.data), FILE_SYNC if self.tells_stable else UNSTABLE)
+        wanted = (self.size, FILE_SYNC if self.tells_stable else UNSTABLE)
         if (wrote.count, wrote.committed) != wanted:
             raise Wrong(f"{self.path}: WRITE answers {wrote.count}, {wrote.committed}, not {wanted}")
 
     def node(self, before):
-        return Node(before.handle, before.mode, before.content.overlaid(self.offset, self.data), self.ctime)
+        return Node(before.handle, before.mode, before.content.overlaid(self.offset, self.data()), self.ctime)
 
 
 class Commit(Call):
@@ -237,6 +259,8 @@ class Client:
     renames. A call that is answered by one of `refusals` is not done."""
 
     refusals, own_folders = (JUKEBOX,), FOLDERS
+    # The calls that cut, lengthen, remove or replace a file that was written from its first byte on.
+    whole_calls = ()
 
     def __init__(self, number, most_at_once, choice=random, names_share=NAMES_SHARE, renames_share=RENAMES_SHARE):
         self.number, self.most_at_once, self.choice = number, most_at_once, choice
@@ -254,6 +278,12 @@ class Client:
         """Goes on from what was found. `top` has the handles of the folders that no client removes."""
         self.handles = dict(top) | {path: node.handle for path, node in self.found.items() if node}
         self.calls, self.stable, self.verifier, self.fault = [], 0, None, None
+        # After so many calls its paths are so.
+        self.known = 0, dict(self.found)
+
+    def count_of_bursts(self, count):
+        """How many bursts it sends where so many are asked for."""
+        return count
 
     def is_own(self, path):
         return path in self.folders or path in self.files
@@ -305,11 +335,10 @@ class Client:
         return self.write_at(path, start, end - start, self.choice.choice([UNSTABLE, UNSTABLE, DATA_SYNC, FILE_SYNC]))
 
     def write_at(self, path, start, size, how):
-        """A write of so many bytes, by fours from a file's first one on the number of the write."""
+        """A write of so many bytes, whose stamp is the number of the write."""
         self.writes += 1
         stamp = struct.pack(">I", self.number + 1 << 24 | self.writes)
-        data = (stamp * (size // 4 + 2))[start % 4 :][:size]
-        return Write(path, self.handles[path], start, data, how)
+        return Write(path, self.handles[path], start, size, stamp, how)
 
     def change_of_names(self):
         """A file or a folder that is made, removed or renamed, where its folder is there."""
@@ -388,12 +417,19 @@ class Client:
     def states(self, stable, sent):
         """What its paths may be where so many calls are stable, and so many were sent at most; and
         after how many."""
-        state = dict(self.found)
-        for place, call in enumerate(self.calls[:sent]):
-            if place >= stable:
-                yield place, state
-            state = call.after(state)
+        state = self.state_after(stable)
+        for place in range(stable, sent):
+            yield place, state
+            state = self.calls[place].after(state)
         yield sent, state
+
+    def state_after(self, count):
+        """What its paths are after so many calls. It is kept for later ones."""
+        known, state = self.known if self.known[0] <= count else (0, dict(self.found))
+        for call in self.calls[known:count]:
+            state = call.after(state)
+        self.known = count, state
+        return state
 
     def place_of(self, found, stable, sent):
         """After how many of its calls its paths are as they were found."""
@@ -432,23 +468,80 @@ class LargeClient(Client):
             return [self.change_of_names()]
         path = self.choice.choice(there)
         if self.choice.random() < 0.25:
-            return [Set(path, self.handles[path], size=self.place())]
+            return [Set(path, self.handles[path], size=self.place(path))]
         return self.writes_in_a_row(path)
 
     def writes_in_a_row(self, path):
-        start, count = self.place(), self.choice.randint(1, self.most_at_once)
+        start, count = self.place(path), self.choice.randint(1, self.most_at_once)
+        return self.row(path, start, min(start + count * MOST_WRITTEN, self.most_bytes(path)))
+
+    def row(self, path, start, end):
+        """Writes from one byte on to another one."""
         how = self.choice.choice((UNSTABLE, UNSTABLE, FILE_SYNC))
-        places = range(start, min(start + count * MOST_WRITTEN, LARGE_BYTES), MOST_WRITTEN)
-        calls = [self.write_at(path, place, min(MOST_WRITTEN, LARGE_BYTES - place), how) for place in places]
+        places = range(start, end, MOST_WRITTEN)
+        calls = [self.write_at(path, place, min(MOST_WRITTEN, end - place), how) for place in places]
         return [*calls, Commit(path, self.handles[path])] if how == UNSTABLE else calls
 
-    def place(self):
+    def most_bytes(self, path):
+        """How large a file gets."""
+        return LARGE_BYTES
+
+    def place(self, path):
         """A place in a file, often near one where another index block is needed."""
-        near = self.choice.choice(INDEX_EDGES) + self.choice.randint(-9000, 9000)
-        return self.choice.choice((0, self.choice.randrange(LARGE_BYTES), max(near, 0)))
+        most = self.most_bytes(path)
+        edge = self.choice.randrange(FIRST_INDEX, most, INDEX_BYTES) + self.choice.randint(-9000, 9000)
+        return self.choice.choice((0, self.choice.randrange(most), min(edge, most)))
 
     def first_size(self):
         return self.choice.choice((0, 0, self.choice.randrange(LARGE_BYTES)))
+
+
+class GiantClient(LargeClient):
+    """One with a file that gets so large, and that it writes, if it is asked for, from its first byte
+    to its last one. Then it cuts it and makes it longer again, several times, and at last it removes
+    it, or renames another file to its name."""
+
+    cuts = 3
+
+    def __init__(self, number, choice, giant_bytes, writes_whole):
+        super().__init__(number, choice)
+        self.giant, self.giant_bytes = self.files[0], giant_bytes
+        self.acts = self.whole_acts() if writes_whole else iter(())
+        self.whole_calls = []
+
+    def most_bytes(self, path):
+        return self.giant_bytes if path == self.giant else LARGE_BYTES
+
+    def count_of_bursts(self, count):
+        """How many bursts it sends, of which so many are random ones. One that does not write a whole
+        file goes on as long as those that do."""
+        rows = -(-self.giant_bytes // (MOST_IN_A_ROW * MOST_WRITTEN))
+        return count + rows + 2 * self.cuts + 4
+
+    def burst(self):
+        return next(self.acts, None) or super().burst()
+
+    def whole_acts(self):
+        """The bursts of a whole file, in their order."""
+        for path in (self.giant, self.files[1]):
+            yield [Create(path, self.handles[path[:-1]], 0o644, 0)]
+        row = MOST_IN_A_ROW * MOST_WRITTEN
+        for start in range(0, self.giant_bytes, row):
+            yield self.row(self.giant, start, min(start + row, self.giant_bytes))
+        for size in sorted(self.choice.sample(range(self.giant_bytes), self.cuts), reverse=True):
+            yield [self.whole(Set(self.giant, self.handles[self.giant], size=size))]
+            yield [self.whole(Set(self.giant, self.handles[self.giant], size=self.giant_bytes))]
+        yield [self.whole(self.last_act())]
+
+    def last_act(self):
+        folder = self.handles[self.giant[:-1]]
+        if self.number % 2:
+            return Rename(self.files[1], folder, self.giant, folder)
+        return Remove(self.giant, folder)
+
+    def whole(self, call):
+        self.whole_calls.append(call)
+        return call
 
 
 def is_found(node, found):
@@ -516,16 +609,16 @@ def listening(service):
     return port
 
 
-def check_disk(jnlfs, disk):
+def check_disk(jnlfs, disk, environment=None):
     """`jnlfs check` must find a sound tree."""
-    ended = subprocess.run([jnlfs, "check", disk], capture_output=True, text=True)
+    ended = subprocess.run([jnlfs, "check", disk], capture_output=True, text=True, env=environment)
     if ended.returncode or "sound" not in ended.stdout:
         raise Wrong(f"check: status {ended.returncode}, {ended.stdout!r}, {ended.stderr!r}")
 
 
-def all_nodes(jnlfs, disk):
+def all_nodes(jnlfs, disk, environment=None):
     """Each node of the disk by its path, as a run of the service tells them."""
-    with Service(jnlfs, disk) as service, Connection(listening(service)) as connection:
+    with Service(jnlfs, disk, environment) as service, Connection(listening(service)) as connection:
         nodes, waiting = {}, [((), connection.root())]
         while waiting:
             path, directory = waiting.pop()
@@ -540,10 +633,34 @@ def node_of(connection, line):
     told = line.attributes
     if told.kind == DIRECTORY:
         return Node(line.handle, told.mode, None, None)
-    content = connection.read_all(line.handle)
-    if len(content) != told.size:
-        raise Wrong(f"{line.name}: size {told.size}, and {len(content)} bytes to read")
-    return Node(line.handle, told.mode, content_of(content), told.ctime)
+    return Node(line.handle, told.mode, content_of(connection, line), told.ctime)
+
+
+def content_of(connection, line):
+    """The bytes of a file, which must be as many as its size. Several READs are sent at once. One
+    that is answered JUKEBOX is sent again."""
+    content, size = EMPTY, line.attributes.size
+    offsets, waiting = collections.deque(range(0, size, MOST_READ)), collections.deque()
+    while offsets or waiting:
+        while offsets and len(waiting) < READS_AT_ONCE:
+            waiting.append(offsets.popleft())
+            connection.send_nfs(READ, at_place(line.handle, waiting[-1], MOST_READ))
+        offset, (status, portion) = waiting.popleft(), connection.receive_nfs(READ)
+        if status == JUKEBOX:
+            offsets.append(offset)
+        elif status != OK:
+            raise Refused(READ, status)
+        else:
+            content = with_portion(content, offset, portion, line)
+    return content
+
+
+def with_portion(content, offset, portion, line):
+    size = line.attributes.size
+    wanted = min(MOST_READ, size - offset), offset + MOST_READ >= size
+    if (len(portion.data), portion.is_end) != wanted:
+        raise Wrong(f"{line.name}: size {size}, and a READ at {offset} gives {portion.count} bytes")
+    return content.overlaid(offset, portion.data)
 
 
 def own_nodes(client, nodes):
