@@ -27,7 +27,8 @@ const TOO_FEW: &str =
 /// and wherever the program is stopped, the growth may be asked for again.
 /// - Those of a disk that is opened to be written, as where it is served.
 /// - Those of `files_of`. `CannotGrow`: it has flat files.
-/// - `Smaller`: it has more blocks. `NoSuchDisk`: no disk has so many, or these are too few.
+/// - `Smaller`: it has more blocks.
+/// - `NoSuchDisk`: no disk has this number of blocks, or they are too few for a growth.
 /// - `File`: the system's reason, as where the file cannot be so long. Nothing of the disk has
 ///   changed then.
 /// - `Refused`, `DeviceFailed`: memory is refused, its log is not well formed, or its device fails.

@@ -47,7 +47,7 @@ inode_fits layout has i a v at low whole bytes =
     ∙ is_value_of-bytes (Record Bytes128) v refl bytes
     ∙ eq-eqb (length v) 128 whole
 
--- and so many bytes as a block has, where there is such a data block
+-- and as many bytes as a block has, where there is such a data block
 pub block_fits : (layout : Shape) → HasFiles layout → (b : ℕ) (a : Addr) (v : Value) → a ≡ addr_of (block b) → FIRST_DATA ≤ b → length v ≡ 4096 → ((k : ℕ) → Fits w8 (get_or v k 0)) → IsTrue (is_valid layout a) → is_value_at (kind_of layout a.block) v ≡ true
 block_fits layout has b a v at from whole bytes valid =
     ap (λ (x : Addr). is_value_at (kind_of layout x.block) v) at

@@ -31,10 +31,10 @@ impl<'b, R: MapRule, J: Naming> Volatile<'b, R, J> {
     /// no update of its block, as it was fetched. Answers none if the block has to be fetched: it
     /// was not, or memory has dropped writes after the fetch. The call takes no memory.
     ///
-    /// The slots of all earlier reads are held. Their tokens are verified first. Where nothing was added
-    /// to the history that the transaction has seen, those of the first `known` slots agree with it,
-    /// and are not looked at. That shows that no commit touched these slots since. It does not block
-    /// and compares no value. Nothing changes.
+    /// The slots of all earlier reads are held. Their tokens are verified first. Where nothing was
+    /// added to the history that the transaction has seen, those of the first `known` slots agree
+    /// with it, and are not looked at. That shows that no commit touched these slots since. It does
+    /// not block and compares no value. Nothing changes.
     ///
     /// # Errors
     /// The first that applies is answered. The transaction is as it was.

@@ -33,7 +33,7 @@ pub some_left : (xs : List ℕ) (empty : Bool) → empty ≡ (length xs == 0) �
 some_left [] empty is none = absurd (false≢true (sym none ∙ is))
 some_left (x ∷ xs) empty is none = omega arith
 
--- no other record waits behind the one that is taken
+-- no other record waits after the one that is taken
 pub none_behind : (fed left : Stream) (r : List ℕ) → fed ≡ record left { records = r ∷ left.records } → length fed.records ≤ waiting_limit → left.records ≡ []
 none_behind fed left r is few = none_of_none left.records (omega (arith, few, ap (λ (t : Stream). length t.records) is))
 
@@ -117,7 +117,7 @@ module _ {C A R : Type 0} (s : Service C) (replaces : Replacing A) (commits : R 
     further : (bytes : List ℕ) → after first (t.taken ++ bytes) ≡ behind t.answered (after waiting bytes)
     further bytes = after-append first t.taken bytes ∙ ap (λ (u : Stream). after u bytes) (t.comes ∙ same) ∙ after_behind t.answered waiting bytes
 
-    -- the next record is answered behind those before it
+    -- the next record is answered after those before it
     module _ (taken rest : List ℕ) (left : Stream) (now : SessionState) (held : ReplyBatch A R) (counted : ℕ) (front : half ≡ taken ++ rest) where
       whole : piece ≡ (t.taken ++ taken) ++ rest
       whole = t.front ∙ ap (λ (b : List ℕ). t.taken ++ b) front ∙ sym (append_assoc t.taken taken rest)

@@ -46,7 +46,7 @@ pub record IsHeld {C A R : Type 0} (s : Service C) (replaces : Replacing A) (com
   pub ends : new.talk.over ≡ soon.ends
   pub known : old.behind ≡ held_of commits soon text ∷ new.behind
 
--- A record's call was done, its reply was written behind those that were held, and it was counted
+-- A record's call was done, its reply was written after those that were held, and it was counted
 pub record IsAdded {C A R : Type 0} (s : Service C) (replaces : Replacing A) (commits : R → ℕ) (tells : Time → Type 0) (over : Bool) (bytes : List ℕ) (old new : SessionState) (before now : ReplyBatch A R) (count counted : ℕ) : Type 0 where
   pub call : C
   pub reads : s.reads bytes ≡ Some call

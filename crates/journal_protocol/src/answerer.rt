@@ -31,7 +31,7 @@ impl<'s, P, C: Clock, G: Gate> Drop for Answerer<'s, P, C, G> {
     }
 }
 
-// Passes the gate, as the call that has so many before it.
+// Passes the gate, with the number of calls before this one.
 pub(crate) fn pass_gate<P, C: Clock, G: Gate, H: Wait>(
     rt: &H,
     answerer: &Answerer<'_, P, C, G>,

@@ -32,7 +32,8 @@ pub struct Txn<'j, 'b, D: BlockDisk, R: MapRule, J: Naming> {
     pub(crate) began: Front<'b, J, R>,
     pub(crate) transaction: Transaction<'b, J, R>,
     pub(crate) held: Vec<Held<J>>,
-    // How many of these agree with what it has seen, from the first on: its last read looked at them.
+    // How many of these agree with what it has seen, from the first on. Its last read looked at
+    // them.
     pub(crate) known: usize,
 }
 
