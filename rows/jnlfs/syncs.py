@@ -10,6 +10,8 @@ from program_rows import Wrong
 
 
 # Of `jnlfs::serving::serve`.
+# Of `jnlfs::serving::serve`, `jnlfs::making::make`, `jnlfs::disks::migrate`: each run of `jnlfs`
+# makes its syncs; where one fails it says so, and no call that needs it is answered as done.
 def each_sync_is_made_in_its_place(room):
     try:
         sync_rows.JnlfsRuns(room.programs["jnlfs"], room.folder).try_all()

@@ -29,6 +29,7 @@ def each_credential_is_a_caller_or_denied(room):
 
 
 # Of `journal_treewire::read_handle`.
+# Of `journal_treeservice::export`.
 def handles_of_nothing_are_refused(room):
     ask(room, "handles")
 
@@ -37,6 +38,8 @@ def arguments_that_are_none_are_garbage(room):
     ask(room, "arguments_that_are_none")
 
 
+# Of `journal_treeservice::export`: each call of NFS and MOUNT on a tree is answered as RFC 1813
+# asks for.
 def names_are_names(room):
     ask(room, "names")
 
@@ -54,10 +57,12 @@ def a_file_that_is_there_gets_a_size_alone(room):
 
 
 # Of `journal_treecalls::create_exclusive`.
+# Of `journal_treeservice::export`.
 def an_exclusive_file_is_made_once(room):
     ask(room, "exclusive_creation")
 
 
+# Of `journal_treeservice::export`.
 def an_exclusive_call_comes_again_in_another_run(room):
     ask(room, "exclusive_creation_in_another_run")
 
@@ -74,10 +79,12 @@ def files_are_cut_and_grow_by_zeros(room):
     ask(room, "sizes")
 
 
+# Of `journal_treeservice::export`.
 def times_grow_with_each_change(room):
     ask(room, "times")
 
 
+# Of `journal_treeservice::export`.
 def bytes_are_written(room):
     ask(room, "writing")
 
@@ -86,6 +93,7 @@ def bytes_are_read(room):
     ask(room, "reading")
 
 
+# Of `journal_treeservice::export`.
 def rights_are_those_of_the_mode(room):
     ask(room, "rights")
 
@@ -98,6 +106,7 @@ def special_bits_are_as_linux_has_them(room):
     ask(room, "special_bits")
 
 
+# Of `journal_treeservice::export`.
 def a_folder_is_listed_in_pages(room):
     ask(room, "listings")
 
@@ -132,14 +141,19 @@ def times_grow_without_a_clock(room):
     ask(room, "standing_clock")
 
 
+# Of `journal_treeservice::export`: each RENAME on a tree is answered as RFC 1813 asks for, by the
+# first of its cases that holds, and a listing that goes on meanwhile tells a node of its directory
+# once.
 def a_file_is_renamed(room):
     ask(room, "renames_of_files")
 
 
+# Of `journal_treeservice::export`.
 def a_folder_goes_to_another_parent(room):
     ask(room, "renames_of_folders")
 
 
+# Of `journal_treeservice::export`.
 def a_rename_replaces_what_stood_there(room):
     ask(room, "renames_onto_others")
 
@@ -148,14 +162,17 @@ def a_rename_to_itself_changes_nothing(room):
     ask(room, "renames_to_itself")
 
 
+# Of `journal_treeservice::export`.
 def renames_that_are_none_are_refused(room):
     ask(room, "renames_that_are_refused")
 
 
+# Of `journal_treeservice::export`.
 def the_first_refusal_of_a_rename_is_answered(room):
     ask(room, "the_first_refusal_is_answered")
 
 
+# Of `journal_treeservice::export`.
 def who_may_write_both_folders_renames(room):
     ask(room, "rights_to_rename")
 
@@ -164,10 +181,12 @@ def a_sticky_folder_keeps_what_is_anothers(room):
     ask(room, "sticky_folders")
 
 
+# Of `journal_treeservice::export`.
 def a_renamed_node_is_listed_once(room):
     ask(room, "renames_while_a_folder_is_listed")
 
 
+# Of `journal_treeservice::export`.
 def two_folders_never_hang_in_each_other(room):
     ask(room, "two_folders_into_each_other")
 
@@ -176,6 +195,7 @@ def one_of_all_has_the_name(room):
     ask(room, "one_name_for_all")
 
 
+# Of `journal_treeservice::export`.
 def a_node_is_never_under_both_names(room):
     ask(room, "never_under_both_names")
 
@@ -200,38 +220,48 @@ def times_grow_with_each_rename(room):
     ask(room, "times_of_renames")
 
 
+# Of `journal_treeservice::export`: SYMLINK and READLINK on a tree are answered as RFC 1813 asks
+# for, by the first of their cases that holds, and no call is led to where a link leads.
 def a_link_has_the_text_that_it_was_given(room):
     ask(room, "links_of_any_text")
 
 
+# Of `journal_treeservice::export`.
 def a_link_has_mode_owner_and_times_of_its_own(room):
     ask(room, "settings_of_links")
 
 
+# Of `journal_treeservice::export`.
 def whoever_asks_reads_a_link(room):
     ask(room, "rights_of_links")
 
 
+# Of `journal_treeservice::export`.
 def a_removed_link_leaves_what_it_led_to(room):
     ask(room, "links_that_go")
 
 
+# Of `journal_treeservice::export`.
 def a_link_is_renamed_as_a_file(room):
     ask(room, "renames_of_links")
 
 
+# Of `journal_treeservice::export`.
 def links_that_are_none_are_refused(room):
     ask(room, "refusals_of_symlink")
 
 
+# Of `journal_treeservice::export`.
 def a_link_is_no_file_and_no_folder(room):
     ask(room, "calls_that_want_another_kind")
 
 
+# Of `journal_treeservice::export`.
 def a_link_takes_one_block_and_one_inode(room):
     ask(room, "links_without_room")
 
 
+# Of `journal_treeservice::export`.
 def a_link_is_there_in_another_run(room):
     ask(room, "links_of_another_run")
 
@@ -292,6 +322,7 @@ def a_large_file_is_there_in_another_run(room):
 
 # Of `journal_treecalls::lookup`, `journal_treecalls::readdir`, `journal_treecalls::rename`,
 # `journal_treecalls::remove`.
+# Of `journal_treeservice::export`.
 def names_of_many_blocks_are_found_listed_and_moved(room):
     ask(room, "names_in_levels")
 

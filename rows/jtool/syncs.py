@@ -10,6 +10,9 @@ from program_rows import Wrong
 
 
 # Of `journal_program::Settled::mended`.
+# Of `journal_service::serve`, `journal_service::format`, `journal_service::check`,
+# `journal_service::migrate`: each run makes its syncs, and where one fails it ends before it says
+# that the disk may be used; one that opens the disk to write it mends it first.
 def each_sync_is_made_in_its_place(room):
     try:
         sync_rows.JtoolRuns(room.programs["jtool"], room.folder).try_all()
