@@ -113,8 +113,8 @@ def has_image(room, call, place):
 
 # Of `journal_core::Core::read_step`, `journal_core::Core::commit_step`,
 # `journal_core::Core::log_step`, `journal_core::Core::install_step`,
-# `journal_core::Core::session_step`, `journal_core::Core::fence_step`, `journal_circ::Circ::put_slot`,
-# `journal_wal::Wal::log_step`.
+# `journal_core::Core::session_step`, `journal_core::Core::fence_step`,
+# `journal_circ::Circ::put_slot`, `journal_wal::Wal::log_step`.
 def a_crash_at_each_call_leaves_a_front(room):
     """The last of the calls is not made."""
     for call in range(1, CALLS_OF_TWO_GROUPS + 2):
