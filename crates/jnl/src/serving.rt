@@ -16,7 +16,7 @@ use journal_disk::BlockDisk;
 use journal_history::{Book, Naming};
 use journal_lockmap::SlotCell;
 use journal_program::{Daemon, DiskFacts, SizedDisk, share_disk};
-use journal_twophase::{Journal, MAX_CACHED_BLOCKS};
+use journal_twophase::Journal;
 use journal_world::{AnyMap, Layout, Refused};
 use std::alloc::Global;
 use std::fs::{File, Files};
@@ -35,6 +35,9 @@ const OWN_FILES: u64 = 24;
 
 // How many workers there are at most: connections that wait for their commits at one time.
 const MOST_WORKERS: u64 = 64;
+
+// The most blocks at home of which memory keeps copies: 16 MiB.
+const CACHED_BLOCKS: usize = 4096;
 
 /// A service that is asked for.
 #[derive(Clone, Copy)]
@@ -306,7 +309,7 @@ fn serve_book<'w, J: Naming + Send + Sync, R: Clock + Threads + Wait + Sync, O: 
         number,
     } = disk;
     let disk = CountedDisk::over(rt, disk, &counts);
-    let opened = Journal::open_layout(alloc, book, cell, layout, disk, &AnyMap, MAX_CACHED_BLOCKS);
+    let opened = Journal::open_layout(alloc, book, cell, layout, disk, &AnyMap, CACHED_BLOCKS);
     let journal: OpenJournal<CountedDisk<SizedDisk, R>, J> = match opened {
         Ok(journal) => journal,
         Err(Refused { refusal, disk }) => {

@@ -99,7 +99,7 @@ impl<'b, D: BlockDisk, J: Naming, V: Version> FileStore<'b, D, J, V> {
     }
 
     /// Mounts a disk as `mount` does. Memory keeps at most `cached` copies of blocks that are at
-    /// home, as `Journal::open_with_cache` does, from 1 to 4096.
+    /// home, as `Journal::open_with_cache` does, from 1 to 16384.
     ///
     /// # Errors
     /// Those of `mount`.

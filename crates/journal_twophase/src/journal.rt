@@ -32,8 +32,8 @@ use std::sync::Wait;
 /// The most blocks at home of which `Journal::open` keeps copies in memory.
 pub const CACHED_BLOCKS: usize = 64;
 
-/// The most copies that `Journal::open_with_cache` keeps.
-pub const MAX_CACHED_BLOCKS: usize = 4096;
+/// The most copies that `Journal::open_with_cache` keeps: 64 MiB.
+pub const MAX_CACHED_BLOCKS: usize = 16384;
 
 /// The rest of a journal that was ended: its disk, as it is, and a front of its history. That has
 /// each commit that a crash may leave of the disk, and no mark that the disk lacks.
@@ -109,7 +109,7 @@ impl<'b, D: BlockDisk, R: MapRule, J: Naming> Journal<'b, D, R, J> {
     }
 
     /// Opens a disk as `open` does. Memory keeps at most `cached` copies of blocks that are at
-    /// home, from 1 to 4096, those that were used last. A read or a commit that finds its block
+    /// home, from 1 to 16384, those that were used last. A read or a commit that finds its block
     /// there makes no device call. The answers of reads and commits do not depend on it.
     ///
     /// # Errors
