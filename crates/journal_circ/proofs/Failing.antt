@@ -1,14 +1,14 @@
 -- What a failed barrier leaves of the home blocks: those that the log does not name the device has as
 -- they read.
-use Rattle.std.proofs.Common.{◌≡◌, ◌≢◌, ⊎_elim, ◌<◌, ◌≤◌, ◌+◌, ◌-◌, ◌||◌, ℕ, zero, suc, Bool, false, List, refl, sym, ap, ◌∙◌, arith, subst, IsTrue}
+use Rattle.std.proofs.Common.{◌≡◌, ◌≢◌, ⊎_elim, ◌<◌, ◌≤◌, ◌+◌, ◌-◌, ◌||◌, ℕ, zero, suc, Bool, false, List, refl, sym, ap, ◌∙◌, arith, IsTrue}
 use Rattle.std.proofs.lemmas.Bool.{ne_eqb}
 use Rattle.journal_block.specs.Block.{Bytes}
 use Rattle.journal_block.specs.declared.update.Update.{Update}
 use Rattle.journal_block.specs.Updates.{Content, updated, updates_block}
 use Rattle.journal_block.specs.UpdateLaws.{updated-unnamed}
-use Rattle.journal_disk.specs.Disks.{Past, IsKeptAt, block_at, stable_of, read_of}
-use Rattle.journal_disk.specs.Images.{IsImage, EveryImage, reading, LosesWrites}
-use Rattle.journal_disk.specs.Laws.{reading_is_image, reading-at, reads_after_loss}
+use Rattle.journal_disk.specs.Disks.{block_at, read_of}
+use Rattle.journal_disk.specs.Images.{IsImage, EveryImage, reading}
+use Rattle.journal_disk.specs.Laws.{reading_is_image, reading-at}
 use Rattle.journal_circ.specs.Log.{home_by, start_in, end_in, updates_from}
 use Rattle.journal_circ.specs.Ring.{Ring}
 use Rattle.journal_circ.specs.Soundness.{updates_between, IsCirc}
@@ -27,12 +27,6 @@ module _ (r : Ring) (is : IsCirc r) (honest : IsTrue r.disk.honest) (b : ℕ) (h
     where
       log : List Update
       log = updates_between r.disk.past r.header r.extent.freed r.extent.end
-
-  pub unnamed_kept : (new : Past) → LosesWrites r.disk.past new → IsKeptAt new b
-  unnamed_kept new loss none =
-      ap (λ (p : Past). stable_of p b) loss.is
-      ∙ unnamed_agrees new.device loss.device
-      ∙ sym (reads_after_loss r.disk.past new loss b lt)
 
 -- updates of which none is of a block do not name it
 unnamed_by : (h : Bytes) (blocks : Content) (from n b : ℕ) → ((q : ℕ) → from ≤ q → q < from + n → home_by h q ≢ b)

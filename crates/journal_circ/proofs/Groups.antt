@@ -1,49 +1,10 @@
 -- When the last group of a sealed log is there.
-use Rattle.std.proofs.Common.{◌≡◌, ◌≢◌, ◌⊎◌, inl, inr, ⊎_elim, ◌<◌, ◌≤◌, ◌+◌, ◌-◌, ◌/◌, ◌%◌, ◌^◌, ℕ, Bool, true, false, zero, suc, refl, sym, ap, ◌∙◌, arith, subst, ◌==◌, ◌&&◌, if◌then◌else◌, [], ◌∷◌, length}
+use Rattle.std.proofs.Common.{◌≡◌, ◌≢◌, ◌⊎◌, inl, inr, ⊎_elim, ◌<◌, ◌≤◌, ◌+◌, ◌-◌, ℕ, Bool, true, false, zero, suc, refl, sym, ap, ◌∙◌, arith, subst, ◌==◌, ◌&&◌, if◌then◌else◌, [], ◌∷◌, length}
 use Rattle.std.proofs.lemmas.Bool.{cases_eq, cases_lt, eqb-true, eq-eqb}
 use Rattle.journal_block.specs.Block.{Bytes, u64_at, with_bytes}
 use Rattle.journal_block.specs.Updates.{Content}
-use Rattle.journal_circ.specs.Log.{log_block, is_sealed, begin_of, count_in, tag_in, tag_of, with_tag, other_tag, word_of, are_there, end_of, sealed_end, end_by}
+use Rattle.journal_circ.specs.Log.{log_block, is_sealed, begin_of, count_in, tag_in, tag_of, with_tag, are_there, end_of, sealed_end, end_by}
 use Rattle.journal_circ.proofs.Forms.{there_same, end_same}
-
--- a tag that is neither
-pub not_first : (a b : ℕ) → other_tag a b ≢ a
-not_first a b same = by (a == 0) refl (b == 1) refl (b == 0) refl (a == 1) refl same
-  where
-    clash : {t : Bool} → t ≡ false → t ≡ true → ⊥
-    clash is other = let impossible : ⊥ = cc in impossible
-
-    by : (p : Bool) → (a == 0) ≡ p → (q : Bool) → (b == 1) ≡ q → (r : Bool) → (b == 0) ≡ r → (s : Bool) → (a == 1) ≡ s
-        → (if p then (if q then 2 else 1) else (if r then (if s then 2 else 1) else 0)) ≡ a → ⊥
-    by true zero_a true q_is r r_is s s_is is = omega (arith, is, eqb-true a 0 zero_a)
-    by true zero_a false q_is r r_is s s_is is = omega (arith, is, eqb-true a 0 zero_a)
-    by false some q q_is true r_is true one is = omega (arith, is, eqb-true a 1 one)
-    by false some q q_is true r_is false one is = clash one (eq-eqb a 1 (sym is))
-    by false some q q_is false r_is s s_is is = clash some (eq-eqb a 0 (sym is))
-
--- nor the other
-pub not_second : (a b : ℕ) → other_tag a b ≢ b
-not_second a b same = by (a == 0) refl (b == 1) refl (b == 0) refl (a == 1) refl same
-  where
-    clash : {t : Bool} → t ≡ false → t ≡ true → ⊥
-    clash is other = let impossible : ⊥ = cc in impossible
-
-    by : (p : Bool) → (a == 0) ≡ p → (q : Bool) → (b == 1) ≡ q → (r : Bool) → (b == 0) ≡ r → (s : Bool) → (a == 1) ≡ s
-        → (if p then (if q then 2 else 1) else (if r then (if s then 2 else 1) else 0)) ≡ b → ⊥
-    by true zero_a true q_is r r_is s s_is is = omega (arith, is, eqb-true b 1 q_is)
-    by true zero_a false q_is r r_is s s_is is = clash q_is (eq-eqb b 1 (sym is))
-    by false some q q_is true r_is true one is = omega (arith, is, eqb-true b 0 r_is)
-    by false some q q_is true r_is false one is = omega (arith, is, eqb-true b 0 r_is)
-    by false some q q_is false r_is s s_is is = clash r_is (eq-eqb b 0 (sym is))
-
--- the parts of a word
-pub parts : (home count tag first : ℕ) → home < 2 ^ 40 → count < 2 ^ 8 → tag < 2 ^ 8
-    → (word_of home count tag first % 2 ^ 40 ≡ home) × (word_of home count tag first / 2 ^ 40 % 2 ^ 8 ≡ count)
-parts home count tag first h c t = (omega arith, omega arith)
-
-pub more_parts : (home count tag first : ℕ) → home < 2 ^ 40 → count < 2 ^ 8 → tag < 2 ^ 8 → first < 2 ^ 8
-    → (word_of home count tag first / 2 ^ 48 % 2 ^ 8 ≡ tag) × (word_of home count tag first / 2 ^ 56 ≡ first) × (word_of home count tag first < 2 ^ 64)
-more_parts home count tag first h c t f = (omega arith, omega arith, omega arith)
 
 -- one that lacks its tag
 pub torn_by : (want have : ℕ → ℕ) (from n q : ℕ) → from ≤ q → q < from + n → have q ≢ want q → are_there want have from n ≡ false

@@ -1,11 +1,11 @@
 -- A disk is settled once its log, and the home blocks that the log names, were written again.
-use Rattle.std.proofs.Common.{Result, Ok, Err, OnOk, OnErr, ℕ, zero, suc, ◌≡◌, ◌≢◌, ◌⊎◌, inl, inr, ⊎_elim, ◌<◌, ◌≤◌, ◌+◌, ◌-◌, List, IsTrue, refl, sym, ap, ◌∙◌, arith, subst}
+use Rattle.std.proofs.Common.{Result, Ok, Err, OnOk, OnErr, ℕ, zero, suc, ◌≡◌, ◌≢◌, ◌⊎◌, inl, inr, ⊎_elim, ◌<◌, ◌≤◌, ◌+◌, ◌-◌, IsTrue, sym, ap, ◌∙◌, arith, subst}
 use Rattle.std.proofs.lemmas.Bool.{cases_eq, cases_lt}
 use Rattle.journal_block.specs.Block.{Bytes}
-use Rattle.journal_disk.specs.Disks.{DiskState, Past, Keeps, IsKeptAt, LostNone, MayHaveHappened, barrier, past_after, block_at, read_of}
-use Rattle.journal_disk.specs.Images.{IsRewritten, EveryImage, reading}
-use Rattle.journal_disk.specs.Laws.{rewritten_none, rewritten_both, reading-at, kept_by_images}
-use Rattle.journal_circ.specs.Log.{home_by, start_in, end_in}
+use Rattle.journal_disk.specs.Disks.{DiskState, Past, Keeps, IsKeptAt, LostNone, MayHaveHappened, barrier, past_after}
+use Rattle.journal_disk.specs.Images.{IsRewritten, reading}
+use Rattle.journal_disk.specs.Laws.{reading-at, kept_by_images}
+use Rattle.journal_circ.specs.Log.{home_by}
 use Rattle.journal_circ.specs.Mending.{IsMendable, IsLogOf, LeavesOut}
 
 -- The home blocks of the positions below some number were written as they read
@@ -13,24 +13,6 @@ pub record HasHomes (old new : DiskState) (header : Bytes) (start n : ℕ) : Typ
   pub keeps : Keeps old new
   pub rewritten : IsTrue old.honest → IsRewritten old.past new.past
   pub kept : IsTrue old.honest → (q : ℕ) → start ≤ q → q < n → IsKeptAt new.past (home_by header q)
-
-pub no_homes : (d : DiskState) (header : Bytes) (start : ℕ) → HasHomes d d header start start
-no_homes d header start = record {
-  keeps = record { size = refl; honest = refl; failures = omega arith };
-  rewritten = λ honest. rewritten_none d.past;
-  kept = λ honest q ge lt. absurd (omega (arith, ge, lt));
-}
-
-pub one_home : {a b c : DiskState} {header : Bytes} {start n : ℕ} (home : ℕ) → HasHomes a b header start n → home ≡ home_by header n → Keeps b c
-    → (IsTrue b.honest → IsRewritten b.past c.past) → (IsTrue b.honest → IsKeptAt c.past home) → HasHomes a c header start (n + 1)
-one_home {c = c} {header = header} {n = n} home has is keeps one kept = record {
-  keeps = record { size = keeps.size ∙ has.keeps.size; honest = keeps.honest ∙ has.keeps.honest; failures = omega (arith, has.keeps.failures, keeps.failures) };
-  rewritten = λ honest. rewritten_both (has.rewritten honest) (one (subst IsTrue (sym has.keeps.honest) honest));
-  kept = λ honest q ge lt. let was = subst IsTrue (sym has.keeps.honest) honest in ⊎_elim
-      (λ (here : q ≡ n). subst (IsKeptAt c.past) (is ∙ ap (home_by header) (sym here)) (kept was))
-      (λ (other : q ≢ n). (one was).kept (home_by header q) (has.kept honest q ge (omega arith)))
-      (cases_eq q n);
-}
 
 -- a position from start on, of n, has this home block, or none has
 abbrev pub Names : Bytes → ℕ → ℕ → ℕ → Type 0

@@ -1,11 +1,11 @@
 -- What an empty log's images stand for, and those of the same disk with a block 0 of another form.
-use Rattle.std.proofs.Common.{◌≡◌, ◌≢◌, inr, refl, ⊎_elim, ◌<◌, ◌≤◌, ◌+◌, ◌-◌, ◌^◌, ℕ, zero, Bool, true, length, List, sym, ap, ◌∙◌, arith, subst, IsTrue}
+use Rattle.std.proofs.Common.{◌≡◌, ◌≢◌, ⊎_elim, ◌<◌, ◌≤◌, ◌+◌, ◌-◌, ◌^◌, ℕ, zero, true, length, List, sym, ap, ◌∙◌, arith, IsTrue}
 use Rattle.journal_block.specs.Block.{Bytes, u64_at}
 use Rattle.journal_block.specs.Updates.{Content, updated}
-use Rattle.journal_disk.specs.Disks.{write, barrier, Past, IsSettled, LostNone, block_at, read_of, past_after, MayHaveHappened}
+use Rattle.journal_disk.specs.Disks.{write, barrier, Past, block_at, read_of, past_after, MayHaveHappened}
 use Rattle.journal_disk.specs.Images.{IsImage, IsOldOrWritten, IsRewritten}
 use Rattle.journal_disk.specs.Moments.{LeavesOnly}
-use Rattle.journal_disk.specs.Laws.{leaves_by_write, leaves_by_barrier, leaves_also, leaves_now, read_written, others_read, settled_after_barrier, lost_none_after, rewritten_synced}
+use Rattle.journal_disk.specs.Laws.{leaves_by_write, leaves_by_barrier, leaves_also, leaves_now, others_read, rewritten_synced}
 use Rattle.journal_circ.specs.Log.{log_block, is_sealed, begin_of, count_in, end_by, end_in, start_in, updates_from, label_of}
 use Rattle.journal_circ.specs.StandsFor.{StandsFor}
 use Rattle.journal_circ.specs.Ring.{Ring, home_of, IsHomeAndLabel, ChangesForm}
@@ -119,10 +119,3 @@ module _ (r : Ring) (is : IsCirc r) (honest : IsTrue r.disk.honest) (empty : r.e
 
         on_disk : b < r.disk.past.size
         on_disk = omega (arith, lt, synced.size, same_size)
-
--- block 0 was put and is stable
-pub settled_with : (p new : Past) (v : Bytes) (form : Bool) → LostNone p → is_sealed v ≡ form → new ≡ past_after barrier (past_after (write 0 v) p) → IsSettled new × (is_sealed (read_of new 0) ≡ form)
-settled_with p new v form lost is after = (
-  subst IsSettled (sym after) (settled_after_barrier (past_after (write 0 v) p) (lost_none_after (write 0 v) p (past_after (write 0 v) p) (inr refl) lost)),
-  ap (λ (q : Past). is_sealed (read_of q 0)) after ∙ ap is_sealed (read_written p 0 v) ∙ is,
-)

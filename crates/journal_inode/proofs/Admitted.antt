@@ -2,7 +2,7 @@
 use Rattle.std.proofs.Common.{ℕ, zero, suc, ◌≡◌, ◌<◌, ◌≤◌, ◌+◌, ◌-◌, ◌==◌, ◌⊎◌, inl, inr, Bool, true, false, not, cond, List, [], ◌∷◌, Option, Some, None, length, refl, sym, ap, subst, ◌∙◌, arith}
 use mathlib.Core.Bool.{beq}
 use Rattle.journal_inode.specs.declared.version.FormatVersion.{FormatVersion}
-use Rattle.std.specs.Prelude.{◌↔◌, IsTrue, Result, Ok, Err, IfOk, IfSome, MatchOption, unwrap_or, slice_get, slice_index}
+use Rattle.std.specs.Prelude.{◌↔◌, IsTrue, Result, Ok, Err, IfOk, IfSome, MatchOption, unwrap_or, slice_get}
 use Rattle.std.specs.Int.{bit_at}
 use Rattle.std.proofs.lemmas.Nat.Bits.{bit_at-lt}
 use Rattle.std.proofs.lemmas.Bool.{false≢true, cases_eq, cases_lt}
@@ -46,15 +46,6 @@ words_more before now after trusted still later failed fails failing owners n bi
     subst (λ (k : ℕ). AreBitsScanned before after trusted later failed failing owners k) next
     (bits_more before now after trusted still later failed fails failing owners n bits scanned same_map same_trust stays read asked)
 
--- a number of which a bit is not as the table asks tells that the bitmap is not
-pub bits_differ : (before now : Map) (trusted still failed fails : Bool) (owners : List Bool) (n bits : ℕ)
-    → AreBitsScanned before now trusted still failed fails owners n → n + 64 ≤ BLOCK_BITS → (IsTrue still → AreBitsFrom now (addr_of (bit n)) bits)
-    → (AreAsked owners n 64 bits → ⊥) → IsTrue trusted → AreBitsBelow before owners BLOCK_BITS → ⊥
-bits_differ before now trusted still failed fails owners n bits scanned inside read differ trust below =
-    differ (λ i within. sym (read (subst IsTrue (sym scanned.same_trust) trust) i within)
-    ∙ ap (λ m. object m (bit (n + i))) scanned.same_map
-    ∙ below (n + i) (omega arith))
-
 -- two tests that do not differ are the same
 pub same_tests : (a b : Bool) → not (beq a b) ≡ false → a ≡ b
 same_tests true true is = refl
@@ -81,18 +72,6 @@ asked_more owners first i bits set taken asked is told same j low = by_place (ca
         ∙ ap (λ x. x ∷ []) (value ∙ ap (λ (b : Bool). cond b 1 0) (same ∙ told))
         ∙ ap (λ k. bit_asked owners (first + k)) (sym here)
     by_place (inr other) = asked j (omega (arith, low, other))
-
-pub asked_not : (owners : List Bool) (first i bits : ℕ) (set taken : Bool) → i < 64 → (bit_at bits i == 1) ≡ set
-    → taken ≡ unwrap_or (slice_get owners (first + i)) true → (set ≡ taken → ⊥) → AreAsked owners first 64 bits → ⊥
-asked_not owners first i bits set taken within is told differ asked =
-    differ (sym is ∙ ap (λ n. n == 1) (head (asked i within)) ∙ back (unwrap_or (slice_get owners (first + i)) true) ∙ sym told)
-  where
-    head : {x y : ℕ} → x ∷ [] ≡ y ∷ [] → x ≡ y
-    head same = ap (λ v. slice_index v 0) same
-
-    back : (b : Bool) → (cond b 1 0 == 1) ≡ b
-    back true = refl
-    back false = refl
 
 module _ (version : FormatVersion) where
   -- what a place of the table is

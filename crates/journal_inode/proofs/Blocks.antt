@@ -17,8 +17,8 @@ use Rattle.journal_inode.specs.Places.Object.{block}
 use Rattle.journal_inode.specs.SameFiles.{IsOnDisk-is_valid}
 use Rattle.journal_inode.specs.Versions.{most_bytes, extra_count, room_of}
 use Rattle.journal_inode.specs.Sound.{file_blocks, held, stored, IsAmong, IsDataBlock, IsSoundFile}
-use Rattle.journal_inode.specs.Admitting.{AllZero, IsSoundBlock, AreSoundBlocks, AreBlocksScanned}
-use Rattle.journal_inode.proofs.Tails.{length-block, zeros, zeros-AllZero, AllZero-zeros, padded-AllZero, AllZero-padded}
+use Rattle.journal_inode.specs.Admitting.{AllZero, IsSoundBlock, AreSoundBlocks}
+use Rattle.journal_inode.proofs.Tails.{length-block, zeros, zeros-AllZero, padded-AllZero, AllZero-padded}
 
 -- a block is among these where the list contains it
 pub among : (bs : List ℕ) (b : ℕ) → Contains bs b → IsAmong bs b
@@ -181,33 +181,3 @@ file_decides version m f t born small timed many absent decides = (
       where
         room : length (stored version m f) ≡ room_of version f.size
         room = length-held m (file_blocks version f) whole ∙ ap (λ n. BLOCK_BYTES * n) (length-blocks version f many small)
-
--- a file of further blocks that are not all absent is not sound
-pub not_absent : (version : FormatVersion) (m : Map) (f : FileNode) → (AllZero (drop (extra_count version f.size) f.more) → ⊥) → IsSoundFile version m f → ⊥
-not_absent version m f some sound = some (subst AllZero (sym sound.absent) (AllZero-zeros (MORE_BLOCKS - extra_count version f.size)))
-
--- one more block is sound
-pub blocks_more : (before now after : Map) (trusted still later failed fails failing : Bool) (size left b : ℕ) (bs rest : List ℕ) (t : Bool)
-    → AreBlocksScanned before now trusted still failed fails size left bs (b ∷ rest) → after ≡ now → later ≡ still → (IsTrue fails → IsTrue failing)
-    → (IsTrue still → IsTrue t ↔ IsSoundBlock now left b) → (IsTrue t → IsDataBlock now.layout.blocks b) → IsTrue t
-    → AreBlocksScanned before after trusted later failed failing size (left - BLOCK_BYTES) bs rest
-blocks_more before now after trusted still later failed fails failing size left b bs rest t scanned same_map same_trust stays told range is = record {
-  same_map = same_map ∙ scanned.same_map;
-  same_trust = same_trust ∙ scanned.same_trust;
-  stays_failed = λ f. stays (scanned.stays_failed f);
-  in_range = λ others. scanned.in_range (subst (λ m. IsDataBlock m.layout.blocks b) scanned.same_map (range is), others);
-  so_far = λ trust. (
-    (λ others. (scanned.so_far trust).0 (here trust, others)),
-    (λ all. ((scanned.so_far trust).1 all).1),
-  );
-}
-  where
-    here : IsTrue trusted → IsSoundBlock before left b
-    here trust = subst (λ m. IsSoundBlock m left b) scanned.same_map ((told (subst IsTrue (sym scanned.same_trust) trust)).0 is)
-
--- one is not
-pub blocks_fail : (before now : Map) (trusted still failed fails : Bool) (size left b : ℕ) (bs rest : List ℕ) (t : Bool)
-    → AreBlocksScanned before now trusted still failed fails size left bs (b ∷ rest) → (IsTrue still → IsTrue t ↔ IsSoundBlock now left b) → (IsTrue t → ⊥)
-    → IsTrue trusted → AreSoundBlocks before size bs → ⊥
-blocks_fail before now trusted still failed fails size left b bs rest t scanned told not trust sound =
-    not ((told (subst IsTrue (sym scanned.same_trust) trust)).1 (subst (λ m. IsSoundBlock m left b) (sym scanned.same_map) ((scanned.so_far trust).1 sound).0))

@@ -4,7 +4,7 @@ use Rattle.std.specs.Prelude.{◌↔◌, All, AllPairs, Contains, slice_get, sli
 use Rattle.std.proofs.lemmas.Bool.{cases_eq}
 use Rattle.std.proofs.lemmas.Option.{slice_get_within, slice_get-get_or}
 use Rattle.std.proofs.lemmas.List.{length-set, get_or-take, length-take-le}
-use Rattle.std.proofs.lemmas.List.Elements.{All-nil, All-push, All-get_or, Contains-get_or, Contains-append_left, Contains-push, Contains-push_cases}
+use Rattle.std.proofs.lemmas.List.Elements.{All-push, All-get_or, Contains-get_or, Contains-append_left, Contains-push, Contains-push_cases}
 use Rattle.std.proofs.lemmas.List.Quantifiers.{all_pairs_push}
 use Rattle.journal_world.specs.declared.layout.TheConstants.{FIRST_DATA}
 use Rattle.journal_inode.specs.Admitting.{IsUnmarked, MarksBlocks}
@@ -35,21 +35,6 @@ within_cases xs k low = by_value (get_or xs k true) (slice_get-get_or xs k true 
 -- the place of a data block in the table
 pub place_of : (b : ℕ) → FIRST_DATA ≤ b → FIRST_DATA + (b - FIRST_DATA) ≡ b
 place_of b from = omega arith
-
-contains_none : (b : ℕ) → Contains {X = ℕ} [] b → ⊥
-contains_none b has = let low : has.0 < 0 = has.1 in omega (arith, low)
-
-pub MarksBlocks-none : (old : List Bool) → MarksBlocks [] old old
-MarksBlocks-none old = record {
-  unmarked = All-nil (IsUnmarked old);
-  distinct = λ i j d low high. absurd (omega (arith, high));
-  marked = λ k. ((λ set. inl set), λ either. by_either k either);
-  same_length = refl;
-}
-  where
-    by_either : (k : ℕ) → (slice_get old k ≡ Some true) ⊎ Contains [] (FIRST_DATA + k) → slice_get old k ≡ Some true
-    by_either k (inl set) = set
-    by_either k (inr has) = absurd (contains_none (FIRST_DATA + k) has)
 
 -- one more was free
 pub MarksBlocks-more : (bs : List ℕ) (b : ℕ) (old mid new : List Bool) → MarksBlocks bs old mid → FIRST_DATA ≤ b → IsUnmarked mid b → new ≡ slice_set mid (b - FIRST_DATA) true

@@ -10,7 +10,7 @@ use Rattle.std.proofs.lemmas.List.Folds.{list_any_more}
 use Rattle.std.proofs.lemmas.Grind.{get_or-set_at}
 use Rattle.journal_world.specs.Addresses.{slot_of, Shape}
 use Rattle.journal_world.specs.Maps.{Pair}
-use Rattle.journal_lockmap.specs.Numbers.{HeldState, slots_of, is_held, HasNumber, AreApart, HoldsSlots, Agree, is_written, CountsWrites, is_in, AreNone, MarksWrites}
+use Rattle.journal_lockmap.specs.Numbers.{HeldState, slots_of, is_held, HasNumber, AreApart, HoldsSlots, is_written, CountsWrites, is_in, AreNone, MarksWrites}
 
 abbrev none : HeldState
 none = record { slot = 0; count = 0 }
@@ -263,7 +263,3 @@ counted_all layout writes i held now old new through covered was = record {
     by slot false is = ap (λ b. cond (is_among held i slot && b) (slice_index old slot + 1) (slice_index old slot)) is
         ∙ ap (λ b. cond b (slice_index old slot + 1) (slice_index old slot)) (and-false (is_among held i slot))
         ∙ sym (ap (λ b. cond b (slice_index old slot + 1) (slice_index old slot)) is)
-
--- and all that is held agrees
-pub agree_all : (layout : Shape) (writes : List Pair) (i : ℕ) (held now : List HeldState) (old new : List ℕ) → length held ≤ i → AreCountedTo layout writes i held now old new → Agree new now
-agree_all layout writes i held now old new through was = λ k d lt. was.agree k d (omega (arith, lt, through, sym (length-map now (λ (h : HeldState). h.slot)) ∙ ap length was.same ∙ length-map held (λ (h : HeldState). h.slot)))

@@ -1,11 +1,10 @@
 -- The slots of a commit's writes are marked, one write after the other, and taken out as what is
 -- held is gone through.
-use Rattle.std.proofs.Common.{◌≡◌, ◌<◌, ◌==◌, ◌||◌, ◌&&◌, ℕ, zero, suc, Bool, true, false, not, List, [], ◌∷◌, length, set, replicate, refl, sym, ap, ◌∙◌, get_or-set_same, get_or-set_other}
-use Rattle.std.proofs.Math.Bool.{or-false}
+use Rattle.std.proofs.Common.{◌≡◌, ◌<◌, ◌==◌, ◌||◌, ◌&&◌, ℕ, zero, suc, Bool, true, false, not, List, length, set, replicate, refl, sym, ap, ◌∙◌, get_or-set_same, get_or-set_other}
 use Rattle.std.proofs.lemmas.Bool.{eqb-true, eqb-false}
-use Rattle.journal_world.specs.Addresses.{slot_of, Shape}
+use Rattle.journal_world.specs.Addresses.{Shape}
 use Rattle.journal_world.specs.Maps.{Pair}
-use Rattle.journal_lockmap.specs.Numbers.{is_in, is_written, AreNone, MarksWrites}
+use Rattle.journal_lockmap.specs.Numbers.{is_in, is_written, AreNone}
 
 -- no flag is set
 pub none_in : (slots : ℕ) → AreNone (replicate slots false)
@@ -39,28 +38,3 @@ marked_none layout writes left flags room none same = (
   room,
   λ slot. sym (ap (λ (b : Bool). b || is_written layout left slot) (none slot) ∙ ap (λ (ps : List Pair). is_written layout ps slot) same),
 )
-
-or_moves : (a b c : Bool) → (b || (a || c)) ≡ ((a || b) || c)
-or_moves true true c = refl
-or_moves true false c = refl
-or_moves false true c = refl
-or_moves false false c = refl
-
--- one more is marked
-pub marked_next : (layout : Shape) (p : Pair) (n : ℕ) (writes left rest : List Pair) (flags later : List Bool) → left ≡ p ∷ rest → n ≡ slot_of layout p.0
-    → ((other : ℕ) → is_in later other ≡ ((n == other) || is_in flags other)) → length later ≡ length flags
-    → AreMarkedBut layout writes left flags → AreMarkedBut layout writes rest later
-marked_next layout p n writes left rest flags later is own more same was = (
-  same ∙ was.0,
-  λ slot.
-      was.1 slot
-      ∙ ap (λ (ps : List Pair). is_in flags slot || is_written layout ps slot) is
-      ∙ ap (λ (m : ℕ). is_in flags slot || ((m == slot) || is_written layout rest slot)) (sym own)
-      ∙ or_moves (n == slot) (is_in flags slot) (is_written layout rest slot)
-      ∙ sym (ap (λ (b : Bool). b || is_written layout rest slot) (more slot)),
-)
-
--- once none is left, all are marked
-pub marked_all : (layout : Shape) (writes left : List Pair) (flags : List Bool) → left ≡ [] → AreMarkedBut layout writes left flags → MarksWrites layout flags writes
-marked_all layout writes left flags none was slot =
-    sym (was.1 slot ∙ ap (λ (ps : List Pair). is_in flags slot || is_written layout ps slot) none ∙ or-false (is_in flags slot))

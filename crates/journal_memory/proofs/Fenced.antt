@@ -54,21 +54,6 @@ takes_above runs new i session a b lt here there is begins s =
     above : a.first ≡ suc session
     above = omega (arith, begins)
 
--- no run is taken out
-pub takes_none_below : (session : ℕ) (runs : List Run) → TakesBelow session session runs runs
-takes_none_below session runs s = ap (λ (b : Bool). b || is_in_runs runs s) (none (nat_le session s && nat_lt s session) refl)
-  where
-    none : (b : Bool) → (nat_le session s && nat_lt s session) ≡ b → false ≡ (nat_le session s && nat_lt s session)
-    none true is = absurd (grind (arith, nat_tests))
-    none false is = sym is
-
-pub takes_none_above : (session : ℕ) (runs : List Run) → TakesAbove session (session + 1) runs runs
-takes_none_above session runs s = ap (λ (b : Bool). b || is_in_runs runs s) (none (nat_lt session s && nat_lt s (session + 1)) refl)
-  where
-    none : (b : Bool) → (nat_lt session s && nat_lt s (session + 1)) ≡ b → false ≡ (nat_lt session s && nat_lt s (session + 1))
-    none true is = absurd (grind (arith, nat_tests))
-    none false is = sym is
-
 -- a number is one of those from the first to the end just where it is the session, one below it or
 -- one above it
 between : (first session end s : ℕ) → first ≤ session → session < end

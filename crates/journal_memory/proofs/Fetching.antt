@@ -1,5 +1,5 @@
 -- What is fetched for a read or a commit is all that memory lacks.
-use Rattle.std.proofs.Common.{◌≡◌, ◌<◌, ◌≤◌, ℕ, Bool, true, false, cond, not, ◌&&◌, ◌||◌, nat_le, List, [], ◌∷◌, ◌++◌, map, IsTrue, Some, None, Result, Ok, Err, IfOk, All, refl, sym, ap, subst, ◌∙◌, arith}
+use Rattle.std.proofs.Common.{◌≡◌, ◌<◌, ◌≤◌, ℕ, Bool, true, false, cond, not, ◌&&◌, ◌||◌, List, [], ◌∷◌, ◌++◌, map, IsTrue, Some, None, Result, Ok, Err, IfOk, All, refl, sym, ap, subst, ◌∙◌, arith}
 use Rattle.std.proofs.lemmas.Bool.{false≢true, and_parts, eq-eqb, le-leb}
 use Rattle.std.proofs.lemmas.Option.{none-some}
 use Rattle.std.proofs.lemmas.List.Elements.{All-head, All-tail, All-cons}
@@ -97,14 +97,6 @@ pub fetched_all : (n : Shape) (fetched known : List Update) (blocks : List ℕ) 
     → blocks ≡ missing_blocks n known ws → missing_blocks n (fetched ++ known) ws ≡ []
 fetched_all n fetched known blocks ws named is =
     none_left n fetched known ws (subst (All (λ b. updates_block fetched b ≡ true)) (named ∙ is) (named_all fetched))
-
--- of nothing fetched, nothing is usable
-pub none_usable : (v : VolatileState) (f : FetchedState) → f.updates ≡ [] → usable v f ≡ []
-none_usable v f none = by (nat_le v.tail.trimmed f.commits)
-  where
-    by : (b : Bool) → cond b f.updates [] ≡ []
-    by true = none
-    by false = refl
 
 -- of what was fetched since memory was trimmed, all is
 pub all_usable : (v : VolatileState) (f : FetchedState) → v.tail.trimmed ≤ f.commits → usable v f ≡ f.updates

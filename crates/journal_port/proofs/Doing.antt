@@ -1,16 +1,14 @@
 -- What an open transaction did.
-use Rattle.std.proofs.Common.{ℕ, ◌≡◌, ◌<◌, ◌≤◌, ◌+◌, length, take, get_or, add-one, IsTrue, List, [], ◌∷◌, ◌++◌, Option, Some, None, refl, sym, ap, subst, ◌∙◌}
+use Rattle.std.proofs.Common.{ℕ, ◌≡◌, ◌<◌, ◌+◌, length, take, get_or, add-one, IsTrue, List, [], ◌∷◌, ◌++◌, Option, Some, None, refl, sym, ap, subst, ◌∙◌}
 use Rattle.std.specs.Prelude.{MatchOption}
 use Rattle.std.proofs.Math.Seq.{take-suc}
-use Rattle.std.proofs.lemmas.List.{take_all}
 use Rattle.std.proofs.lemmas.List.Elements.{All-nil, All-cons, All-append, All-weaker}
-use mathlib.Core.List.{IsPrefix}
 use Rattle.journal_world.proofs.Prefixes.{IsPrefix-refl, IsPrefix-trans}
-use Rattle.journal_world.specs.Addresses.{Value, slot_of, Shape}
+use Rattle.journal_world.specs.Addresses.{Value, Shape}
 use Rattle.journal_world.specs.Maps.{Agrees, value_among}
 use Rattle.journal_world.specs.Histories.{is_trusted, latest}
-use Rattle.journal_twophase.specs.Transactions.{TxnState, holding, with_slot, Learns, Overwrites, ReadsValue}
-use Rattle.journal_records.specs.declared.request.Action.TheVariants.{Compare, Write}
+use Rattle.journal_twophase.specs.Transactions.{TxnState, holding, Learns, ReadsValue}
+use Rattle.journal_records.specs.declared.request.Action.TheVariants.{Compare}
 use Rattle.journal_records.specs.declared.request.Part.{Part}
 use Rattle.journal_port.specs.Requests.{if_compared, if_written, compared, written}
 use Rattle.journal_port.specs.Parts.{Does, IsRead, IsReady}
@@ -41,22 +39,6 @@ pub Does-matched : (layout : Shape) (old new : TxnState) (p : Part) (v : Value) 
     → (IsTrue (is_trusted new.seen) → Agrees (latest new.seen) old.reads) → (IsTrue (is_trusted new.seen) → Agrees (latest new.seen) new.reads) → Does (p ∷ []) old new
 Does-matched layout old new p v is ready same reads before after =
     Does-compare layout old new p is (Learns-unwritten layout old new p p.value is ready (subst (λ (w : Value). ReadsValue (holding layout old p.addr) p.addr w new) same reads)) before after
-
-pub held-compare : (layout : Shape) (old new : TxnState) (p : Part) → Learns (holding layout old p.addr) p.addr p.value new → new.held ≡ with_slot old.held (slot_of layout p.addr)
-held-compare layout old new p learns = ap (λ (t : TxnState). t.held) learns.others
-
-pub Does-write : (layout : Shape) (old new : TxnState) (p : Part) → p.action ≡ Write → Overwrites (holding layout old p.addr) p.addr p.value new → Does (p ∷ []) old new
-Does-write layout old new p is wrote = record {
-  reads = λ a. ap (λ (t : TxnState). value_among t.reads a) wrote.others ∙ ap (λ pair. value_among (if_compared pair (p.addr, p.value) ++ old.reads) a) (sym is);
-  writes = λ a. wrote.writes a ∙ ap (λ pair. value_among (if_written pair (p.addr, p.value) ++ old.writes) a) (sym is);
-  began = ap (λ (t : TxnState). t.began) wrote.others;
-  later = subst (IsPrefix old.seen) (sym (ap (λ (t : TxnState). t.seen) wrote.others)) (IsPrefix-refl old.seen);
-  kept = λ trusted a v found. ap (λ (t : TxnState). value_among t.reads a) wrote.others ∙ found;
-  matched = λ trusted. All-cons (IsRead new.reads) p [] (λ compares. absurd (let e : Write ≡ Compare = sym is ∙ compares in cc)) (All-nil (IsRead new.reads));
-}
-
-pub held-write : (layout : Shape) (old new : TxnState) (p : Part) → Overwrites (holding layout old p.addr) p.addr p.value new → new.held ≡ with_slot old.held (slot_of layout p.addr)
-held-write layout old new p wrote = ap (λ (t : TxnState). t.held) wrote.others
 
 -- one after another
 pub Does-none : (t : TxnState) → Does [] t t
@@ -90,6 +72,3 @@ pub Does-next : (parts : List Part) (i : ℕ) (x : Part) (old middle new : TxnSt
 Does-next parts i x old middle new low is before did =
     subst (λ ps. Does ps old new) (sym (ap (λ j. take j parts) (add-one i) ∙ take-suc parts i x low ∙ ap (λ y. take i parts ++ y ∷ []) (sym is)))
     (Does-append old middle new (take i parts) (x ∷ []) before did)
-
-pub Does-whole : (parts : List Part) (i : ℕ) (old new : TxnState) → length parts ≤ i → Does (take i parts) old new → Does parts old new
-Does-whole parts i old new whole did = subst (λ ps. Does ps old new) (take_all i parts whole) did

@@ -1,7 +1,6 @@
 pub mod Lists
 pub mod Keeping
 pub mod Doing
-pub mod Refusing
 pub mod Ordering
 pub mod Ending
 pub mod Reading

@@ -13,8 +13,7 @@ use Rattle.journal_world.specs.Addresses.{Value, slot_of, Shape}
 use Rattle.journal_world.specs.Maps.{Agrees, value_among}
 use Rattle.journal_world.specs.Histories.{is_trusted, latest}
 use Rattle.journal_memory.specs.Causes.{CauseState}
-use Rattle.journal_twophase.specs.Transactions.{TxnState, holding, holds, holds_above, with_slot, Learns, ReadsValue, IsBelowHeld}
-use Rattle.journal_twophase.specs.Transactions as twophase
+use Rattle.journal_twophase.specs.Transactions.{TxnState, holding, holds, holds_above, with_slot, Learns, ReadsValue}
 use Rattle.journal_port.specs.Answers.{IsAddrRefusal, IsReadRefusal}
 use Rattle.journal_port.specs.Reads.{KeepsReads}
 use Rattle.journal_port.proofs.Keeping.{kept_reads}
@@ -32,22 +31,6 @@ pub read_keeps : {E : Type 0} (layout : Shape) (r : Result Value E) (old new : T
     → OnOk r (IsTrue (is_trusted old.seen) → KeepsReads old.reads new.reads)
 read_keeps layout (Ok v) old new a none reads before after = kept_reads layout old new a v (Learns-clear layout old new a v none reads) before after
 read_keeps layout (Err why) old new a none reads before after = tt
-
-pub addr_refused : (layout : Shape) (t : TxnState) (a : Addr) (why : Refusal CauseState) → (IsBelowHeld (slot_of layout a) t.held → ⊥) → twophase.IsReadRefusal layout t a why → IsAddrRefusal layout a why
-addr_refused layout t a NoMemory ascends is = tt
-addr_refused layout t a BadAddress ascends is = is
-addr_refused layout t a BadSize ascends is = is.1
-addr_refused layout t a TooLarge ascends is = is.1
-addr_refused layout t a Busy ascends is = ascends is.1
-addr_refused layout t a (DeviceFailed cause) ascends is = is
-addr_refused layout t a BadLog ascends is = is.1
-addr_refused layout t a BadSuper ascends is = is.1
-addr_refused layout t a (Stale cause) ascends is = (t.seen, is.1)
-addr_refused layout t a (Stranger cause) ascends is = is.1
-addr_refused layout t a (Worn cause) ascends is = is.1
-addr_refused layout t a (Full cause) ascends is = is.1
-addr_refused layout t a (Closed cause) ascends is = is
-addr_refused layout t a Fenced ascends is = is.1
 
 pub read_refused : (layout : Shape) (addrs : List Addr) (a : Addr) (why : Refusal CauseState) → Contains addrs a → IsAddrRefusal layout a why → IsReadRefusal layout addrs why
 read_refused layout addrs a NoMemory has is = is

@@ -1,5 +1,5 @@
 -- Blocks that are held stay as a read gives them.
-use Rattle.std.proofs.Common.{◌≡◌, ◌≢◌, ◌⊎◌, ◌∙◌, ℕ, zero, suc, Bool, true, false, List, [], ◌∷◌, ◌++◌, set, Option, None, Some, refl, sym, ap, subst, ⊎_elim, inl, inr}
+use Rattle.std.proofs.Common.{◌≡◌, ◌≢◌, ◌⊎◌, ◌∙◌, ℕ, zero, suc, Bool, true, false, List, [], ◌∷◌, set, Option, None, Some, refl, sym, ap, subst, ⊎_elim, inl, inr}
 use Rattle.std.proofs.lemmas.Bool.{cases_eq}
 use Rattle.std.proofs.lemmas.List.{get_or-set_other}
 use Rattle.std.proofs.lemmas.Option.{none-some, same_Some}
@@ -22,12 +22,6 @@ set_bytes held b x y is = ⊎_elim
     (λ one. same_Some x y (sym one ∙ is))
     (λ none. absurd (none-some y (sym none ∙ is)))
     (set_same held b (Some x))
-
-pub one_more_nothing : (held : List (Option Bytes)) → HoldsNothing held → HoldsNothing (held ++ None ∷ [])
-one_more_nothing [] nothing zero = refl
-one_more_nothing [] nothing (suc b) = refl
-one_more_nothing (x ∷ xs) nothing zero = nothing 0
-one_more_nothing (x ∷ xs) nothing (suc b) = one_more_nothing xs (λ c. nothing (suc c)) b
 
 -- where nothing is held
 pub current_nothing : (held : List (Option Bytes)) (p : Past) → HoldsNothing held → AreCurrent held p

@@ -1,5 +1,5 @@
 -- A kind and its number, and the regions that a block's numbers tell.
-use Rattle.std.proofs.Common.{◌≡◌, ◌∙◌, ◌<◌, ◌+◌, ◌*◌, ◌==◌, ℕ, List, length, if◌then◌else◌, slice_index_or, refl, sym, ap, arith}
+use Rattle.std.proofs.Common.{◌≡◌, ◌∙◌, ◌<◌, ◌==◌, ℕ, List, length, if◌then◌else◌, slice_index_or, refl, sym, ap, arith}
 use Rattle.std.proofs.lemmas.List.{ext_get_or}
 use Rattle.journal_world.specs.declared.address.Kind.{Kind}
 use Rattle.journal_world.specs.declared.address.Kind.TheVariants.{Bit, Record, Block}
@@ -10,7 +10,6 @@ use Rattle.journal_world.specs.Addresses.{bits_of}
 use Rattle.journal_world.specs.Files.{no_region}
 use Rattle.journal_block.specs.Block.{Bytes}
 use Rattle.journal_program.specs.Labels.{HasRegions}
-use Rattle.journal_program.specs.declared.label.Label.{Label}
 
 -- the kind of a number, which is a block's where it is no kind's
 kind_by : ℕ → Kind
@@ -49,8 +48,3 @@ same_regions b xs ys h g = ext_get_or no_region xs ys (h.many ∙ sym g.many) (�
     let low : k < REGIONS = omega arith in
     same_region (slice_index_or xs k no_region) (slice_index_or ys k no_region)
     (sym (h.firsts k low) ∙ g.firsts k low) (sym (h.kinds k low) ∙ g.kinds k low))
-
-pub same_label : (l m : Label) → l.blocks ≡ m.blocks → l.regions ≡ m.regions → l ≡ m
-same_label l m e f =
-    ap (λ (blocks : ℕ). record { blocks = blocks; regions = l.regions }) e
-    ∙ ap (λ (regions : List Region). record { blocks = m.blocks; regions = regions }) f

@@ -1,6 +1,5 @@
 -- How many records were answered.
-use Rattle.std.proofs.Common.{◌≡◌, ℕ, List, [], ◌∷◌, ◌++◌, ◌+◌, ◌-◌, ◌^◌, length, arith}
-use Rattle.std.specs.Prelude.{min}
+use Rattle.std.proofs.Common.{ℕ, List, ◌++◌, ◌+◌, ◌-◌, length, arith}
 use lib.ListN.{length-append}
 use Rattle.journal_protocol.specs.Sending.{GrowsBy}
 
@@ -10,9 +9,3 @@ counts_more a b old n new h k lt =
     let e = h (omega (arith, l, lt)) in
     let f = k (omega (arith, l, lt, e)) in
     omega (arith, l, e, f)
-
-pub counts_one : (old n new : ℕ) (rs : List (List ℕ)) (r : List ℕ) → GrowsBy old (length rs) n → new ≡ min (n + 1) (2 ^ 64 - 1) → GrowsBy old (length (rs ++ r ∷ [])) new
-counts_one old n new rs r h is lt =
-    let l = length-append rs (r ∷ []) in
-    let e = h (omega (arith, l, lt)) in
-    omega (arith, l, lt, e, is)

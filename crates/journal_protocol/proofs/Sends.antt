@@ -38,18 +38,6 @@ order_same {A = A} {R = R} commits a b replies bytes free latest o = record {
   waited = subst (λ (l : Option R). AreWaitedFor commits l o.others) (sym latest) o.waited;
 }
 
--- nothing is held
-pub order_none : {A R : Type 0} (commits : R → ℕ) (h : ReplyBatch A R) → h.replies.items ≡ [] → h.bytes ≡ [] → h.free ≡ 0 → h.latest ≡ None → IsInOrder commits h
-order_none {A = A} {R = R} commits h replies bytes free latest = record {
-  front = [];
-  others = [];
-  is = replies;
-  fits = ap total replies ∙ sym (ap length bytes);
-  is_free = tt;
-  free = free;
-  waited = subst (λ (l : Option R). AreWaitedFor {A = A} commits l []) (sym latest) refl;
-}
-
 snoc_some : {A : Type 0} (a : List (BatchEntry A)) (e : BatchEntry A) → a ++ e ∷ [] ≢ []
 snoc_some [] e = λ is. absurd cc
 snoc_some (h ∷ a) e = λ is. absurd cc
@@ -121,14 +109,6 @@ module _ {A R : Type 0} (replaces : Replacing A) (commits : R → ℕ) (refusabl
       let all = covered-append (floor history) o.front o.others (free_covered (floor history) o.front o.is_free) (covered_more (commits receipt) (floor history) o.others low others) in
       settles_same replaces history h.replies.items h.bytes (subst (AreCovered (floor history)) (sym o.is) all) o.fits
 
-  -- nothing is waited for where nothing is held
-  pub none_waits : {B : Type 0} (receipt : R) → h.latest ≡ Some receipt → h.replies.items ≡ [] → B
-  none_waits receipt waits none = absurd ((subst (λ (l : Option R). AreWaitedFor commits l o.others) waits o.waited).0 (behind_none o.front o.others (sym o.is ∙ none)))
-    where
-      behind_none : (a b : List (BatchEntry A)) → a ++ b ≡ [] → b ≡ []
-      behind_none [] b is = is
-      behind_none (x ∷ a) b is = absurd cc
-
   -- nothing is owed for any
   pub free_so : h.latest ≡ None → Settles replaces history h.replies.items h.bytes h.bytes × (take h.free h.bytes ≡ h.bytes)
   free_so none =
@@ -191,10 +171,6 @@ module _ {A R : Type 0} (replaces : Replacing A) (commits : R → ℕ) (refusabl
   pub breaks_first : (a b : Option (List ℕ)) → AppendsFront a b (take h.free h.bytes) → SendsInPart replaces history h a b
   breaks_first a b part = let s = settles_somehow replaces history refusable h.replies.items h.bytes o.fits in sends_less s.0 s.1 a b part
 
-  -- memory was refused for what is told
-  pub breaks_there : (a b : Option (List ℕ)) → Appends a b (take h.free h.bytes) → SendsInPart replaces history h a b
-  breaks_there a b whole = breaks_first a b (record { front = take h.free h.bytes; rest = []; is = sym (append-nil (take h.free h.bytes)); appends = whole })
-
   -- all were written
   pub sends_free : (a b : Option (List ℕ)) → h.latest ≡ None → Appends a b (take h.free h.bytes) → SendsSettled replaces history h a b
   sends_free a b none whole = let f = free_so none in record { text = h.bytes; settles = f.0; sent = subst (Appends a b) f.1 whole }
@@ -236,14 +212,6 @@ pub sends_none_behind : {A R : Type 0} (replaces : Replacing A) (commits : R →
 sends_none_behind replaces commits refusable history h b o =
     let s = settles_somehow replaces history refusable h.replies.items h.bytes o.fits in
     record { text = s.0; settles = s.1; sent = record { front = []; rest = drop h.free s.0; is = refl; appends = Appends-nil b } }
-
-pub sends_behind : {A R : Type 0} (replaces : Replacing A) (history : List Entry) (h : ReplyBatch A R) (text back : List ℕ) (b c : Option (List ℕ)) → Settles replaces history h.replies.items h.bytes text → back ≡ drop h.free text → Appends b c back → SendsBehind replaces history h b c
-sends_behind replaces history h text back b c settles is two = record { text = text; settles = settles; sent = subst (Appends b c) is two }
-
-pub sends_part_behind : {A R : Type 0} (replaces : Replacing A) (history : List Entry) (h : ReplyBatch A R) (text back : List ℕ) (b c : Option (List ℕ)) → Settles replaces history h.replies.items h.bytes text → back ≡ drop h.free text → AppendsFront b c back
-    → SendsBehindInPart replaces history h b c
-sends_part_behind replaces history h text back b c settles is two =
-    record { text = text; settles = settles; sent = record { front = two.front; rest = two.rest; is = sym is ∙ two.is; appends = two.appends } }
 
 -- ---- calls that are done, and held
 

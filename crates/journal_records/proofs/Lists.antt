@@ -17,10 +17,6 @@ joined done found = found >>= λ x. Some (done ++ x.0, x.1)
 abbrev pair_of : {T : Type 0} → List T → List ℕ → Option (List T × List ℕ)
 pair_of xs bytes = Some (xs, bytes)
 
-pub joined_none : {T : Type 0} (found : Option (List T × List ℕ)) → joined [] found ≡ found
-joined_none None = refl
-joined_none (Some x) = refl
-
 -- one more is read
 pub joined_more : {T : Type 0} (done : List T) (n : ℕ) (a : Item T) (bytes rest : List ℕ) (x : T) → a.reading bytes ≡ Some (x, rest)
     → joined done (read_several (suc n) a bytes) ≡ joined (done ++ x ∷ []) (read_several n a rest)
@@ -116,14 +112,6 @@ unfolding array several
 has_few limit a is_short law xs has = (let le : length xs ≤ limit = search (rules, has.0.1) in le, all_short a is_short law xs has.1.1)
 
 -- ---- writing one by one
-
-pub spelled_more : {T : Type 0} (a : Item T) (xs : List T) (x : T) → flat_map a.spelling (xs ++ x ∷ []) ≡ flat_map a.spelling xs ++ a.spelling x
-spelled_more a [] x = append-nil (a.spelling x)
-spelled_more a (y ∷ xs) x = ap (λ (r : List ℕ). a.spelling y ++ r) (spelled_more a xs x) ∙ sym (append_assoc (a.spelling y) (flat_map a.spelling xs) (a.spelling x))
-
-pub has_more : {T : Type 0} (a : Item T) (xs : List T) (x : T) → AllByRecursion a.Has xs → a.Has x → AllByRecursion a.Has (xs ++ x ∷ [])
-has_more a [] x all one = (one, tt)
-has_more a (y ∷ xs) x all one = (all.0, has_more a xs x all.1 one)
 
 pub adds_several : {T : Type 0} (a : Item T) (xs : List T) (old new : List ℕ) → new ≡ old ++ flat_map a.spelling xs → AllByRecursion a.Has xs → AddsItem (several (length xs) a) xs old new
 unfolding several

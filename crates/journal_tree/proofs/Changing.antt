@@ -229,9 +229,6 @@ pub HasTree-plant : (T : Tree) (d : ℕ) (x : Node) (n : ℕ) (y : Node) (now : 
     → n ≢ 0 → n < T.numbers → (T.at n).node ≡ None → IsFreeHome T n y.home → HasTree (planted (touch_place T d y.home.place now) n y)
 HasTree-plant T d x n y now tree is kind home some low none free = subst (IsTree T.numbers) (sym all) hangs
   where
-    T1 : Tree
-    T1 = touch_place T d y.home.place now
-
     S : Stems
     S = stems (touch_place T d y.home.place now)
 

@@ -1,5 +1,5 @@
 -- The file of an exclusive CREATE, and the answer to the same call that comes once more.
-use Rattle.std.proofs.Common.{◌≡◌, ◌≢◌, ℕ, ◌+◌, ◌==◌, Bool, true, false, ◌&&◌, List, [], Option, Some, None, Result, Ok, Err, refl, sym, ap, subst, ◌⊎◌, inl, inr, ◌∙◌}
+use Rattle.std.proofs.Common.{◌≡◌, ◌≢◌, ℕ, ◌+◌, ◌==◌, Bool, true, false, ◌&&◌, List, [], Option, Some, None, Result, Ok, refl, sym, ap, subst, ◌⊎◌, inl, inr, ◌∙◌}
 use Rattle.std.specs.Prelude.{if◌then◌else◌, option_map}
 use Rattle.std.proofs.lemmas.Bool.{eqb-true, eq-eqb, ne_eqb, and_parts, and_from, false≢true}
 use Rattle.journal_tree.specs.declared.time.Time.{Time}
@@ -23,7 +23,7 @@ use Rattle.journal_tree.specs.Changes.{grown_body, opened, touch_place, planted}
 use Rattle.journal_tree.specs.Names.{new_node, born, made_before, exclusive_attributes, create_exclusive, is_verifier, is_made_by, create_again, create_case}
 use Rattle.journal_tree.specs.Op.{Call, Reply, Op, IsRoom, MayTake}
 use Rattle.journal_tree.specs.Op.Op.{answers_create}
-use Rattle.journal_tree.specs.Laws.{told_again, verifier_of, IsExclusive, ExclusiveMakes, ExclusiveAgain, ExclusiveOther, CallsGiveVerifiers}
+use Rattle.journal_tree.specs.Laws.{ExclusiveMakes, ExclusiveAgain, ExclusiveOther, CallsGiveVerifiers}
 use Rattle.journal_tree.proofs.Finding.{find-some}
 use Rattle.journal_tree.proofs.Changing.{at_other, same_generation}
 use Rattle.journal_tree.proofs.Hanging.{found_by_name}
@@ -52,9 +52,6 @@ module _ {A : Type 0} (c : Caller) (T : Tree) (h : Handle) (name : List ℕ) (no
     where
       no : (s : Status) → (Ok r, T2) ≡ refused s T → IsAnswered r T2
       no s e = absurd (cc (ap (λ (o : Outcome A). o.0) e))
-
-      sought : Node → Outcome A
-      sought x = on_found T (find T h.number name) (none h.number x) (some h.number x)
 
       of_name : (x : Node) → (T.at h.number).node ≡ Some x → ((T.at h.number).generation == h.generation) ≡ true → is_directory x.body ≡ true → may_search c x.attributes ≡ true → (k : NameKind) → name_kind name ≡ k
           → (Ok r, T2) ≡ with_name T k Exists Exists (on_found T (find T h.number name) (none h.number x) (some h.number x)) → IsAnswered r T2

@@ -14,10 +14,6 @@ use Rattle.journal_tree.proofs.Hanging.{not_root}
 
 -- ── lists whose cookies ascend ──
 
-Ascends-lower : (b c : ℕ) (is : List Item) → b ≤ c → Ascends c is → Ascends b is
-Ascends-lower b c [] low up = tt
-Ascends-lower b c (i ∷ is) low up = (omega (arith, low, up.0), up.1)
-
 pub Ascends-take : (c k : ℕ) (is : List Item) → Ascends c is → Ascends c (take k is)
 Ascends-take c zero is up = tt
 Ascends-take c (suc k) [] up = tt

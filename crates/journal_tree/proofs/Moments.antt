@@ -1,5 +1,5 @@
 -- How times grow.
-use Rattle.std.proofs.Common.{◌≡◌, ◌≢◌, ℕ, ◌+◌, ◌<◌, ◌==◌, Bool, true, false, ◌&&◌, ◌||◌, refl, sym, ap, subst, arith, ◌⊎◌, inl, inr, ◌∙◌}
+use Rattle.std.proofs.Common.{◌≡◌, ◌≢◌, ◌+◌, ◌==◌, Bool, true, false, ◌&&◌, refl, sym, ap, subst, arith, ◌⊎◌, inl, inr, ◌∙◌}
 use Rattle.std.specs.Prelude.{nat_lt, if◌then◌else◌}
 use Rattle.std.proofs.lemmas.Bool.{and_parts, and_from, or_cases, ltb-true, ltb-false, eqb-true, eq-eqb, true≢false}
 use Rattle.journal_tree.specs.declared.time.TheConstants.{NANOS, LAST_SECOND}
@@ -28,11 +28,6 @@ before-since t u is = by (or_cases (nat_lt t.secs u.secs) (t.secs == u.secs && n
     by : (nat_lt t.secs u.secs ≡ true) ⊎ ((t.secs == u.secs && nat_lt t.nanos u.nanos) ≡ true) → IsBefore t u
     by (inl less) = inl (ltb-true t.secs u.secs less)
     by (inr both) = let p = and_parts (t.secs == u.secs) (nat_lt t.nanos u.nanos) both in inr (eqb-true t.secs u.secs p.0, ltb-true t.nanos u.nanos p.1)
-
--- nothing is after the greatest time
-last_is_last : (t : Time) → IsTime t → IsBefore LAST_TIME t → ⊥
-last_is_last t fit (inl a) = let f = fit.0 in absurd (omega (arith, f, a))
-last_is_last t fit (inr a) = let f = fit.1 in let g = a.1 in absurd (omega (arith, f, g))
 
 pub following-after : (t : Time) → IsTime t → IsBefore t (following t) ⊎ ((t ≡ LAST_TIME) × (following t ≡ t))
 following-after t fit = by (nat_lt (t.nanos + 1) NANOS) refl (nat_lt t.secs LAST_SECOND) refl

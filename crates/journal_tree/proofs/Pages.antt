@@ -9,12 +9,10 @@ use Rattle.journal_tree.specs.declared.status.Status.TheVariants.{NoAccess, NotD
 use Rattle.journal_tree.specs.Trees.{Node, Slot, Tree, is_directory}
 use Rattle.journal_tree.specs.Rule.{Stem, stem_of, stems, IsBelow, first_root, first_tree}
 use Rattle.journal_tree.specs.Rule.IsBelow.{itself}
-use Rattle.journal_tree.specs.declared.caller.Caller.{Caller}
 use Rattle.journal_tree.specs.Rights.{may_read}
-use Rattle.journal_tree.specs.Times.{IsTime}
-use Rattle.journal_tree.specs.Fit.{IsFit, HasFit}
+use Rattle.journal_tree.specs.Fit.{IsFit}
 use Rattle.journal_tree.specs.Calls.{Outcome, refused, told, target, node_or_gone, in_directory, allowed}
-use Rattle.journal_tree.specs.Listing.{Item, Page, Listed, ListedPlus, Line, line_of, with_page, items_above, Ascends, last_cookie}
+use Rattle.journal_tree.specs.Listing.{Item, Page, Listed, ListedPlus, line_of, with_page, items_above, Ascends, last_cookie}
 use Rattle.journal_tree.specs.Laws.{BeginsAsTree, BeginsFit, NamesOnce, IsToldPage, TellsPages, TellsPagesPlus}
 use Rattle.journal_tree.proofs.Finding.{find-some}
 use Rattle.journal_tree.proofs.Hanging.{found_by_name}
@@ -104,9 +102,6 @@ page_told : {A : Type 0} (T T2 : Tree) (n cookie count : ℕ) (x : Node) (answer
     → (Ok r, T2) ≡ with_page T (items_above T n x cookie) count answer → IsToldPage T T2 n cookie (page r)
 page_told {A} T T2 n cookie count x answer page r answers is kind e = by (nat_lt 0 (length (items_above T n x cookie)) && count == 0) refl e
   where
-    made : Page
-    made = record { items = take count (items_above T n x cookie); is_end = nat_le (length (items_above T n x cookie)) count }
-
     by : (b : Bool) → (nat_lt 0 (length (items_above T n x cookie)) && count == 0) ≡ b
         → (Ok r, T2) ≡ (if b then refused TooSmall T else (Ok (answer (record { items = take count (items_above T n x cookie); is_end = nat_le (length (items_above T n x cookie)) count })), T)) → IsToldPage T T2 n cookie (page r)
     by true at e = let e0 : Ok r ≡ Err TooSmall = ap (λ (o : Outcome A). o.0) e in absurd (cc (e0))

@@ -76,9 +76,6 @@ record IsTold (V : View) (xs : List Item) (n : ℕ) (lines : List Line) (room : 
   beside : AreTrue V lines
 
 module _ {A : Type 0} (V : View) (xs : List Item) (n : ℕ) (answer : ListPage → A) where
-  abbrev outcome : Outcome A
-  outcome = with_page (tree_of V) xs n answer
-
   page-none : (lines : List Line) (room : Option Room) → IsTold V xs n lines room → room ≡ None → lines ≡ [] → with_page (tree_of V) xs n answer ≡ refused TooSmall (tree_of V)
   page-none lines room t full bare = ap (λ b. cond b (refused TooSmall (tree_of V)) (Ok (answer (record { items = take n xs; is_end = nat_le (length xs) n })), tree_of V)) (and_from (nat_lt 0 (length xs)) (n == 0) (lt-ltb 0 (length xs) (omega (arith, more))) (eq-eqb n 0 zero_is))
     where
@@ -145,9 +142,6 @@ listing-told V d r cookie room reply k = record {
 -- ── the calls ──
 
 module _ (V : View) (h : Handle) (c : Caller) (cookie : ℕ) (now : Time) where
-  abbrev body : {A : Type 0} → (ℕ → Node → Outcome A) → Outcome A
-  body f = in_directory (tree_of V) (target (tree_of V) h) (λ d x. allowed (tree_of V) (may_read c x.attributes) (f d x))
-
   at-stale : {A : Type 0} (f : ℕ → Node → Outcome A) → target (tree_of V) h ≡ gone → in_directory (tree_of V) (target (tree_of V) h) (λ d x. allowed (tree_of V) (may_read c x.attributes) (f d x)) ≡ refused Stale (tree_of V)
   at-stale f g = ap (λ t. in_directory (tree_of V) t (λ d x. allowed (tree_of V) (may_read c x.attributes) (f d x))) g
 

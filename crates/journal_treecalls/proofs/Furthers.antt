@@ -1,5 +1,5 @@
 -- A node is put in a block that its directory gets: the tree then, and the disk.
-use Rattle.std.proofs.Common.{◌≡◌, ◌≢◌, ℕ, ◌+◌, ◌*◌, ◌/◌, ◌%◌, ◌<◌, ◌≤◌, max, Bool, true, false, cond, eqb, List, length, get_or, set, Option, Some, None, Ok, refl, sym, ap, subst, ◌⊎◌, inl, inr, ◌∙◌, arith, get_or-set_same, get_or-set_other}
+use Rattle.std.proofs.Common.{◌≡◌, ◌≢◌, ℕ, ◌+◌, ◌*◌, ◌/◌, ◌%◌, ◌<◌, ◌≤◌, max, Bool, true, false, cond, eqb, List, length, get_or, set, Option, Some, Ok, refl, sym, ap, subst, ◌⊎◌, inl, inr, ◌∙◌, arith, get_or-set_same, get_or-set_other}
 use Rattle.std.specs.Prelude.{option_map, nat_lt}
 use Rattle.std.proofs.lemmas.Bool.{cases_eq, cases_lt, eq-eqb, ne_eqb, lt-ltb, le-ltb}
 use Rattle.journal_tree.specs.declared.limits.TheConstants.{LAST_GENERATION}
@@ -11,9 +11,9 @@ use Rattle.journal_tree.specs.declared.reply.Room.{Room}
 use Rattle.journal_tree.specs.declared.reply.Told.{Told}
 use Rattle.journal_tree.specs.declared.caller.Caller.{Caller}
 use Rattle.journal_tree.specs.Times.{IsTime, time_of_names}
-use Rattle.journal_tree.specs.Trees.{Body, Node, Slot, Tree}
-use Rattle.journal_tree.specs.Trees.Body.{directory, file, link}
-use Rattle.journal_tree.specs.Changes.{with_times, opened, grown, grown_body, touch_place, planted}
+use Rattle.journal_tree.specs.Trees.{Node, Slot, Tree}
+use Rattle.journal_tree.specs.Trees.Body.{directory}
+use Rattle.journal_tree.specs.Changes.{with_times, opened, grown_body, touch_place, planted}
 use Rattle.journal_tree.specs.Calls.{told, kind_of, size_of}
 use Rattle.journal_tree.specs.Names.{born}
 use Rattle.journal_tree.specs.Op.{Call, Op, IsRoom}
@@ -33,6 +33,7 @@ use Rattle.journal_treestore.proofs.Planting.{planting-shows}
 use Rattle.journal_treestore.proofs.Stepping.{entries-step}
 use Rattle.journal_treestore.proofs.Growing.{tree-grown, growing-stays-sound}
 use Rattle.journal_treestore.proofs.Keeping.{calls-stay-sound}
+use Rattle.journal_treestore.proofs.Following.{node-again}
 use Rattle.journal_treecalls.specs.declared.node.Record.{Record}
 use Rattle.journal_treecalls.specs.declared.creation.NewNode.{NewNode}
 use Rattle.journal_treecalls.specs.declared.growth.Growth.{Growth}
@@ -48,24 +49,6 @@ use Rattle.journal_treecalls.proofs.Growths.{growth-step, growth-position, growt
 use Rattle.journal_treecalls.proofs.Births.{Birth, Ground, zeros-get, told-born, birth-here, ground-here}
 
 -- ── in a block that the directory gets ──
-
--- a directory that has the places of the block gets no more of them
-grown-again : (place places : ℕ) → grown place (grown place places) ≡ grown place places
-grown-again place places = by (nat_lt place places) refl
-  where
-    by : (t : Bool) → nat_lt place places ≡ t
-        → cond (nat_lt place (cond t places (512 * (place / 512 + 1)))) (cond t places (512 * (place / 512 + 1))) (512 * (place / 512 + 1)) ≡ cond t places (512 * (place / 512 + 1))
-    by true is = ap (λ t. cond t places (512 * (place / 512 + 1))) is
-    by false is = ap (λ t. cond t (512 * (place / 512 + 1)) (512 * (place / 512 + 1))) (lt-ltb place (512 * (place / 512 + 1)) (omega arith))
-
-body-again : (place : ℕ) (b : Body) → grown_body place (grown_body place b) ≡ grown_body place b
-body-again place (directory places) = ap directory (grown-again place places)
-body-again place (file bytes) = refl
-body-again place (link text) = refl
-
-node-again : (place : ℕ) (now : Time) (o : Option Node) → option_map (opened place now) (option_map (widened place) o) ≡ option_map (opened place now) o
-node-again place now None = refl
-node-again place now (Some x) = ap (λ (b : Body). Some (record { attributes = with_times x.attributes (time_of_names x.attributes now); home = x.home; body = b })) (body-again place x.body)
 
 -- so that growing first and then putting a name there is one change
 module _ (T : Tree) (d place : ℕ) (now : Time) where

@@ -1,42 +1,40 @@
 -- A directory gets a block: what is written for it is one step of its inode.
-use Rattle.std.proofs.Common.{◌≡◌, ◌≢◌, ℕ, zero, suc, ◌+◌, ◌-◌, ◌*◌, ◌/◌, ◌%◌, ◌<◌, ◌≤◌, max, Bool, true, false, cond, eqb, List, [], length, take, get_or, Option, Some, None, refl, sym, ap, subst, ◌⊎◌, inl, inr, ◌∙◌, arith}
-use Rattle.std.specs.Prelude.{◌==◌, nat_lt, nat_le, slice_range}
+use Rattle.std.proofs.Common.{◌≡◌, ◌≢◌, ℕ, zero, suc, ◌+◌, ◌-◌, ◌*◌, ◌/◌, ◌%◌, ◌<◌, ◌≤◌, max, Bool, true, false, cond, eqb, List, [], length, take, Option, Some, None, refl, sym, ap, subst, ◌⊎◌, inl, inr, ◌∙◌, arith}
+use Rattle.std.specs.Prelude.{◌==◌, nat_lt, nat_le}
 use Rattle.std.proofs.lemmas.Bool.{cases_eq, cases_lt, eq-eqb, ne_eqb, eqb-true, lt-ltb, le-ltb}
 use Rattle.std.proofs.Math.Seq.{take-length}
 use Rattle.journal_tree.specs.declared.reply.Kind.TheVariants.{Directory}
 use Rattle.journal_tree.specs.Fit.{IsFitBody}
-use Rattle.journal_treestore.specs.declared.inode.Head.{Head}
 use Rattle.journal_treestore.specs.declared.owner.Owner.{Owner}
 use Rattle.journal_treestore.specs.Entries.{entry_from, no_entry}
 use Rattle.journal_treestore.specs.Inodes.{name_from}
-use Rattle.journal_treestore.specs.Positions.{Position, IsPosition}
-use Rattle.journal_treestore.specs.Views.{Held, View, zero_block, with_inode, with_owner, with_block, held_of, block_at, begin_at, body_of, node_of, directory_block, entry_in, entry_by, entry_of, entry_at}
+use Rattle.journal_treestore.specs.Positions.{IsPosition}
+use Rattle.journal_treestore.specs.Views.{Held, View, zero_block, with_inode, with_owner, with_block, held_of, block_at, body_of, node_of, directory_block, entry_in, entry_by, entry_of}
 use Rattle.journal_treestore.specs.Views.Seen.{used}
 use Rattle.journal_treestore.specs.Sound.{IsSoundInode, IsSoundView}
 use Rattle.journal_treestore.specs.Steps.{IsUnowned, IsNodeStep, IsGrowth}
 use Rattle.journal_treestore.proofs.Recording.{zero-long, zero-entries}
 use Rattle.journal_treestore.proofs.Indexing.{begin-content, same-named}
 use Rattle.journal_treestore.proofs.Viewing.{inode-node}
-use Rattle.journal_treestore.proofs.Changing.{directory-frame, inode-same, inode-other}
+use Rattle.journal_treestore.proofs.Changing.{directory-frame, inode-same}
 use Rattle.journal_treestore.proofs.Spare.{nobody_has}
 use Rattle.journal_treestore.proofs.Stepping.{block-kept}
 use Rattle.journal_treecalls.specs.declared.node.Record.{Record}
 use Rattle.journal_treecalls.specs.declared.setting.Tail.{Tail}
 use Rattle.journal_treecalls.specs.declared.reach.Reach.{Reach}
-use Rattle.journal_treecalls.specs.declared.reach.Changing.{Changing}
 use Rattle.journal_treecalls.specs.declared.growth.Growth.{Growth}
 use Rattle.journal_treecalls.specs.declared.room.NewPlace.{NewPlace}
 use Rattle.journal_treecalls.specs.Disks.{Learns}
 use Rattle.journal_treecalls.specs.Targets.{held}
 use Rattle.journal_treecalls.specs.Blocks.{IsFreeBlock, IsThis, owner_of}
 use Rattle.journal_treecalls.specs.Fetches.{is_in, file_blocks}
-use Rattle.journal_treecalls.specs.Reaches.{reach_for, reach_count, reach_place, reached_number, numbered, IsReach}
-use Rattle.journal_treecalls.specs.Overlays.{begin_of, gap_of, with_gap, Laying, lay, lay_at, laid, laying_at, index_bytes, piece_at}
+use Rattle.journal_treecalls.specs.Reaches.{reach_count, reach_place, reached_number, numbered}
+use Rattle.journal_treecalls.specs.Overlays.{begin_of, gap_of, with_gap, Laying, lay, lay_at, laid, laying_at, piece_at}
 use Rattle.journal_treecalls.specs.Rooms.{HasGrowth, grown_head, with_growth, further_number}
 use Rattle.journal_treecalls.specs.Symlinks.{IsUnreached, IsApart, IsApartUnless, IsOther}
 use Rattle.journal_treecalls.proofs.Learning.{learns-as}
-use Rattle.journal_treecalls.proofs.Laying.{laid-none, laid-more, laid-keeps, block-laid, owner-unlaid}
-use Rattle.journal_treecalls.proofs.Overlaying.{in-parts, in-both, IsAt, IsOverlay, IsIndexed, free-some, stale, unreached, place-some, apart, apart-own, rows-apart, fresh-or, block-stays, block-at, inodes-are, numbers-are, first-is, many-are, blocks-are, step-grown}
+use Rattle.journal_treecalls.proofs.Laying.{laid-none, laid-more, owner-unlaid}
+use Rattle.journal_treecalls.proofs.Overlaying.{in-parts, IsAt, IsOverlay, IsIndexed, unreached, place-some, apart, apart-own, rows-apart, fresh-or, block-stays, block-at, blocks-are, step-grown}
 use Rattle.journal_treecalls.proofs.Rows.{piece-content, piece-index, kept-content, row-overlays, row-indexed}
 
 -- ── the order of writes ──
@@ -412,10 +410,6 @@ module _ (V : View) (d : ℕ) (r : Record) (tag : ℕ) (g : Growth) (sound : IsS
       by : (i ≡ d) ⊎ (i ≡ d → ⊥) → ⊥
       by (inr other) = apart V d r (grown_head r.head g) (4096 * g.j) zero_block zero_block N row count sound is some fits small overlays i x p m other at there inside here
       by (inl same) = apart-here (let q : used x ≡ used (held r) = sym at ∙ ap V.inode same ∙ is in cc)
-
-  -- so it may be written before or after them
-  pub growth-order : (E : List ℕ) (i : ℕ) (x : Held) (p : ℕ) (v : List ℕ) → V.inode i ≡ used x → block_at V x p ≢ 0 → p < 2147483648 → with_growth (with_block V (block_at V x p) v) d g E ≡ with_block (with_growth V d g E) (block_at V x p) v
-  growth-order E i x p v at there low = laid-order V d (block_at V x p) v (laying_at g.change E) (reach_count g.change.reach) (λ m inside _. growth-apart i x p at there low m inside)
 
   -- a block that nobody has, and that the directory does not get, stays so
   pub growth-unowned : (b : ℕ) → b ≢ 0 → IsUnowned V b → IsUnreached g b → IsUnowned (with_inode (with_growth V d g zero_block) d (used (held_of (grown_head r.head g) (name_from r.bytes)))) b

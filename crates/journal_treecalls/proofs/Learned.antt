@@ -1,5 +1,5 @@
 -- Each step of a call: its knowledge after it.
-use Rattle.std.proofs.Common.{◌≡◌, ◌≢◌, ℕ, ◌<◌, ◌≤◌, ◌+◌, Bool, true, false, cond, List, [], length, get_or, Option, Some, None, Ok, Err, refl, sym, ap, subst, ◌∙◌}
+use Rattle.std.proofs.Common.{◌≡◌, ◌≢◌, ℕ, ◌≤◌, Bool, true, false, cond, List, [], Option, Some, None, Ok, Err, refl, sym, ap, subst, ◌∙◌}
 use Rattle.std.specs.Prelude.{Result, IfOk, ◌==◌, not}
 use Rattle.std.proofs.lemmas.Bool.{eqb-true, eqb-false, eq-eqb, and_parts, false≢true}
 use Rattle.journal_tree.specs.declared.time.Time.{Time}
@@ -34,13 +34,13 @@ use Rattle.journal_treecalls.specs.declared.search.DirectoryBlock.{DirectoryBloc
 use Rattle.journal_treecalls.specs.Fetches.{file_index}
 use Rattle.journal_treecalls.specs.declared.attributes.AccessReply.{AccessReply}
 use Rattle.journal_treecalls.specs.Disks.{Write, inode_seen, Learns, Does}
-use Rattle.journal_treecalls.specs.Targets.{held, IsInode, IsNode, IsTarget, current_of, told_of, IsDirectoryFor, directory_by, directory_of, NamedBy, HasName, IsHitOf, IsHitAt, has_tag, HasNoHit, HitsIn, HitsBlock, direct_block, HasNoHitIn, HitsFirst, level_number, HasNoHitBelow, HitsNumbers, HitsLevels, Hits}
+use Rattle.journal_treecalls.specs.Targets.{held, IsInode, IsNode, IsTarget, current_of, told_of, IsDirectoryFor, directory_by, directory_of, NamedBy, HasName, IsHitOf, IsHitAt, has_tag, HitsIn, HitsBlock, HitsFirst, HitsNumbers, HitsLevels, Hits}
 use Rattle.journal_treecalls.specs.Targets.IsUnsearched.{stale, other_kind, no_right}
 use Rattle.journal_treecalls.specs.Replies.{access_of, access_told, found_of, number_above, LooksUp, LooksUpParent, LooksUpName}
 use Rattle.journal_treecalls.proofs.Learning.{learns-as, learns-then, does-reads}
 use Rattle.journal_treecalls.proofs.Cases.{target-free, target-old, target-high, told-is}
 use Rattle.journal_treecalls.proofs.Reading.{getattr-gone, getattr-node, access-gone, access-node, lookup-unsearched, lookup-searched}
-use Rattle.journal_treecalls.proofs.Searching.{no_hit-more, no_hit_in-more, no_hit_below-more, levels-by, levels-none, hits-first, hits-all, hit-found, hit-missed}
+use Rattle.journal_treecalls.proofs.Searching.{levels-by, levels-none, hits-first, hits-all, hit-found, hit-missed}
 
 -- each disk that may be there is sound
 abbrev pub AreSound : (View → Type 0) → Type 0
@@ -249,28 +249,6 @@ pub no-block : (may : View → Type 0) (b : DirectoryBlock) (tag : ℕ) (name : 
 no-block may b tag name none = record { before = λ V m. m; now = λ V m some. absurd (some none) }
 
 -- ── loops ──
-
-module _ (first old new : View → Type 0) (b : DirectoryBlock) (v : List ℕ) (tag : ℕ) (name : List ℕ) (at : ℕ) (o : Option Hit) (before : Learns first old (λ V. HasNoHit V b v tag name at)) (one : Learns old new (λ V. IsHitAt V b v tag name at o)) where
-  pub at-more : o ≡ None → Learns first new (λ V. HasNoHit V b v tag name (at + 1))
-  at-more is = learns-then first old new _ _ before one _ (λ V m none here. no_hit-more V b v tag name at none (subst (IsHitAt V b v tag name at) is here))
-
-  pub at-hit : (hit : Hit) → at < 512 → o ≡ Some hit → Learns first new (λ V. HitsIn V b v tag name (Some hit))
-  at-hit hit low is = learns-then first old new _ _ before one _ (λ V m none here. record { at = at; low = low; is = subst (IsHitAt V b v tag name at) is here })
-
-module _ (first old new : View → Type 0) (bs : List ℕ) (tag : ℕ) (name : List ℕ) (j : ℕ) (o : Option Hit) (before : Learns first old (λ V. HasNoHitIn V bs tag name j)) (one : Learns old new (λ V. HitsBlock V (direct_block bs j) tag name o)) where
-  pub block-more : o ≡ None → Learns first new (λ V. HasNoHitIn V bs tag name (j + 1))
-  block-more is = learns-then first old new _ _ before one _ (λ V m none here. no_hit_in-more V bs tag name j none (subst (HitsBlock V (direct_block bs j) tag name) is here))
-
-  pub block-hit : (hit : Hit) → j < 48 → o ≡ Some hit → Learns first new (λ V. HitsFirst V bs tag name (Some hit))
-  block-hit hit low is = learns-then first old new _ _ before one _ (λ V m none here. record { j = j; low = low; is = subst (HitsBlock V (direct_block bs j) tag name) is here })
-
-module _ (first old new : View → Type 0) (v : List ℕ) (tag : ℕ) (name : List ℕ) (level : ℕ) (b : DirectoryBlock) (o : Option Hit) (which : b ≡ level_number v tag level) (before : Learns first old (λ V. HasNoHitBelow V v tag name level))
-    (one : Learns old new (λ V. HitsBlock V b tag name o)) where
-  pub level-more : o ≡ None → Learns first new (λ V. HasNoHitBelow V v tag name (level + 1))
-  level-more is = learns-then first old new _ _ before one _ (λ V m none here. no_hit_below-more V v tag name level none (subst (λ b. HitsBlock V b tag name None) which (subst (HitsBlock V b tag name) is here)))
-
-  pub level-hit : (hit : Hit) → level < 4 → o ≡ Some hit → Learns first new (λ V. HitsNumbers V v tag name (Some hit))
-  level-hit hit low is = learns-then first old new _ _ before one _ (λ V m none here. record { level = level; low = low; is = subst (λ b. HitsBlock V b tag name (Some hit)) which (subst (HitsBlock V b tag name) is here) })
 
 -- ── the first blocks, and then the levels ──
 

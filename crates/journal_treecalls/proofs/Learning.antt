@@ -23,9 +23,6 @@ module _ (old new : View → Type 0) where
     pub learns-both : Learns old last (λ V. P V × Q V)
     learns-both = learns-then (λ V. P V × Q V) (λ V m p q. (p, q))
 
-pub learns-nothing : (may_be : View → Type 0) → Learns may_be may_be may_be
-learns-nothing may_be = record { before = λ V m. m; now = λ V m. m }
-
 -- a call that only read
 pub does-reads : (may_be : View → Type 0) (ws : List Write) (call : Call) (c : Caller) (now : Time) (reply : Reply) → ws ≡ [] → ((V : View) → may_be V → IsSoundView V)
     → ((V : View) → may_be V → Op call c now (tree_of V) reply (tree_of V)) → Does may_be ws call c now reply
@@ -37,10 +34,6 @@ does-reads may_be ws call c now reply none sound op = record {
 -- three writes, the last first
 pub writes-three : (before first second third : List Write) (a b c : Write) → first ≡ a ∷ before → second ≡ b ∷ first → third ≡ c ∷ second → before ≡ [] → third ≡ c ∷ b ∷ a ∷ []
 writes-three before first second third a b c x y z none = z ∙ ap (λ ws. c ∷ ws) (y ∙ ap (λ ws. b ∷ ws) (x ∙ ap (λ ws. a ∷ ws) none))
-
--- and four
-pub writes-four : (before first second third fourth : List Write) (a b c d : Write) → first ≡ a ∷ before → second ≡ b ∷ first → third ≡ c ∷ second → fourth ≡ d ∷ third → before ≡ [] → fourth ≡ d ∷ c ∷ b ∷ a ∷ []
-writes-four before first second third fourth a b c d w x y z none = z ∙ ap (λ ws. d ∷ ws) (writes-three before first second third a b c w x y none)
 
 -- the number of objects that are written
 pub none-few : (ws : List Write) (k : ℕ) → ws ≡ [] → length ws ≤ k

@@ -1,7 +1,7 @@
 -- Lines, and what a listing learns of them step by step.
-use Rattle.std.proofs.Common.{◌≡◌, ◌≢◌, ℕ, ◌+◌, ◌-◌, ◌<◌, ◌≤◌, true, cond, List, [], ◌∷◌, ◌++◌, length, take, drop, replicate, Option, Some, None, Ok, Err, refl, sym, ap, subst, ◌∙◌}
+use Rattle.std.proofs.Common.{◌≡◌, ◌≢◌, ℕ, ◌+◌, ◌-◌, ◌≤◌, true, cond, List, [], ◌∷◌, ◌++◌, length, take, drop, replicate, Option, Some, None, Ok, Err, refl, sym, ap, subst, ◌∙◌}
 use Rattle.std.specs.Prelude.{Result, is_some, option_map}
-use Rattle.std.proofs.lemmas.Bool.{eq-eqb, ne_eqb, lt-ltb, le-ltb}
+use Rattle.std.proofs.lemmas.Bool.{eq-eqb, ne_eqb, le-ltb}
 use Rattle.std.proofs.lemmas.List.{take_at}
 use Rattle.journal_tree.specs.declared.reply.Handle.{Handle}
 use Rattle.journal_tree.specs.declared.reply.Told.{Told}
@@ -9,7 +9,7 @@ use Rattle.journal_tree.specs.declared.caller.Caller.{Caller}
 use Rattle.journal_tree.specs.declared.status.Status.{Status}
 use Rattle.journal_tree.specs.declared.status.Status.TheVariants.{Stale}
 use Rattle.journal_tree.specs.Calls.{told as told_case}
-use Rattle.journal_tree.specs.Listing.{Item, dot_item}
+use Rattle.journal_tree.specs.Listing.{dot_item}
 use Rattle.journal_treestore.specs.declared.inode.Head.{Head}
 use Rattle.journal_treestore.specs.declared.inode.Inode.{Inode}
 use Rattle.journal_treestore.specs.declared.inode.Inode.TheVariants.{Free, Used}
@@ -76,12 +76,6 @@ dot-shown may d h cookie old new l t none tells line adds = record {
       ∙ (λ i. record { generation = h.generation; node = Some ((tells ∙ sym (told-is V d (held_of h own) (sound.inodes d (held_of h own) at))) i) })
       ∙ ap (λ (y : Seen). record { generation = (slot_of V y).generation; node = option_map (told_case d) (slot_of V y).node }) (sym at)));
 }
-
-abbrev dots_line : ℕ → Item
-dots_line above = record { cookie = 2; name = 46 ∷ 46 ∷ []; number = above }
-
-pub dots-none : (may : View → Type 0) (d : ℕ) (r : Record) (cookie : ℕ) (p : Page) → 1 < cookie → Learns may may (λ V. ShowsDotDot V d r cookie p p)
-dots-none may d r cookie p past = record { before = λ V m. m; now = λ V m sound. subst (Shows V p p) (sym (ap (λ t. cond t [] (record { cookie = 2; name = 46 ∷ 46 ∷ []; number = number_above d r } ∷ [])) (lt-ltb 1 cookie past))) (shows-none V p) }
 
 shown-dots : (V : View) (d : ℕ) (r : Record) (cookie above : ℕ) (old new : Page) → cookie ≤ 1 → above ≡ number_above d r → Shows V old new (record { cookie = 2; name = 46 ∷ 46 ∷ []; number = above } ∷ []) → Shows V old new (dot_dot_items (number_above d r) cookie)
 shown-dots V d r cookie above old new few is s = subst (Shows V old new) (

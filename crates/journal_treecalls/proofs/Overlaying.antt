@@ -150,9 +150,6 @@ module _ (V : View) (n : ℕ) (r : Record) (k : Head) (offset : ℕ) (bs image :
   abbrev O : ℕ → ℕ
   O = block_at V (held r)
 
-  abbrev gap : Option Tail
-  gap = gap_of V r.head offset
-
   -- the block in which it ends
   abbrev last : ℕ
   last = r.head.size / 4096
@@ -241,14 +238,6 @@ module _ (V : View) (n : ℕ) (r : Record) (k : Head) (offset : ℕ) (bs image :
       by : (none : Bool) → eqb (file_blocks V r.head last) 0 ≡ none → gap_by false none ≡ None → O last ≡ 0
       by true q e = sym (file-is last) ∙ eqb-true (file_blocks V r.head last) 0 q
       by false q e = absurd (cc (e))
-
-  -- it is none of the others
-  gap-out : (t : Tail) → gap_of V r.head offset ≡ Some t → (i : ℕ) → i < count → (row i).place ≢ r.head.size / 4096
-  gap-out t g = lays.out last (by (is_in offset to last) refl) (omega (arith, small))
-    where
-      by : (b : Bool) → is_in offset to last ≡ b → is_in offset to last ≡ false
-      by false b = b
-      by true b = let p = (in-parts offset to last b).1 in let q = (gap-some t g).0 in absurd (omega (arith, p, q))
 
   -- what a block has before the others are written
   before-other : (x : ℕ) → ((t : Tail) → gap_of V r.head offset ≡ Some t → x ≢ t.block) → (with_gap V (gap_of V r.head offset)).block x ≡ V.block x

@@ -20,7 +20,6 @@ use Rattle.journal_tree.specs.Op.{Op}
 use Rattle.journal_tree.specs.Op.Call.{read}
 use Rattle.journal_tree.specs.Op.Reply.{bytes_read}
 use Rattle.journal_tree.specs.Op.Op.{answers_read}
-use Rattle.journal_treestore.specs.declared.inode.Head.{Head}
 use Rattle.journal_treestore.specs.Inodes.{name_from}
 use Rattle.journal_treestore.specs.Views.{Held, View, bytes_in, content, body_of, node_of, tree_of}
 use Rattle.journal_treestore.specs.Views.Seen.{used}
@@ -29,7 +28,7 @@ use Rattle.journal_treestore.proofs.Viewing.{inode-node}
 use Rattle.journal_treecalls.specs.declared.node.Record.{Record}
 use Rattle.journal_treecalls.specs.declared.portion.ReadReply.{ReadReply}
 use Rattle.journal_treecalls.specs.Disks.{Write, Learns, Does}
-use Rattle.journal_treecalls.specs.Targets.{held, IsNode, IsTarget, told_of}
+use Rattle.journal_treecalls.specs.Targets.{held, IsNode, IsTarget}
 use Rattle.journal_treecalls.specs.Fetches.{is_whole, file_blocks, IsFetched}
 use Rattle.journal_treecalls.specs.Portions.{reading_by, reading_status, reach_of, portion_told, no_span, HasPortion, ReadsNode}
 use Rattle.journal_treecalls.specs.Portions.ReadsNode.{kept, fetches}
@@ -153,12 +152,3 @@ node-kept old c n r offset count o status is why = record { before = λ V m. m; 
 pub node-read : (old new : View → Type 0) (c : Caller) (n : ℕ) (r : Record) (offset count : ℕ) (o : Option Status) (reply : ReadReply) → o ≡ reading_status c r.head → o ≡ None → Learns old new (λ V. HasPortion V n r.head offset count reply)
     → Learns old new (λ V. ReadsNode V c n r offset count (Ok reply))
 node-read old new c n r offset count o reply is on l = learns-as old new _ _ l (λ V m has. fetches reply (sym is ∙ on) has)
-
-pub file-read : (first old : View → Type 0) (n : ℕ) (h : Head) (offset count reach : ℕ) (zeros : List ℕ) (reply : ReadReply) → reply.file ≡ told_of n h → reach ≡ reach_of h.size offset count → length zeros ≡ reach - offset
-    → length reply.bytes.items ≡ length zeros → reply.is_end ≡ nat_le h.size reach → Learns first old (λ V. IsFetched V (file_blocks V h) no_span offset MOST_FILE_BLOCKS reply.bytes.items) → Learns first old (λ V. HasPortion V n h offset count reply)
-file-read first old n h offset count reach zeros reply file_is reach_is zeros_long long ends l = learns-as first old _ _ l (λ V m f. record {
-  file = file_is;
-  long = long ∙ zeros_long ∙ ap (λ k. k - offset) reach_is;
-  fetched = f;
-  ends = ends ∙ ap (nat_le h.size) reach_is;
-})

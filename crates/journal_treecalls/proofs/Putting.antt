@@ -60,9 +60,6 @@ puts-all old new ws cs p = record { same = p.same; view = λ V m. p.view V m ∙
 
 -- ── step by step ──
 
-pub puts-none : (may : View → Type 0) (ws : List Write) (cs some : List (Option PlacedEntry)) → ws ≡ [] → some ≡ [] → PutsBlocks may may ws cs some
-puts-none may ws cs some none empty = record { same = λ V m. m; view = λ V m. ap (λ ws. written ws V) none ∙ ap (with_some V cs) (sym empty) }
-
 -- a change that is none, or whose block a later one writes
 skipped : (V : View) (cs : List (Option PlacedEntry)) (c : Option PlacedEntry) (others : List (Option PlacedEntry)) → last_block c others ≡ None → (b : ℕ) → is_in (c ∷ others) b ≡ is_in others b
 skipped V cs None others is b = refl

@@ -136,14 +136,6 @@ module _ (r : Reach) where
         by (leaf_in i a at p) = omega (arith, p)
         by (root_in a at p) = omega (arith, p)
 
-    pub place-low : (m : ℕ) → m < reach_count r → reach_place r m < 4294967296
-    place-low m low = by (place-in m low)
-      where
-        by : PlaceIn r m → reach_place r m < 4294967296
-        by (content_in a p) = let f = fit.end in omega (arith, p, a, f)
-        by (leaf_in i a at p) = let f = fit.few in omega (arith, p, a, f)
-        by (root_in a at p) = omega (arith, p)
-
 -- a WRITE reaches such ones
 pub reach-fits : (from to : ℕ) (r : Reach) → from < to → to ≤ 4295163904 → r ≡ reach_for from to → IsReach r
 reach-fits from to r some fits is = subst IsReach (sym is) (record {

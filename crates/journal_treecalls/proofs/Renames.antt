@@ -117,9 +117,6 @@ module _ (V : View) (sound : IsSoundView V) (h k : Handle) (c : Caller) (name ne
       abbrev first : Side
       first = record { number = h.number; inode = s }
 
-      abbrev second : Side
-      second = record { number = k.number; inode = t }
-
       at-both : (below : Bool) (place : Option ℕ) → whole below place ≡ inner below place
       at-both below place = at-source below place ∙ at-node V k (λ e y. inner below place) t goal
 
@@ -205,17 +202,6 @@ module _ (V : View) (sound : IsSoundView V) (c : Caller) (w : Way) (name new_nam
   abbrev cases : Bool → Option ℕ → Outcome Renamed
   cases below place = named_case V c w name new_name below place now
 
-  pub named-refused : (status : Status) → DecidesName V c w name new_name (Err status) → IsRename V V w name cases (Err status)
-  named-refused status decides = let d = decides sides in record {
-    below = d.below;
-    place = None;
-    may = tt;
-    tells = d.tells;
-    is = sym (d.is now);
-    form = record { numbers = refl; first_data = refl; data_blocks = refl };
-    shows = sound-shows V sound;
-  }
-
   -- what was decided was done
   pub named-done : (decision : Decision) → DecidesName V c w name new_name (Ok decision) → (W : View) (reply : Renamed) → (AreTimesOf w decision → W ≡ with_done V w decision new_name now) → (AreTimesOf w decision → reply ≡ told_done w decision now)
       → IsRename V W w name cases (Ok reply)
@@ -285,13 +271,6 @@ module _ (V : View) (sound : IsSoundView V) (c : Caller) (w : Way) (name new_nam
 -- ── the steps ──
 
 module _ (old new : View → Type 0) (sound : AreSound new) (ws : List Write) (c : Caller) (w : Way) (name new_name : List ℕ) (now : Time) where
-  pub named-err : (d : Result Decision Status) (status : Status) → Learns old new (λ V. DecidesName V c w name new_name d) → ws ≡ [] → d ≡ Err status → RenamesNamed old new ws c w name new_name now (Err status)
-  named-err d status l unwritten is = record {
-    same = l.before;
-    is = λ V m sides. subst (λ ws. IsRename V (written ws V) w name (λ below place. named_case V c w name new_name below place now) (Err status)) (sym unwritten)
-        (named-refused V (sound V m) c w name new_name now sides status (subst (λ d. DecidesName V c w name new_name d) is (l.now V m)));
-  }
-
   pub named-ok : (mid : View → Type 0) (d : Result Decision Status) (decision : Decision) (reply : Renamed) → Learns old mid (λ V. DecidesName V c w name new_name d) → d ≡ Ok decision → Performs mid new ws w decision new_name now reply
       → RenamesNamed old new ws c w name new_name now (Ok reply)
   named-ok mid d decision reply l is p = record {
@@ -329,9 +308,6 @@ module _ (first old new : View → Type 0) (sound : AreSound new) (ws : List Wri
     pub rename-ok : (w : Way) (reply : Result Renamed Status) → way ≡ Ok w → Renames old new ws c w name new_name now reply → Does new ws (rename h name k new_name) c now (renamed reply)
     rename-ok w reply is r = record { op = λ V m. op V m; sound = λ V m. both V m }
       where
-        case_of : View → Bool → Option ℕ → Outcome Renamed
-        case_of V below place = with_name (tree_of V) (name_kind name) Invalid Invalid (with_name (tree_of V) (name_kind new_name) Invalid Invalid (named_case V c w name new_name below place now))
-
         to : (V : View) → new V → (s : Record) → IsNode V h s → (way : Result Way Status) → IsWayTo V c (record { number = h.number; inode = s }) k way → way ≡ Ok w
             → AreSides V w × Op (rename h name k new_name) c now (tree_of V) (renamed reply) (tree_of (written ws V))
         to V m s source _ (stale g) e = absurd (cc (e))

@@ -1,5 +1,5 @@
 -- Entries are put before a directory gets a block, or after it.
-use Rattle.std.proofs.Common.{◌≡◌, ◌≢◌, ℕ, ◌+◌, ◌<◌, Bool, true, false, cond, eqb, List, length, Option, Some, None, refl, sym, ap, ◌∙◌, arith}
+use Rattle.std.proofs.Common.{◌≡◌, ◌≢◌, ℕ, ◌+◌, ◌<◌, Bool, true, false, cond, eqb, List, Option, Some, None, refl, sym, ap, ◌∙◌, arith}
 use Rattle.std.specs.Prelude.{◌==◌}
 use Rattle.journal_tree.specs.declared.reply.Kind.TheVariants.{Directory}
 use Rattle.journal_treestore.specs.declared.entry.Entry.{Entry}
@@ -89,12 +89,6 @@ module _ (V : View) (d : ℕ) (r : Record) (tag : ℕ) (g : Growth) (sound : IsS
       by true = let b = blocks in omega (arith, b)
       by false = omega arith
 
-  abbrev G : View
-  G = with_growth V d g zero_block
-
-  abbrev N : ℕ
-  N = further_number g
-
   first-is : (e : Entry) → with_growth V d g (with_entry zero_block 0 e) ≡ with_put (with_growth V d g zero_block) (further_number g) 0 e
   first-is e =
       growth-bytes V d r tag g sound is kind has (with_entry zero_block 0 e) (length-with zero_block 0 e zero-long (omega arith))
@@ -114,9 +108,6 @@ module _ (V : View) (d : ℕ) (r : Record) (tag : ℕ) (g : Growth) (sound : IsS
       put-growth (with_put V b q f) d g (with_entry zero_block 0 e) c p k far_too
       ∙ ap (λ W. with_put W c p k) (one-first b q f e far)
       ∙ put-order (with_put (with_growth V d g zero_block) b q f) (further_number g) 0 c p e k (far_too 0 count-some)
-
-  abbrev further_position : Position
-  further_position = record { j = g.j; q = 0; b = further_number g }
 
   pub puts-first : (at : Position) (old : Option Position) (f e : Entry) → IsFar g at.b → AreFar g old
       → with_first (with_puts V at old f) d g e ≡ with_puts (with_puts (with_growth V d g zero_block) at old f) (record { j = g.j; q = 0; b = further_number g }) None e

@@ -59,10 +59,6 @@ resized-back bytes (Some m) i low past =
 abbrev if_block : ℕ → ℕ → List ℕ → List ℕ → List ℕ
 if_block x b v w = cond (eqb x b) v w
 
--- a place that comes after the first blocks lies after their bytes
-begin-past : (p : ℕ) → 48 ≤ p → p < 1048624 → 196608 ≤ begin_at p
-begin-past p past low = subst (λ b. 196608 ≤ b) (sym (begin-content p (omega (arith, low)))) (omega (arith, past))
-
 -- other bytes in the blocks of a disk
 abbrev with_bytes : View → (ℕ → List ℕ) → View
 with_bytes V B = record { numbers = V.numbers; first_data = V.first_data; data_blocks = V.data_blocks; inode = V.inode; owner = V.owner; block = B }

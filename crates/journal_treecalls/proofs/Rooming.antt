@@ -1,5 +1,5 @@
 -- Room for a node: what is learned of it, step by step.
-use Rattle.std.proofs.Common.{◌≡◌, ◌≢◌, ℕ, ◌+◌, ◌-◌, ◌*◌, ◌<◌, ◌≤◌, Bool, true, false, cond, List, [], get_or, Option, Some, None, refl, sym, ap, subst, ◌∙◌, arith}
+use Rattle.std.proofs.Common.{◌≡◌, ◌≢◌, ℕ, ◌+◌, ◌-◌, ◌*◌, ◌<◌, Bool, true, false, cond, List, [], get_or, Option, Some, None, refl, sym, ap, subst, ◌∙◌, arith}
 use Rattle.std.specs.Prelude.{nat_lt}
 use Rattle.std.proofs.lemmas.Bool.{eq-eqb, ne_eqb, ltb-true}
 use Rattle.journal_tree.specs.declared.limits.TheConstants.{LAST_GENERATION}
@@ -10,9 +10,9 @@ use Rattle.journal_treestore.specs.Bytes.{word_at}
 use Rattle.journal_treestore.specs.Entries.{entry_from}
 use Rattle.journal_treestore.specs.Levels.{level_block}
 use Rattle.journal_treestore.specs.Levels.IsBlockFor.{any_name, in_level}
-use Rattle.journal_treestore.specs.Views.{View, held_of, seen, number_in, directory_block}
+use Rattle.journal_treestore.specs.Views.{View, held_of, seen, number_in}
 use Rattle.journal_treestore.proofs.Indexing.{directory-first}
-use Rattle.journal_treestore.proofs.Leveling.{level-past, level-low}
+use Rattle.journal_treestore.proofs.Leveling.{level-low}
 use Rattle.journal_treecalls.specs.declared.search.DirectoryBlock.{DirectoryBlock}
 use Rattle.journal_treecalls.specs.declared.reach.Reach.{Reach}
 use Rattle.journal_treecalls.specs.declared.reach.Numbers.{Numbers}
@@ -23,10 +23,10 @@ use Rattle.journal_treecalls.specs.declared.room.NewPlace.{NewPlace}
 use Rattle.journal_treecalls.specs.declared.room.NewPlace.TheVariants.{Here, Further}
 use Rattle.journal_treecalls.specs.declared.room.FreeRoom.{FreeRoom}
 use Rattle.journal_treecalls.specs.Disks.{Learns}
-use Rattle.journal_treecalls.specs.Targets.{IsInode, direct_block, level_number, block_of}
+use Rattle.journal_treecalls.specs.Targets.{IsInode, level_number, block_of}
 use Rattle.journal_treecalls.specs.Fetches.{number_at, file_index}
 use Rattle.journal_treecalls.specs.Reaches.{IsChanging, reach_for, IsReach, HasNumbers, AreSized, IsTaken, IsSizedTaken}
-use Rattle.journal_treecalls.specs.Rooms.{IsFreeNumber, HasFreeNumber, if_young, IsYoung, IsEmptyIn, HasPlaceIn, IsPlaceIn, HasFirstPlace, IsFirstPlace, HasLevelPlace, IsLevelPlace, HasPlaceOf, IsPlaceOf, IsPlaceInside, IsHole, IsHoleIn, IsFurther, IsFurtherBlock, IsLowBlock, HasGrowthAt, IsGrowthAt, HasGrowth, IsFitGrowth, IsFitGrowthAt, IsPlaceFor, IsFitPlace, HasRoomFor, IsRoomFor, IsFitRoom, room_of}
+use Rattle.journal_treecalls.specs.Rooms.{IsFreeNumber, HasFreeNumber, if_young, IsYoung, IsEmptyIn, HasPlaceIn, IsPlaceIn, HasFirstPlace, IsFirstPlace, IsLevelPlace, HasPlaceOf, IsPlaceOf, IsPlaceInside, IsHoleIn, IsFurther, IsFurtherBlock, IsLowBlock, HasGrowthAt, IsGrowthAt, HasGrowth, IsFitGrowthAt, IsPlaceFor, IsFitPlace, IsRoomFor, IsFitRoom, room_of}
 use Rattle.journal_treecalls.proofs.Learning.{learns-as, learns-then}
 use Rattle.journal_treecalls.proofs.Searching.{direct-is, level-is, number-is}
 
@@ -65,22 +65,6 @@ place-some old new b v w o at l same some empty is = learns-as old new _ _ l (λ
 
 pub place-inside : (b : DirectoryBlock) (w : List ℕ) (o : Option ℕ) (at : ℕ) → b.j < 388 → IsEmptyIn w o → o ≡ Some at → IsPlaceInside (Some (record { j = b.j; block = b.number; at = at }))
 place-inside b w o at few empty is = ((subst (IsEmptyIn w) is empty).0, few)
-
--- one of the first blocks
-pub first-place : (first old new : View → Type 0) (bs : List ℕ) (j : ℕ) (b : DirectoryBlock) (o : Option FreePlace) (p : FreePlace) → b ≡ direct_block bs j → j < 48 → ((V : View) → old V → first V) → o ≡ Some p
-    → Learns old new (λ V. IsPlaceIn V b o) → Learns first new (λ V. IsFirstPlace V bs (Some p))
-first-place first old new bs j b o p which low same is l = record {
-  before = λ V m. same V (l.before V m);
-  now = λ V m. record { j = j; low = low; is = subst (λ b. HasPlaceIn V b p) which (subst (IsPlaceIn V b) is (l.now V m)) };
-}
-
--- the block of a level
-pub level-place : (first old new : View → Type 0) (v : List ℕ) (tag level : ℕ) (b : DirectoryBlock) (o : Option FreePlace) (p : FreePlace) → b ≡ level_number v tag level → level < 4 → ((V : View) → old V → first V) → o ≡ Some p
-    → Learns old new (λ V. IsPlaceIn V b o) → Learns first new (λ V. IsLevelPlace V v tag (Some p))
-level-place first old new v tag level b o p which low same is l = record {
-  before = λ V m. same V (l.before V m);
-  now = λ V m. record { level = level; low = low; is = subst (λ b. HasPlaceIn V b p) which (subst (IsPlaceIn V b) is (l.now V m)) };
-}
 
 pub level-few : (v : List ℕ) (tag level : ℕ) (b : DirectoryBlock) → b ≡ level_number v tag level → level < 4 → b.j < 388
 level-few v tag level b which low = let few = level-low tag level low in let is = ap (λ (b : DirectoryBlock). b.j) which in omega (arith, few, is)
@@ -144,14 +128,6 @@ further-hole first old new h tag leaf v w o index some same block hole = learns-
 pub hole-low : (v : List ℕ) (tag : ℕ) (o : Option ℕ) → IsHoleIn v tag o → IsLowBlock o
 hole-low v tag None k = tt
 hole-low v tag (Some j) k = let few = level-low tag k.level k.low in let is = k.is in omega (arith, few, is)
-
-pub hole-here : (v : List ℕ) (tag level : ℕ) (b : DirectoryBlock) → b ≡ level_number v tag level → level < 4 → b.number ≡ 0 → IsHoleIn v tag (Some b.j)
-hole-here v tag level b which low none = record {
-  level = level;
-  low = low;
-  is = ap (λ (b : DirectoryBlock). b.j) which;
-  none = ap (λ j. number_at v (j - 48)) (ap (λ (b : DirectoryBlock). b.j) which) ∙ sym (ap (λ (b : DirectoryBlock). b.number) which) ∙ none;
-}
 
 -- the blocks that are taken for it
 pub growth-taken : (first old new : View → Type 0) (h : Head) (j : ℕ) (r : Reach) (s : Numbers) (o : Option Numbers) (t : Numbers) → r ≡ reach_for (4096 * j) (4096 * (j + 1)) → AreSized r s → IsSizedTaken r o

@@ -1,7 +1,7 @@
 -- The row of blocks that a WRITE puts into a file.
-use Rattle.std.proofs.Common.{◌≡◌, ◌≢◌, ℕ, ◌+◌, ◌-◌, ◌*◌, ◌/◌, ◌<◌, ◌≤◌, ◌&&◌, Bool, true, false, cond, List, length, get_or, sym, ap, ◌⊎◌, inl, inr, ◌∙◌, arith}
+use Rattle.std.proofs.Common.{◌≡◌, ◌≢◌, ℕ, ◌+◌, ◌-◌, ◌*◌, ◌/◌, ◌<◌, ◌≤◌, ◌&&◌, true, false, cond, List, length, get_or, sym, ap, ◌⊎◌, inl, inr, ◌∙◌, arith}
 use Rattle.std.specs.Prelude.{◌==◌, nat_le, slice_range, bytes_eq}
-use Rattle.std.proofs.lemmas.Bool.{cases_eq, cases_lt, eq-eqb, ne_eqb, eqb-true, lt-ltb, le-ltb, leb-true, le-leb, lt-leb, and_from, and_left, and_right, and_parts, false≢true}
+use Rattle.std.proofs.lemmas.Bool.{cases_eq, cases_lt, ne_eqb, eqb-true, lt-ltb, le-ltb, leb-true, lt-leb, and_left, and_parts, false≢true}
 use Rattle.std.proofs.lemmas.Slice.Eq.{bytes_eq-Decides}
 use Rattle.journal_treestore.specs.declared.inode.Head.{Head}
 use Rattle.journal_treestore.specs.Bytes.{word_at}
@@ -66,24 +66,6 @@ pub kept-content : (t : Changing) (m : ℕ) → m < t.reach.blocks → false ≡
 kept-content t m low = sym (and_left (nat_le t.reach.blocks m && (reached_number t.reach t.old m == reached_number t.reach t.new m)) (bytes_eq (index_bytes t.reach t.old m) (index_bytes t.reach t.new m))
     (and_left (nat_le t.reach.blocks m) (reached_number t.reach t.old m == reached_number t.reach t.new m) (lt-leb t.reach.blocks m low)))
 
-module _ (t : Changing) (m place was now : ℕ) (place_is : place ≡ reach_place t.reach m) (was_is : (others : ℕ → ℕ) → was ≡ numbered others t.reach t.old place) (now_is : (others : ℕ → ℕ) → now ≡ numbered others t.reach t.new place) where
-  was-reached : was ≡ reached_number t.reach t.old m
-  was-reached = was_is (λ p. 0) ∙ ap (numbered (λ p. 0) t.reach t.old) place_is
-
-  now-reached : now ≡ reached_number t.reach t.new m
-  now-reached = now_is (λ p. 0) ∙ ap (numbered (λ p. 0) t.reach t.new) place_is
-
-  pub kept-other : was ≢ now → false ≡ is_kept t m
-  kept-other other = sym (and_left (nat_le t.reach.blocks m && (reached_number t.reach t.old m == reached_number t.reach t.new m)) (bytes_eq (index_bytes t.reach t.old m) (index_bytes t.reach t.new m))
-      (and_right (nat_le t.reach.blocks m) (reached_number t.reach t.old m == reached_number t.reach t.new m) (ne_eqb (reached_number t.reach t.old m) (reached_number t.reach t.new m) (λ e. other (was-reached ∙ e ∙ sym now-reached)))))
-
-  pub kept-same : (result : Bool) (v w : List ℕ) → t.reach.blocks ≤ m → was ≡ now → v ≡ index_bytes t.reach t.old m → w ≡ index_bytes t.reach t.new m → result ≡ bytes_eq v w → result ≡ is_kept t m
-  kept-same result v w past same v_is w_is is =
-      is
-      ∙ (λ z. bytes_eq (v_is z) (w_is z))
-      ∙ sym (ap (λ b. b && bytes_eq (index_bytes t.reach t.old m) (index_bytes t.reach t.new m))
-      (and_from (nat_le t.reach.blocks m) (reached_number t.reach t.old m == reached_number t.reach t.new m) (le-leb t.reach.blocks m past) (eq-eqb (reached_number t.reach t.old m) (reached_number t.reach t.new m) (sym was-reached ∙ same ∙ now-reached))))
-
 -- an image has whole blocks
 pub image-whole : (r : Reach) (offset to : ℕ) (image : List ℕ) → r ≡ reach_for offset to → length image ≡ image_bytes offset to → length image ≡ 4096 * r.blocks
 image-whole r offset to image is long =
@@ -102,9 +84,6 @@ module _ (V : View) (r : Record) (k : Head) (offset to : ℕ) (t : Changing) (im
 
   abbrev N : ℕ → ℕ
   N = numbered (block_at V (held r)) t.reach t.new
-
-  abbrev count : ℕ
-  count = reach_count t.reach
 
   fit : IsReach t.reach
   fit = reach-fits offset to t.reach some fits change.reach

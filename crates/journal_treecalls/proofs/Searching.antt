@@ -1,5 +1,5 @@
 -- A search of a directory goes on, and what it comes to.
-use Rattle.std.proofs.Common.{◌≡◌, ◌≢◌, ℕ, ◌+◌, ◌-◌, ◌*◌, ◌/◌, ◌%◌, ◌<◌, ◌≤◌, cond, List, [], get_or, Option, Some, None, refl, sym, ap, subst, ◌⊎◌, inl, inr, ◌∙◌, arith}
+use Rattle.std.proofs.Common.{◌≡◌, ◌≢◌, ℕ, ◌+◌, ◌-◌, ◌*◌, ◌/◌, ◌%◌, ◌<◌, cond, List, [], Option, Some, None, refl, sym, ap, subst, ◌⊎◌, inl, inr, ◌∙◌, arith}
 use Rattle.std.proofs.lemmas.Bool.{cases_eq, eq-eqb, ne_eqb}
 use Rattle.journal_tree.specs.declared.reply.Kind.TheVariants.{Directory}
 use Rattle.journal_tree.specs.Trees.{find}
@@ -19,33 +19,8 @@ use Rattle.journal_treestore.proofs.Changing.{directory-frame}
 use Rattle.journal_treestore.proofs.Viewing.{finds, misses}
 use Rattle.journal_treecalls.specs.declared.node.Record.{Record}
 use Rattle.journal_treecalls.specs.declared.search.Hit.{Hit}
-use Rattle.journal_treecalls.specs.declared.search.DirectoryBlock.{DirectoryBlock}
 use Rattle.journal_treecalls.specs.Fetches.{number_at, file_index}
-use Rattle.journal_treecalls.specs.Targets.{held, IsHitAt, HasNoHit, HitsBlock, direct_block, HasNoHitIn, IsFirstHit, HitsFirst, level_number, HasNoHitBelow, HitsNumbers, block_of, IsHitAbove, HitsLevels, IsHit, Hits}
-
--- one more place was looked at
-pub no_hit-more : (V : View) (b : DirectoryBlock) (v : List ℕ) (tag : ℕ) (name : List ℕ) (to : ℕ) → HasNoHit V b v tag name to → IsHitAt V b v tag name to None → HasNoHit V b v tag name (to + 1)
-no_hit-more V b v tag name to none here at low = by (cases_eq at to)
-  where
-    by : (at ≡ to) ⊎ (at ≡ to → ⊥) → IsHitAt V b v tag name at None
-    by (inl same) = subst (λ at. IsHitAt V b v tag name at None) (sym same) here
-    by (inr other) = none at (omega (arith, low, other))
-
--- one more of the first blocks
-pub no_hit_in-more : (V : View) (bs : List ℕ) (tag : ℕ) (name : List ℕ) (to : ℕ) → HasNoHitIn V bs tag name to → HitsBlock V (direct_block bs to) tag name None → HasNoHitIn V bs tag name (to + 1)
-no_hit_in-more V bs tag name to none here j low = by (cases_eq j to)
-  where
-    by : (j ≡ to) ⊎ (j ≡ to → ⊥) → HitsBlock V (direct_block bs j) tag name None
-    by (inl same) = subst (λ j. HitsBlock V (direct_block bs j) tag name None) (sym same) here
-    by (inr other) = none j (omega (arith, low, other))
-
--- and one more level
-pub no_hit_below-more : (V : View) (v : List ℕ) (tag : ℕ) (name : List ℕ) (to : ℕ) → HasNoHitBelow V v tag name to → HitsBlock V (level_number v tag to) tag name None → HasNoHitBelow V v tag name (to + 1)
-no_hit_below-more V v tag name to none here level low = by (cases_eq level to)
-  where
-    by : (level ≡ to) ⊎ (level ≡ to → ⊥) → HitsBlock V (level_number v tag level) tag name None
-    by (inl same) = subst (λ level. HitsBlock V (level_number v tag level) tag name None) (sym same) here
-    by (inr other) = none level (omega (arith, low, other))
+use Rattle.journal_treecalls.specs.Targets.{held, HitsBlock, direct_block, IsFirstHit, HitsFirst, level_number, HitsNumbers, block_of, HitsLevels, IsHit, Hits}
 
 -- ── the blocks of a directory, by its numbers ──
 

@@ -1,9 +1,8 @@
 -- Blocks are taken for a node that gets some.
-use Rattle.std.proofs.Common.{◌≡◌, ◌≢◌, ℕ, ◌+◌, ◌-◌, ◌*◌, ◌<◌, ◌≤◌, Bool, false, cond, eqb, List, length, take, get_or, replicate, Option, Some, None, refl, sym, ap, subst, ◌⊎◌, inl, inr, ◌∙◌, arith}
-use Rattle.std.specs.Prelude.{◌==◌, nat_lt}
-use Rattle.std.proofs.lemmas.Bool.{cases_eq, eq-eqb, ne_eqb, false≢true}
-use Rattle.std.proofs.lemmas.List.{length-take-le, length-replicate, get_or-take, ext_get_or}
-use Rattle.std.proofs.lemmas.List.Folds.{list_any_at}
+use Rattle.std.proofs.Common.{◌≡◌, ◌≢◌, ℕ, ◌+◌, ◌-◌, ◌*◌, ◌<◌, ◌≤◌, cond, eqb, List, length, get_or, replicate, Option, Some, refl, sym, ap, subst, ◌⊎◌, inl, inr, ◌∙◌, arith}
+use Rattle.std.specs.Prelude.{nat_lt}
+use Rattle.std.proofs.lemmas.Bool.{cases_eq, eq-eqb, ne_eqb}
+use Rattle.std.proofs.lemmas.List.{length-replicate, ext_get_or}
 use Rattle.journal_treestore.specs.declared.inode.Head.{Head}
 use Rattle.journal_treestore.specs.Bytes.{with_piece}
 use Rattle.journal_treestore.specs.Views.{View, zero_block, bytes_in}
@@ -13,8 +12,8 @@ use Rattle.journal_treecalls.specs.declared.reach.Numbers.{Numbers}
 use Rattle.journal_treecalls.specs.declared.reach.SpareBlock.{SpareBlock}
 use Rattle.journal_treecalls.specs.Disks.{Learns}
 use Rattle.journal_treecalls.specs.Fetches.{number_at}
-use Rattle.journal_treecalls.specs.Blocks.{HasFreeBlock, IsFreeBlock, IsThis}
-use Rattle.journal_treecalls.specs.Reaches.{reach_count, reach_place, IsReach, is_leafed, is_rooted, numbered, leaf_bytes, root_bytes, AreSized, AreSame, CopiesBlock, HasLeaves, HasNumbers, is_repeated, IsSpare, IsNextSpare, IsSpareAt, IsSpareHere, IsAmong, AreTaken, TakesPlaces, TakesPlace, TakesOne, IsTaken}
+use Rattle.journal_treecalls.specs.Blocks.{HasFreeBlock}
+use Rattle.journal_treecalls.specs.Reaches.{reach_count, reach_place, IsReach, is_leafed, is_rooted, numbered, leaf_bytes, root_bytes, AreSized, AreSame, CopiesBlock, HasLeaves, HasNumbers, IsSpare, IsNextSpare, IsSpareAt, IsSpareHere, IsAmong, AreTaken, TakesPlaces, TakesPlace, TakesOne, IsTaken}
 use Rattle.journal_treecalls.proofs.Learning.{learns-as, learns-then}
 use Rattle.journal_treecalls.proofs.Births.{zeros-get}
 use Rattle.journal_treecalls.proofs.Holding.{zero-at}
@@ -22,20 +21,6 @@ use Rattle.journal_treecalls.proofs.Fetching.{length-put, put-before, put-inside
 use Rattle.journal_treecalls.proofs.Reaching.{place-once}
 
 -- ── a spare block ──
-
--- one that is none of those before it in their list
-pub spare-here : (old new : View → Type 0) (spare : List ℕ) (at b : ℕ) (repeated : Bool) (o : Option ℕ) → at < length spare → repeated ≡ is_repeated spare at → repeated ≡ false → b ≡ get_or spare at 0 → IsThis b o
-    → Learns old new (λ V. IsFreeBlock V o) → Learns old new (λ V. IsSpareHere V spare at o)
-spare-here old new spare at b repeated o low is once b_is same l = learns-as old new _ _ l (λ V m free. by V o same free)
-  where
-    by : (V : View) (o : Option ℕ) → IsThis b o → IsFreeBlock V o → IsSpareHere V spare at o
-    by V None same free = tt
-    by V (Some f) same free = record {
-      free = free;
-      new = λ i before e. absurd (false≢true (sym once ∙ is ∙ list_any_at (λ x. x == get_or spare at 0) (take at spare) i 0 (let t = length-take-le at spare (omega (arith, low)) in omega (arith, t, before))
-          (ap (λ x. x == get_or spare at 0) (get_or-take at spare i 0 before) ∙ eq-eqb (get_or spare i 0) (get_or spare at 0) (e ∙ same ∙ b_is))));
-      is = sym b_is ∙ sym same;
-    }
 
 pub spare-next : (first old new : View → Type 0) (spare : List ℕ) (from at b : ℕ) (o : Option ℕ) → from ≤ at → o ≡ Some b → ((V : View) → old V → first V) → Learns old new (λ V. IsSpareHere V spare at o)
     → Learns first new (λ V. IsNextSpare V spare from (Some (record { block = b; next = at + 1 })))
@@ -277,16 +262,6 @@ root-read old new h r v w is same l = learns-as old new _ _ l (λ V _ c there.
       where
         long_all : length (leaf_bytes w 0) ≡ 4096
         long_all = range-long w (4096 * 0) (4096 * 0 + 4096) (omega (arith, whole)) ∙ (let e : 4096 * 0 + 4096 - 4096 * 0 ≡ 4096 = omega arith in e)
-
-pub copies-none : (may : View → Type 0) (b at : ℕ) (v : List ℕ) → b ≡ 0 → Learns may may (λ V. CopiesBlock V b at v v)
-copies-none may b at v none = record { before = λ V m. m; now = λ V m. record { none = λ e. refl; some = λ there. absurd (there none); whole = λ there. absurd (there none) } }
-
-pub copies-some : (old new : View → Type 0) (b at : ℕ) (v w x y : List ℕ) → b ≢ 0 → x ≡ y → length x ≡ 4096 → w ≡ with_piece v at y → Learns old new (λ V. V.block b ≡ x) → Learns old new (λ V. CopiesBlock V b at v w)
-copies-some old new b at v w x y some same whole put l = learns-as old new _ _ l (λ V _ block. record {
-  none = λ none. absurd (some none);
-  some = λ there. put ∙ ap (with_piece v at) (sym same ∙ sym block);
-  whole = λ there. ap length block ∙ whole;
-})
 
 pub numbers-read : (first mid last : View → Type 0) (h : Head) (r : Reach) (s : Numbers) (root given : List ℕ) → s.direct ≡ h.blocks → s.index ≡ h.index → s.root.items ≡ root → given ≡ root → Learns first mid (λ V. r.leaves ≢ 0 → root ≡ bytes_in V h.index)
     → Learns mid last (λ V. HasLeaves V r given r.leaves s.leaves.items) → Learns first last (λ V. HasNumbers V h r s)

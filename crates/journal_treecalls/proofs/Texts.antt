@@ -51,9 +51,6 @@ use Rattle.journal_treecalls.proofs.Furthers.{get-set, birth, ground}
 replanted : (T : Tree) (n : ℕ) (x y : Node) → with_node (planted T n x) n (Some y) ≡ planted T n y
 replanted T n x y = λ z. record { numbers = T.numbers; blocks = T.blocks; at = λ i. by (eqb i n) (T.at i) z }
   where
-    old : Slot
-    old = record { generation = (T.at n).generation + 1; node = Some x }
-
     by : (t : Bool) (s : Slot) → cond t (record { generation = (cond (eqb n n) (record { generation = (T.at n).generation + 1; node = Some x }) (T.at n)).generation; node = Some y }) (cond t (record { generation = (T.at n).generation + 1; node = Some x }) s)
         ≡ cond t (record { generation = (T.at n).generation + 1; node = Some y }) s
     by true s = ap (λ t. record { generation = (cond t (record { generation = (T.at n).generation + 1; node = Some x }) (T.at n)).generation; node = Some y }) (eq-eqb n n refl)

@@ -68,9 +68,6 @@ module _ (V : View) (sound : IsSoundView V) (n e : ℕ) where
 
 -- ── what is learned ──
 
-pub follows-first : (may : View → Type 0) (n e numbers : ℕ) → Learns may may (λ V. Follows V n e numbers 0 e)
-follows-first may n e numbers = record { before = λ V m. m; now = λ V m k is. ap (λ k. meets (stems (tree_of V)) n k e) (let e : numbers ≡ k = omega (arith, is) in e) }
-
 module _ (first old : View → Type 0) (n e numbers step at : ℕ) (counts : (V : View) → first V → V.numbers ≡ numbers) (l : Learns first old (λ V. Follows V n e numbers step at)) where
   -- how many steps are left
   left : step ≤ numbers → (numbers - step) + step ≡ numbers

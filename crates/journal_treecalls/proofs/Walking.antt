@@ -110,9 +110,6 @@ one-there V begin place e past some = ap (λ t. cond t [] (item_at V place e)) (
 pub place-before : (may : View → Type 0) (begin place : ℕ) (e : Entry) (p : Page) → place < begin → Learns may may (λ V. ShowsPlace V begin place e p p)
 place-before may begin place e p low = record { before = λ V m. m; now = λ V m sound. subst (Shows V p p) (sym (none-before V begin place e low)) (shows-none V p) }
 
-pub place-none : (may : View → Type 0) (begin place : ℕ) (e : Entry) (p : Page) → e.number ≡ 0 → Learns may may (λ V. ShowsPlace V begin place e p p)
-place-none may begin place e p none = record { before = λ V m. m; now = λ V m sound. subst (Shows V p p) (sym (none-there V begin place e none)) (shows-none V p) }
-
 pub place-full : (may : View → Type 0) (begin place : ℕ) (e : Entry) (p : Page) → p.room ≡ None → Learns may may (λ V. ShowsPlace V begin place e p p)
 place-full may begin place e p full = record { before = λ V m. m; now = λ V m sound. shows-full V p (item_from V begin place e) full }
 

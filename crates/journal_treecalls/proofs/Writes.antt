@@ -1,7 +1,7 @@
 -- WRITE.
-use Rattle.std.proofs.Common.{◌≡◌, ◌≢◌, ℕ, suc, ◌+◌, ◌-◌, ◌/◌, ◌%◌, ◌<◌, ◌≤◌, Bool, true, false, not, cond, eqb, List, [], ◌∷◌, length, Option, Some, None, Ok, Err, refl, sym, ap, subst, ◌⊎◌, inl, inr, ◌∙◌, arith}
+use Rattle.std.proofs.Common.{◌≡◌, ◌≢◌, ℕ, suc, ◌+◌, ◌-◌, ◌<◌, ◌≤◌, Bool, true, false, not, cond, List, [], ◌∷◌, length, Option, Some, None, Ok, Err, refl, sym, ap, subst, ◌⊎◌, inl, inr, ◌∙◌, arith}
 use Rattle.std.specs.Prelude.{Result, ◌==◌, nat_lt}
-use Rattle.std.proofs.lemmas.Bool.{cases_lt, eqb-true, eqb-false, eq-eqb, ne_eqb, ltb-false, lt-ltb, le-ltb, le-leb, lt-leb}
+use Rattle.std.proofs.lemmas.Bool.{eqb-true, eqb-false, eq-eqb, ne_eqb, ltb-false}
 use Rattle.journal_tree.specs.declared.limits.TheConstants.{MOST_BYTES}
 use Rattle.journal_tree.specs.declared.time.Time.{Time}
 use Rattle.journal_tree.specs.declared.reply.Changed.{Changed}
@@ -39,13 +39,12 @@ use Rattle.journal_treecalls.specs.Blocks.{owner_of}
 use Rattle.journal_treecalls.specs.Sizes.{cleared, changed_told}
 use Rattle.journal_treecalls.specs.declared.reach.Numbers.{Numbers}
 use Rattle.journal_treecalls.specs.declared.reach.Changing.{Changing}
-use Rattle.journal_treecalls.specs.Fetches.{file_blocks}
 use Rattle.journal_treecalls.specs.Reaches.{reach_for, reach_count, numbered, AreSized, HasNumbers, IsTaken, IsSizedTaken, IsChanging}
 use Rattle.journal_treecalls.specs.Overlays.{writing_by, writing_status, image_bytes, IsImage, IsWrittenHead, gap_of, with_gap, ClearsGap, Laying, lay, lay_at, laid, laying_at, LaysOne, LaysAt, LaysBlocks, with_written, IsWritten, WritesFile, WritesRoom, WritesAllowed, IsWriting, WritesNode}
 use Rattle.journal_treecalls.specs.Overlays.IsWritingRoom.{full, writes}
 use Rattle.journal_treecalls.specs.Overlays.IsWritingAllowed.{stays, tried}
 use Rattle.journal_treecalls.specs.Overlays.IsWriting.{kept, allowed as is_allowed}
-use Rattle.journal_treecalls.proofs.Learning.{learns-as, does-reads}
+use Rattle.journal_treecalls.proofs.Learning.{does-reads}
 use Rattle.journal_treecalls.proofs.Learned.{AreSound}
 use Rattle.journal_treecalls.proofs.Cases.{at-gone, at-node, node-told, told-is}
 use Rattle.journal_treestore.specs.Steps.{IsNodeStep}
@@ -80,16 +79,6 @@ fits-within c h offset count long o is on some = by (passes h.kind (may_store c 
         at : count ≡ long → (count ≡ 0) ⊎ ((count ≢ 0) × (nat_lt MOST_BYTES (offset + count) ≡ false)) → offset + long ≤ MOST_BYTES
         at same (inl none) = absurd (omega (arith, same, none, some))
         at same (inr f) = let l = ltb-false MOST_BYTES (offset + count) f.1 in omega (arith, l, same)
-
-pub too-long : (offset count : ℕ) → 4295163904 < offset → true ≡ nat_lt MOST_BYTES (offset + count)
-too-long offset count past = sym (lt-ltb MOST_BYTES (offset + count) (omega (arith, past)))
-
-pub long-enough : (offset count : ℕ) → offset ≤ 4295163904 → nat_lt (4295163904 - offset) count ≡ nat_lt MOST_BYTES (offset + count)
-long-enough offset count low = by (cases_lt (4295163904 - offset) count)
-  where
-    by : (4295163904 - offset < count) ⊎ (count ≤ 4295163904 - offset) → nat_lt (4295163904 - offset) count ≡ nat_lt MOST_BYTES (offset + count)
-    by (inl more) = lt-ltb (4295163904 - offset) count more ∙ sym (lt-ltb MOST_BYTES (offset + count) (omega (arith, more, low)))
-    by (inr few) = le-ltb (4295163904 - offset) count few ∙ sym (le-ltb MOST_BYTES (offset + count) (omega (arith, few, low)))
 
 -- ── the call ──
 
@@ -234,29 +223,6 @@ gap-cleared first old mid new ws before h offset t v w o gap some none put clear
       ∙ ap (with_block V t.block) (cleared_is ∙ ap (λ v. cleared v t.from) (sym (l.now V (same V m))))
       ∙ ap (with_gap V) (sym some ∙ gap.now V (l.before V (same V m)));
 }
-
--- where the file does not end before
-pub gap-late : (may : View → Type 0) (h : Head) (offset last first : ℕ) → last ≡ h.size / 4096 → first ≡ offset / 4096 → first ≤ last → Learns may may (λ V. None ≡ gap_of V h offset)
-gap-late may h offset last first last_is first_is late = record {
-  before = λ V m. m;
-  now = λ V m. sym (ap (λ t. cond t None (cond (eqb (file_blocks V h (h.size / 4096)) 0) None (Some (record { block = file_blocks V h (h.size / 4096); from = h.size % 4096 })))) (le-leb (offset / 4096) (h.size / 4096) (omega (arith, last_is, first_is, late))));
-}
-
--- or does, in a block or in none
-pub gap-early : (old new : View → Type 0) (h : Head) (offset last first b from : ℕ) → last ≡ h.size / 4096 → first ≡ offset / 4096 → last < first → from ≡ h.size % 4096 → Learns old new (λ V. file_blocks V h last ≡ b)
-    → Learns old new (λ V. cond (eqb b 0) None (Some (record { block = b; from = from })) ≡ gap_of V h offset)
-gap-early old new h offset last first b from last_is first_is early from_is l = learns-as old new _ _ l (λ V m is.
-    (λ z. cond (eqb (sym (ap (file_blocks V h) (sym last_is) ∙ is) z) 0) None (Some (record { block = sym (ap (file_blocks V h) (sym last_is) ∙ is) z; from = from_is z })))
-    ∙ sym (ap (λ t. cond t None (cond (eqb (file_blocks V h (h.size / 4096)) 0) None (Some (record { block = file_blocks V h (h.size / 4096); from = h.size % 4096 })))) (lt-leb (offset / 4096) (h.size / 4096) (omega (arith, last_is, first_is, early)))))
-
-pub gap-hole : (old new : View → Type 0) (h : Head) (offset last first b : ℕ) → last ≡ h.size / 4096 → first ≡ offset / 4096 → last < first → b ≡ 0 → Learns old new (λ V. file_blocks V h last ≡ b) → Learns old new (λ V. None ≡ gap_of V h offset)
-gap-hole old new h offset last first b last_is first_is early none l = learns-as old new _ _ (gap-early old new h offset last first b (h.size % 4096) last_is first_is early refl l) (λ V m is.
-    sym (ap (λ t. cond t None (Some (record { block = b; from = h.size % 4096 }))) (eq-eqb b 0 none)) ∙ is)
-
-pub gap-there : (old new : View → Type 0) (h : Head) (offset last first b from : ℕ) → last ≡ h.size / 4096 → first ≡ offset / 4096 → last < first → b ≢ 0 → from ≡ h.size % 4096 → Learns old new (λ V. file_blocks V h last ≡ b)
-    → Learns old new (λ V. Some (record { block = b; from = from }) ≡ gap_of V h offset)
-gap-there old new h offset last first b from last_is first_is early there from_is l = learns-as old new _ _ (gap-early old new h offset last first b from last_is first_is early from_is l) (λ V m is.
-    sym (ap (λ t. cond t None (Some (record { block = b; from = from }))) (ne_eqb b 0 there)) ∙ is)
 
 pub piece-old : (old new : View → Type 0) (before after : List Write) (n was b j : ℕ) (v w : List ℕ) → was ≢ 0 → after ≡ block_write b w ∷ before → w ≡ v → ((V : View) → new V → old V) → LaysOne old new before after n was b j v
 piece-old old new before after n was b j v w some put is same = record {

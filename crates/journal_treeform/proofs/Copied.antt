@@ -1,14 +1,14 @@
 -- The records of later blocks are copied, one block after another.
-use Rattle.std.proofs.Common.{ℕ, ◌≡◌, ◌<◌, ◌≤◌, ◌+◌, ◌⊎◌, inl, inr, ⊎_elim, IsTrue, refl, sym, ap, subst, ◌∙◌, arith}
+use Rattle.std.proofs.Common.{ℕ, ◌≡◌, ◌<◌, ◌+◌, ◌⊎◌, inl, inr, ⊎_elim, IsTrue, refl, ap, ◌∙◌, arith}
 use Rattle.std.specs.Prelude.{Result, Ok, Err, OnOk, OnErr}
 use Rattle.std.proofs.lemmas.Bool.{cases_eq}
 use Rattle.journal_block.specs.Block.{Bytes}
-use Rattle.journal_disk.specs.Disks.{write, barrier, Past, DiskState, Keeps, IsSettled, LostNone, read_of, past_after, MayHaveHappened}
-use Rattle.journal_disk.specs.Laws.{read_written, read_other, settled_after_barrier, lost_none_after}
+use Rattle.journal_disk.specs.Disks.{write, barrier, Past, DiskState, Keeps, LostNone, read_of, past_after, MayHaveHappened}
+use Rattle.journal_disk.specs.Laws.{read_written, read_other, lost_none_after}
 use Rattle.journal_treestore.specs.declared.place.Cut.{Cut}
 use Rattle.journal_treestore.specs.Places.{later_owners}
 use Rattle.journal_treestore.specs.Growths.{IsGrowth}
-use Rattle.journal_treeform.specs.GrownDisks.{WritesAfter, HasRecords}
+use Rattle.journal_treeform.specs.GrownDisks.{WritesAfter}
 use Rattle.journal_treeform.proofs.AfterEnd.{after-none, after-one, after-more, reads-first}
 
 -- The first k blocks of records are copied, and nothing else was done
@@ -55,17 +55,6 @@ module _ (c d : Cut) (s t u : DiskState) (k : ℕ) (growth : IsGrowth c d) (low 
 -- a copy that failed may have been written
 pub after-failure : (c d : Cut) (s t : DiskState) (r : Past) (k : ℕ) (bytes : Bytes) → HasCopied c d s t k → IsTrue s.honest → MayHaveHappened (write (d.blocks + k) bytes) t.past r → WritesAfter d.blocks s.past r
 after-failure c d s t r k bytes were honest happened = after-more d.blocks s.past t.past r (write (d.blocks + k) bytes) (were.after honest) (omega arith, tt) happened
-
--- all are copied, and made stable
-module _ (c d : Cut) (s t : DiskState) (r : Past) (k : ℕ) (all : later_owners c ≤ k) (were : HasCopied c d s t k) (honest : IsTrue s.honest) (synced : r ≡ past_after barrier t.past) where
-  pub all-copied : HasRecords c d (read_of s.past) (read_of r)
-  all-copied i low = ap (λ (q : Past). read_of q (d.blocks + i)) synced ∙ were.records honest i (omega (arith, low, all))
-
-  pub after-barrier : WritesAfter d.blocks s.past r
-  after-barrier = after-one d.blocks s.past t.past r barrier (were.after honest) tt synced
-
-  pub settled-then : LostNone s.past → IsSettled r
-  settled-then none = subst IsSettled (sym synced) (settled_after_barrier t.past (were.lost honest none))
 
 -- so all is after the end, whether the barrier succeeded or not
 either-of : {A E P Q : Type 0} (r : Result A E) → OnOk r P → OnErr r Q → P ⊎ Q

@@ -3,7 +3,6 @@ pub mod Roots
 pub mod Sounding
 pub mod Reading
 pub mod Making
-pub mod TwoWrites
 pub mod AfterEnd
 pub mod Copied
 pub mod Outgrown

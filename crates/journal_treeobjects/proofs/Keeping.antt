@@ -4,10 +4,9 @@ use Rattle.std.proofs.lemmas.Bool.{and_parts}
 use Rattle.std.proofs.lemmas.List.Elements.{All-head, All-tail}
 use Rattle.journal_world.specs.declared.address.Addr.{Addr}
 use Rattle.journal_world.specs.Addresses.{Value, Shape, is_same}
-use Rattle.journal_world.specs.Maps.{Map, Pair, SamePairs, value_among, value_at, Agrees, is_object, are_objects}
+use Rattle.journal_world.specs.Maps.{Map, Pair, value_among, value_at, Agrees, is_object, are_objects}
 use Rattle.journal_world.proofs.Lookups.{same_addr}
 use Rattle.journal_treeobjects.specs.Effects.{GivesPairs}
-use Rattle.journal_treeobjects.specs.States.{IsAmong}
 
 -- what agrees with a map is given by it
 pub gives-agrees : (m : Map) (ps : List Pair) → Agrees m ps → GivesPairs m ps
@@ -22,22 +21,6 @@ gives-agrees m (p ∷ ps) agrees a v is =
         ap (value_at m) (same_addr a p.0 same) ∙ All-head (λ (q : Pair). value_at m q.0 ≡ q.1) p ps agrees ∙ value
     by_test false other rest =
         rest (ap (λ t. cond t (Some p.1) (value_among ps a)) (sym other) ∙ is)
-
--- an object of a new address keeps what was read before
-pub read-more : (old new kept : List Pair) (a : Addr) (v : Value) → value_among kept a ≡ None → SamePairs new ((a, v) ∷ old) → IsAmong kept old → IsAmong kept new
-read-more old new kept a v fresh more among b w is = more b ∙ by (is_same b a) refl
-  where
-    by : (t : Bool) → is_same b a ≡ t → cond (is_same b a) (Some v) (value_among old b) ≡ Some w
-    by true same = absurd (let e : None ≡ Some w = sym fresh ∙ ap (value_among kept) (sym (same_addr b a same)) ∙ is in cc)
-    by false other = ap (λ t. cond t (Some v) (value_among old b)) other ∙ among b w is
-
--- what is kept besides
-pub kept-more : (old new reads more : List Pair) (a : Addr) (v : Value) → SamePairs new ((a, v) ∷ old) → SamePairs more ((a, v) ∷ reads) → IsAmong old reads → IsAmong new more
-kept-more old new reads more a v insert read among b w is = read b ∙ by (is_same b a) (sym (insert b) ∙ is) (among b w)
-  where
-    by : (t : Bool) → cond t (Some v) (value_among old b) ≡ Some w → (value_among old b ≡ Some w → value_among reads b ≡ Some w) → cond t (Some v) (value_among reads b) ≡ Some w
-    by true is among = is
-    by false is among = among is
 
 -- what is found among objects is an object
 pub found-object : (layout : Shape) (ps : List Pair) (a : Addr) (v : Value) → IsTrue (are_objects layout ps) → value_among ps a ≡ Some v → IsTrue (is_object layout (a, v))

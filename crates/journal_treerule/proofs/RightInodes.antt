@@ -1,20 +1,19 @@
 -- The inodes of a sound disk are right, each by itself; and what right inodes say of their nodes.
-use Rattle.std.proofs.Common.{ℕ, zero, suc, ◌≡◌, ◌≢◌, ◌<◌, ◌≤◌, ◌+◌, ◌*◌, ◌/◌, ◌%◌, cond, List, length, Option, Some, None, refl, sym, ap, subst, ◌⊎◌, inl, inr, ◌∙◌, length-append, arith}
+use Rattle.std.proofs.Common.{ℕ, zero, suc, ◌≡◌, ◌≢◌, ◌<◌, ◌≤◌, ◌+◌, ◌*◌, ◌/◌, ◌%◌, cond, length, Some, None, refl, sym, ap, subst, ◌⊎◌, inl, inr, ◌∙◌, length-append, arith}
 use Rattle.std.specs.Prelude.{option_map}
 use Rattle.std.proofs.lemmas.Bool.{cases_eq, cases_lt, eq-eqb, ne_eqb}
 use Rattle.std.proofs.lemmas.List.{length-take-le}
 use Rattle.journal_tree.specs.declared.limits.TheConstants.{ROOT, MOST_BYTES, MOST_LINK}
 use Rattle.journal_tree.specs.declared.reply.Kind.{Kind}
 use Rattle.journal_tree.specs.declared.reply.Kind.TheVariants.{Directory, File, Link}
-use Rattle.journal_tree.specs.Trees.{Home, Body, Node, root_home, places_of}
+use Rattle.journal_tree.specs.Trees.{Home, root_home, places_of}
 use Rattle.journal_tree.specs.Rule.{Stem, stem_of, stems}
 use Rattle.journal_tree.specs.Fit.{IsFit, IsFitBody}
 use Rattle.journal_tree.proofs.Changing.{stem_from_node}
-use Rattle.journal_treestore.specs.declared.owner.Owner.{Owner}
 use Rattle.journal_treestore.specs.Views.{Held, Seen, View, block_at, begin_at, zero_block, bytes_in, bytes_of, content, body_of, node_of, slot_of, tree_of}
 use Rattle.journal_treestore.specs.Views.Seen.{free, used}
 use Rattle.journal_treestore.specs.Sound.{IsSoundInode, IsSoundView}
-use Rattle.journal_treestore.proofs.Indexing.{at-direct, at-index, begin-index}
+use Rattle.journal_treestore.proofs.Indexing.{at-index, begin-index}
 use Rattle.journal_treestore.proofs.Recording.{zero-long}
 use Rattle.journal_treestore.proofs.Viewing.{inode-node, used_some}
 use Rattle.journal_treerule.specs.Parts.{IsRootHome, IsInPlace, IsSizeOf, IsIndexOf, IsWithinBounds, IsSoundBlock, AreBlocksSound, IsNode, IsRightInode, AreInodesRight}
@@ -138,19 +137,6 @@ module _ (V : View) (sound : IsSoundView V) where
   inodes-right n low = right-inode n (V.inode n) refl
 
 -- ── the first blocks of a right inode ──
-
-module _ (V : View) (n : ℕ) (h : Held) (right : IsNode V n h) (j : ℕ) (some : h.blocks j ≢ 0) where
-  low-block : j < 48
-  low-block = by (cases_lt j 48)
-    where
-      by : (j < 48) ⊎ (48 ≤ j) → j < 48
-      by (inl low) = low
-      by (inr past) = absurd (some (right.first j past))
-
-  pub first-block : IsSoundBlock V h.size (record { number = n; place = j }) (h.blocks j)
-  first-block =
-      let e = at-direct V h j low-block in
-      subst (IsSoundBlock V h.size (record { number = n; place = j })) e (right.blocks j (λ z. some (sym e ∙ z)))
 
 -- a block of a right inode, by its place
 pub sound-at : (V : View) (n : ℕ) (h : Held) → IsNode V n h → (p b : ℕ) → block_at V h p ≡ b → b ≢ 0 → IsSoundBlock V h.size (record { number = n; place = p }) b

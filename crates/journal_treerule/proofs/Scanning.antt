@@ -14,7 +14,7 @@ use Rattle.journal_treestore.specs.declared.place.Cut.{Cut}
 use Rattle.journal_treestore.specs.Descriptions.{description_bytes}
 use Rattle.journal_treestore.specs.Inodes.{inode_from, name_from}
 use Rattle.journal_treestore.specs.Places.{first_data, IsCut}
-use Rattle.journal_treestore.specs.Views.{Held, Seen, View, begin_at, held_of, seen}
+use Rattle.journal_treestore.specs.Views.{Held, View, begin_at, held_of, seen}
 use Rattle.journal_treestore.specs.Views.Seen.{free, used}
 use Rattle.journal_treestore.proofs.Shaping.{has_data, few_base}
 use Rattle.journal_treecalls.specs.Disks.{inode_seen}
@@ -179,9 +179,6 @@ module _ (P : Map → ℕ → Type 0) (before now : Map) (trusted still failed f
   pub passed-fails : (most : ℕ) → to < most → b ≡ false → IsTrue trusted → IsTrue false ↔ ((k : ℕ) → k < most → P before k)
   passed-fails most low is trust = refuses b (passes-here trust) is (λ all. all to low)
 
-pub passed-none : (P : Map → ℕ → Type 0) (m : Map) (trusted failed : Bool) → ArePassed m m trusted trusted failed failed P 0
-passed-none P m trusted failed = record { same_map = refl; same_trust = refl; stays_failed = λ f. f; sound = λ trust k low. absurd (omega (arith, low)) }
-
 pub passed-all : (P : Map → ℕ → Type 0) (before now : Map) (trusted still failed fails : Bool) (to most : ℕ) → ArePassed before now trusted still failed fails P to → most ≤ to → IsTrue trusted
     → IsTrue true ↔ ((k : ℕ) → k < most → P before k)
 passed-all P before now trusted still failed fails to most passed over trust = ((λ _ k low. passed.sound trust k (omega (arith, over, low))), (λ _. refl))
@@ -245,10 +242,6 @@ below_all : (f b k : ℕ) → f < b → k < f + (b - f) → k < b
 below_all f b k low below = omega (arith, low, below)
 
 module _ (c : Cut) (m : Map) (size : ℕ) (o : Owner) (block : ℕ) (cut : IsCut c) where
-  -- it lies in the data
-  pub sound-in-data : block ≢ 0 → IsSoundBlock (view_of c m) size o block → (first_data c ≤ block) × (block < c.blocks)
-  sound-in-data some sound = (sound.first, below_all (first_data c) c.blocks block (has_data c cut) sound.last)
-
   pub no-block-passes : block ≡ 0 → IsTrue true ↔ (block ≢ 0 → IsSoundBlock (view_of c m) size o block)
   no-block-passes none = ((λ _ some. absurd (some none)), (λ _. refl))
 

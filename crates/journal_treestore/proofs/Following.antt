@@ -194,7 +194,7 @@ body-again place (directory places) = ap directory (grown-again place places)
 body-again place (file bytes) = refl
 body-again place (link text) = refl
 
-node-again : (place : ℕ) (now : Time) (o : Option Node) → option_map (opened place now) (option_map (widened place) o) ≡ option_map (opened place now) o
+pub node-again : (place : ℕ) (now : Time) (o : Option Node) → option_map (opened place now) (option_map (widened place) o) ≡ option_map (opened place now) o
 node-again place now None = refl
 node-again place now (Some x) = ap (λ (b : Body). Some (record { attributes = with_times x.attributes (time_of_names x.attributes now); home = x.home; body = b })) (body-again place x.body)
 

@@ -3,10 +3,9 @@ use Rattle.std.proofs.Common.{◌≡◌, ◌≢◌, ℕ, zero, suc, ◌++◌, �
 use Rattle.std.specs.Prelude.{nat_lt, nat_le}
 use Rattle.std.proofs.lemmas.Bool.{cases_eq, cases_lt, eq-eqb, ne_eqb, lt-ltb, le-ltb, le-leb, lt-leb, and_from, and_left, and_right}
 use Rattle.journal_tree.specs.declared.reply.Kind.TheVariants.{Directory}
-use Rattle.journal_treestore.specs.declared.owner.Owner.{Owner}
 use Rattle.journal_treestore.specs.declared.inode.Head.{Head}
 use Rattle.journal_treestore.specs.Bytes.{word_at}
-use Rattle.journal_treestore.specs.Views.{Held, Seen, View, held_of, with_inode, with_owner, with_block, zero_block, bytes_in, bytes_of, number_in, index_block, block_at, begin_at, directory_block}
+use Rattle.journal_treestore.specs.Views.{Held, Seen, View, held_of, with_inode, with_block, zero_block, bytes_in, bytes_of, number_in, index_block, block_at, begin_at, directory_block}
 use Rattle.journal_treestore.specs.Sound.{IsSoundInode}
 
 -- ── at each kind of place ──
@@ -135,13 +134,6 @@ begin-leaf i =
     ∙ ap (λ t. begin_by false t (2147483649 + i)) (ne_eqb (2147483649 + i) 2147483648 (λ e. absurd (omega (arith, e))))
     ∙ ap (λ n. 4096 * (48 + 1024 * n)) (let e : 2147483649 + i - 2147483649 ≡ i = omega arith in e)
 
--- what is not longer than its first blocks has those alone, whatever the blocks of the disk
-pub short-blocks : (V W : View) (n : ℕ) (h : Held) → IsSoundInode V n h → h.size ≤ 196608 → (p : ℕ) → block_at W h p ≡ h.blocks p
-short-blocks V W n h s short p = no-index W h (no_index V n h s short) s.first p
-  where
-    no_index : (V : View) (n : ℕ) (h : Held) → IsSoundInode V n h → h.size ≤ 196608 → h.index ≡ 0
-    no_index V n h s short = sym (at-index V h) ∙ s.after 2147483648 (subst (λ b. h.size ≤ b) (sym begin-index) short)
-
 -- no first block lies after the size
 pub first-after : (V : View) (n : ℕ) (h : Held) → IsSoundInode V n h → (j : ℕ) → h.size ≤ 4096 * j → h.blocks j ≡ 0
 first-after V n h s j far = by (cases_lt j 48)
@@ -170,27 +162,6 @@ directory-after V n h s j far = by (cases_lt j 388)
         ap (λ t. cond t (block_at V h j) 0) (lt-ltb j 388 low)
         ∙ s.after j (subst (λ b. h.size ≤ b) (sym (begin-content j (omega (arith, low)))) far)
     by (inr past) = ap (λ t. cond t (block_at V h j) 0) (le-ltb j 388 past)
-
--- a first block that is there is one of the first 48
-pub low-first : (V : View) (n : ℕ) (h : Held) → IsSoundInode V n h → (j : ℕ) → h.blocks j ≢ 0 → j < 48
-low-first V n h s j some = by (cases_lt j 48)
-  where
-    by : (j < 48) ⊎ (48 ≤ j) → j < 48
-    by (inl low) = low
-    by (inr past) = absurd (some (s.first j past))
-
--- so it lies where its place says
-pub first-at : (V : View) (n : ℕ) (h : Held) → IsSoundInode V n h → (j : ℕ) → h.blocks j ≢ 0 → block_at V h j ≡ h.blocks j
-first-at V n h s j some = at-direct V h j (low-first V n h s j some)
-
-pub first-owned : (V : View) (n : ℕ) (h : Held) → IsSoundInode V n h → (j : ℕ) → h.blocks j ≢ 0 → V.owner (h.blocks j) ≡ record { number = n; place = j }
-first-owned V n h s j some = subst (λ b. V.owner b ≡ record { number = n; place = j }) (first-at V n h s j some) (s.owned j (λ e. some (sym (first-at V n h s j some) ∙ e)))
-
-pub first-there : (V : View) (n : ℕ) (h : Held) → IsSoundInode V n h → (j : ℕ) → h.blocks j ≢ 0 → (V.first_data ≤ h.blocks j) × (h.blocks j < V.first_data + V.data_blocks)
-first-there V n h s j some = subst (λ b. (V.first_data ≤ b) × (b < V.first_data + V.data_blocks)) (first-at V n h s j some) (s.there j (λ e. some (sym (first-at V n h s j some) ∙ e)))
-
-pub first-sized : (V : View) (n : ℕ) (h : Held) → IsSoundInode V n h → (j : ℕ) → h.blocks j ≢ 0 → length (V.block (h.blocks j)) ≡ 4096
-first-sized V n h s j some = subst (λ b. length (V.block b) ≡ 4096) (first-at V n h s j some) (s.sized j (λ e. some (sym (first-at V n h s j some) ∙ e)))
 
 -- an inode that has no index blocks is sound by its first blocks
 pub plain-sound : (V : View) (n : ℕ) (h : Held) → h.index ≡ 0 → ((j : ℕ) → 48 ≤ j → h.blocks j ≡ 0)
@@ -235,10 +206,6 @@ same-named V h a b p = refl
 pub with_inode-blocks : (V : View) (n : ℕ) (x : Seen) (h : Held) → block_at (with_inode V n x) h ≡ block_at V h
 unfolding block_at
 with_inode-blocks V n x h = refl
-
-pub with_owner-blocks : (V : View) (b : ℕ) (o : Owner) (h : Held) → block_at (with_owner V b o) h ≡ block_at V h
-unfolding block_at
-with_owner-blocks V b o h = refl
 
 -- the same bytes in each of its index blocks
 module _ (V W : View) (h : Held) (same : (p : ℕ) → 2147483648 ≤ p → block_at V h p ≢ 0 → W.block (block_at V h p) ≡ V.block (block_at V h p)) where

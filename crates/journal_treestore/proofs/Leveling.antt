@@ -1,6 +1,5 @@
 -- The blocks of the levels.
-use Rattle.std.proofs.Common.{◌≡◌, ℕ, zero, suc, ◌+◌, ◌<◌, ◌≤◌, sym, subst, arith, ◌⊎◌, inl, inr}
-use Rattle.std.proofs.lemmas.Bool.{cases_eq}
+use Rattle.std.proofs.Common.{◌≡◌, ℕ, zero, suc, ◌<◌, ◌≤◌, sym, arith}
 use Rattle.journal_treestore.specs.Levels.{level_width, level_begin, level_block, IsBlockFor}
 use Rattle.journal_treestore.specs.Levels.IsBlockFor.{any_name, in_level}
 
@@ -33,13 +32,6 @@ block-low tag j (in_level level low is) = let few = level-low tag level low in o
 -- that of no level so far
 abbrev pub IsNoneUpTo : ℕ → ℕ → ℕ → Type 0
 IsNoneUpTo tag j level = (l : ℕ) → l < level → level_block tag l ≡ j → ⊥
-
-pub none-more : (tag j level : ℕ) → IsNoneUpTo tag j level → (level_block tag level ≡ j → ⊥) → IsNoneUpTo tag j (level + 1)
-none-more tag j level none other l low is = by (cases_eq l level)
-  where
-    by : (l ≡ level) ⊎ (l ≡ level → ⊥) → ⊥
-    by (inl same) = other (subst (λ l. level_block tag l ≡ j) same is)
-    by (inr apart) = none l (omega (arith, low, apart)) is
 
 -- so it is none for the tag
 pub not-for : (tag j : ℕ) → 48 ≤ j → IsNoneUpTo tag j 4 → IsBlockFor tag j → ⊥

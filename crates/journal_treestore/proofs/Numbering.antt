@@ -1,5 +1,5 @@
 -- Numbers of 4 bytes, one after another, as they lie in a block of numbers.
-use Rattle.std.proofs.Common.{ℕ, ◌≡◌, ◌≢◌, ◌<◌, ◌≤◌, ◌+◌, ◌-◌, ◌*◌, ◌^◌, List, ◌++◌, length, take, drop, replicate, refl, sym, ap, ◌∙◌, append_assoc, length-append, arith, ◌⊎◌, inl, inr}
+use Rattle.std.proofs.Common.{ℕ, ◌≡◌, ◌≢◌, ◌<◌, ◌≤◌, ◌+◌, ◌-◌, ◌*◌, ◌^◌, List, ◌++◌, length, take, drop, refl, sym, ap, ◌∙◌, append_assoc, length-append, arith, ◌⊎◌, inl, inr}
 use Rattle.std.specs.Prelude.{slice_range}
 use Rattle.std.specs.Int.{w32, to_le_bytes, from_le_bytes}
 use Rattle.std.proofs.lemmas.Bool.{cases_lt}
@@ -44,10 +44,6 @@ module _ (v : List ℕ) (k b : ℕ) (room : 4 * k + 4 ≤ length v) where
 
   pub length-number : length (with_piece v (4 * k) (to_le_bytes w32 b)) ≡ length v
   length-number = let four : length (to_le_bytes w32 b) ≡ 4 = refl in length-with_piece v (to_le_bytes w32 b) (4 * k) (omega (arith, four, room))
-
--- a block of zeros has number 0 everywhere
-pub zero-numbers : (n k : ℕ) → 4 * k + 4 ≤ n → word_at (replicate n 0) (4 * k) ≡ 0
-zero-numbers n k room = zeros_at n (4 * k) room
 
 pub zero_block-numbers : (k : ℕ) → k < 1024 → word_at zero_block (4 * k) ≡ 0
 unfolding zero_block

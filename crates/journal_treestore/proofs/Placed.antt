@@ -1,7 +1,7 @@
 -- A node hangs where an entry names it.
 use Rattle.std.proofs.Common.{◌≡◌, ◌≢◌, ℕ, ◌/◌, ◌<◌, Option, Some, None, refl, sym, ap, subst, ◌⊎◌, inl, inr, ◌∙◌, arith}
 use Rattle.journal_tree.specs.declared.limits.TheConstants.{ROOT}
-use Rattle.journal_tree.specs.Trees.{Home, Node, Tree, find}
+use Rattle.journal_tree.specs.Trees.{Home, Node, Tree}
 use Rattle.journal_tree.specs.Rule.{Stem, stem_of, stems, IsBelow, HasTree}
 use Rattle.journal_tree.specs.Rule.IsBelow.{itself, parent}
 use Rattle.journal_tree.proofs.Changing.{stem_from_node}
@@ -15,7 +15,7 @@ use Rattle.journal_treestore.specs.Views.Seen.{used}
 use Rattle.journal_treestore.specs.Sound.{entry_for, IsEntryOf, IsSecondEntry, HasSecond, IsHung, IsSoundView}
 use Rattle.journal_treestore.specs.Steps.{Seat, seat_place, IsSecondAt, IsPlaced}
 use Rattle.journal_treestore.proofs.Hanging.{with_home, with_own, IsOwn, cut}
-use Rattle.journal_treestore.proofs.Viewing.{inode-node, entry_of_node, finds, root_apart}
+use Rattle.journal_treestore.proofs.Viewing.{inode-node, entry_of_node, root_apart}
 use Rattle.journal_treestore.proofs.Changing.{IsSomePosition, places}
 
 -- no node hangs in itself, because the parents lead to the root
@@ -44,11 +44,6 @@ module _ (V : View) (sound : IsSoundView V) (s : Seat) (placed : IsPlaced V s) w
 
   pub names : (entry_at V s.d (seat_place s)).number ≡ s.n
   names = ap (λ (e : Entry). e.number) entry-is
-
-  pub found_is : find (tree_of V) s.d s.g.home.name ≡ Some s.n
-  found_is =
-      finds V sound s.d (seat_place s) s.g.home.name s.g (λ z. placed.some (sym names ∙ z)) (ap V.inode names ∙ placed.node) refl
-      ∙ ap Some names
 
   pub not_d : s.n ≢ s.d
   not_d e = not_own (tree_of V) s.n (node_of V s.g) sound.tree (inode-node V s.n s.g placed.node) (placed.directory ∙ sym e)

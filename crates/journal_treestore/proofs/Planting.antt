@@ -14,7 +14,6 @@ use Rattle.journal_tree.specs.Trees.Body.{directory, file, link}
 use Rattle.journal_tree.specs.Fit.{IsFitBody}
 use Rattle.journal_tree.specs.Op.{IsRoom}
 use Rattle.journal_tree.specs.Changes.{with_times, grown_body, opened, touch_place, planted}
-use Rattle.journal_treestore.specs.declared.entry.Entry.{Entry}
 use Rattle.journal_treestore.specs.Entries.{tag_of}
 use Rattle.journal_treestore.specs.Levels.{IsBlockFor}
 use Rattle.journal_treestore.specs.Positions.{Position, place_at, IsPosition, with_put}
@@ -109,9 +108,6 @@ module _ (V : View) (sound : IsSoundView V) (s : Spot) (name : List ℕ) (spot :
       within = let f = fits.0 in let i = inside in omega (arith, f, i)
 
   module _ (a : Attributes) (kind : Kind) (size : ℕ) (now : Time) (plain : kind ≡ Directory → size ≡ 0) where
-    abbrev entry : Entry
-    entry = entry_for s.n (home_of s name)
-
     abbrev V1 : View
     V1 = with_put V s.at.b s.at.q (entry_for s.n (home_of s name))
 

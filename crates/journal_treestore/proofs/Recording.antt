@@ -1,9 +1,9 @@
 -- Records of owners and entries, and their bytes.
-use Rattle.std.proofs.Common.{ℕ, ◌≡◌, ◌≢◌, ◌<◌, ◌≤◌, ◌+◌, ◌-◌, ◌*◌, ◌^◌, false, List, [], ◌∷◌, ◌++◌, length, take, drop, replicate, refl, sym, ap, ◌∙◌, append_assoc, length-append, arith, ◌⊎◌, inl, inr}
+use Rattle.std.proofs.Common.{ℕ, ◌≡◌, ◌≢◌, ◌<◌, ◌≤◌, ◌+◌, ◌-◌, ◌*◌, ◌^◌, List, [], ◌∷◌, ◌++◌, length, take, drop, replicate, refl, sym, ap, ◌∙◌, append_assoc, length-append, arith, ◌⊎◌, inl, inr}
 use Rattle.std.specs.Prelude.{slice_range, ◌%◌, bit_xor}
 use Rattle.std.specs.Int.{w32, to_le_bytes, from_le_bytes}
-use Rattle.std.proofs.lemmas.Bool.{cases_eq, cases_lt}
-use Rattle.std.proofs.lemmas.List.{length-take-le, length-drop, drop_at, drop-drop, drop-replicate, take-replicate, length-replicate}
+use Rattle.std.proofs.lemmas.Bool.{cases_lt}
+use Rattle.std.proofs.lemmas.List.{length-take-le, length-drop, drop-drop, drop-replicate, take-replicate, length-replicate}
 use Rattle.std.proofs.lemmas.Slice.{between_is, take-put_mid_below, drop-put_mid}
 use borrow.Rule.Slice.PartMut.{put_mid}
 use Rattle.std.proofs.lemmas.Nat.{from_le_bytes-to_le_bytes_4}
@@ -11,9 +11,9 @@ use Rattle.journal_treestore.specs.declared.owner.Owner.{Owner}
 use Rattle.journal_treestore.specs.declared.entry.Entry.{Entry}
 use Rattle.journal_treestore.specs.Bytes.{with_piece, word_at}
 use Rattle.journal_treestore.specs.Owners.{owner_bytes, owner_from}
-use Rattle.journal_treestore.specs.Entries.{tag_from, tag_of, no_entry, entry_bytes, entry_from, with_entry, is_tagged, HasNoneUpTo}
+use Rattle.journal_treestore.specs.Entries.{tag_from, tag_of, no_entry, entry_bytes, entry_from, with_entry}
 use Rattle.journal_treestore.specs.Views.{zero_block}
-use Rattle.journal_treestore.proofs.Pieces.{behind, slice_behind}
+use Rattle.journal_treestore.proofs.Pieces.{slice_behind}
 
 -- ── owners ──
 
@@ -66,13 +66,6 @@ with-same v at e whole low a b = λ i. record { number = number i; tag = tag i }
         ∙ ap (from_le_bytes w32) (slice_behind (f ++ to_le_bytes w32 e.number) (to_le_bytes w32 e.tag) r (8 * at + 4) (8 * at + 4 + 4) second refl)
         ∙ from_le_bytes-to_le_bytes_4 e.tag b
 
--- the second of two entries at a place stands
-pub with-twice : (v : List ℕ) (at : ℕ) (a b : Entry) → length v ≡ 4096 → at < 512 → with_entry (with_entry v at a) at b ≡ with_entry v at b
-with-twice v at a b whole low =
-    ap (λ w. with_piece w (8 * at) (entry_bytes b)) (append_assoc (take (8 * at) v) (entry_bytes a) (drop (8 * at + 8) v))
-    ∙ behind (take (8 * at) v) (entry_bytes a ++ drop (8 * at + 8) v) (entry_bytes b) (8 * at) (length-take-le (8 * at) v (omega (arith, whole, low)))
-    ∙ ap (λ w. take (8 * at) v ++ entry_bytes b ++ w) (drop_at (entry_bytes a) (drop (8 * at + 8) v) 8 (length-entry a))
-
 -- what lies before a piece, and after it, stays
 module _ (bytes piece : List ℕ) (at : ℕ) (fits : at + length piece ≤ length bytes) where
   -- `put_mid` is what a write to a part of a slice leaves
@@ -109,14 +102,6 @@ with-other v at i e whole low inside other = λ k. record { number = ap (from_le
         by : (i < at) ⊎ (at ≤ i) → slice_range (with_entry v at e) j (j + 4) ≡ slice_range v j (j + 4)
         by (inl before) = before-with_piece v (entry_bytes e) (8 * at) room j (j + 4) (omega (arith, is, before))
         by (inr after) = after-with_piece v (entry_bytes e) (8 * at) room j (j + 4) (let entry = length-entry e in omega (arith, is, after, other, entry))
-
--- one more was looked at
-pub none_more : (v : List ℕ) (tag from to : ℕ) → HasNoneUpTo v tag from to → is_tagged v tag to ≡ false → HasNoneUpTo v tag from (to + 1)
-none_more v tag from to none is at high low = by (cases_eq at to)
-  where
-    by : (at ≡ to) ⊎ (at ≡ to → ⊥) → is_tagged v tag at ≡ false
-    by (inl same) = ap (is_tagged v tag) same ∙ is
-    by (inr other) = none at high (omega (arith, low, other))
 
 -- the tag of a name has 32 bits
 tag_from-low : (tag : ℕ) (name : List ℕ) → tag < 4294967296 → tag_from tag name < 4294967296

@@ -63,10 +63,6 @@ module _ (V : View) (sound : IsSoundView V) (s : Seat) (seat : IsSeat V s) where
             ap (λ (body : Body). record { generation = s.h.generation; node = Some (record { attributes = with_times s.h.attributes (time_of_names s.h.attributes now); home = s.h.home; body = body }) }) same_body
             ∙ ap (λ (y : Seen). record { generation = (slot_of V y).generation; node = option_map (touched now) (slot_of V y).node }) (sym placed.is)
 
-        -- what the tree on the right has at a number
-        T2 : Tree
-        T2 = with_node (tree_of V) s.n None
-
         each : (i : ℕ) → (i ≡ s.n) ⊎ (i ≡ s.n → ⊥) → (i ≡ s.d) ⊎ (i ≡ s.d → ⊥) → (tree_of V3).at i ≡ (touch (with_node (tree_of V) s.n None) s.d now).at i
         each i (inl same) _ =
             ap (λ (T : Tree). T.at i) steps

@@ -19,19 +19,12 @@ after-one : (x : ℕ) (o : Option (List ℕ × List ℕ)) → (o >>= λ xs. Some
 after-one x None = refl
 after-one x (Some p) = refl
 
-after-nil : (o : Option (List ℕ × List ℕ)) → o ≡ after [] o
-after-nil None = refl
-after-nil (Some p) = refl
-
 -- Some of the groups were read: they stand in front, and the caller's own in the rest
 pub record Reading (own count at : ℕ) (first now groups : List ℕ) : Type 0 where
   pub gids : List ℕ
   pub long : length gids ≡ at
   pub all : groups ≡ gids ++ replicate (16 - at) own
   pub so_far : read_run word count first ≡ after gids (read_run word (count - at) now)
-
-pub begins : (own count : ℕ) (first groups : List ℕ) → groups ≡ replicate 16 own → Reading own count 0 first first groups
-begins own count first groups all = record { gids = []; long = refl; all = all; so_far = let all_left : count - 0 ≡ count = omega arith in after-nil (read_run word count first) ∙ ap (λ n. after [] (read_run word n first)) (sym all_left) }
 
 module _ (own count at : ℕ) (first now groups : List ℕ) (few : count ≤ 16) (more : at < count) (r : Reading own count at first now groups) where
   left : count - at ≡ suc (count - (at + 1))

@@ -18,7 +18,7 @@ use Rattle.journal_memory.specs.Scans.{MayScan, IsScanCheckRefusal, IsScanRefusa
 use Rattle.journal_memory.specs.Volatiles.{VolatileState, IsFrontRefusal, outset_of}
 use Rattle.journal_memory.specs.VolatileHolds.{AnswersScan}
 use Rattle.journal_memory.proofs.Scanning.{scan_address}
-use Rattle.journal_twophase.specs.Journals.{IsFetchRefusal, IsScanRefusal}
+use Rattle.journal_twophase.specs.Journals.{IsScanRefusal}
 
 -- why it is refused by what is known before
 pub check_refused : (layout : Shape) (o : Outset) (session : SessionState) (s : BitScan) (why : Refusal CauseState) → IsScanCheckRefusal layout o session s why → IsScanRefusal layout s why
@@ -59,23 +59,6 @@ hold_refused layout v session s f why it = ⊎_elim
     (λ (check : IsScanCheckRefusal layout (outset_of v) session s why). check_refused layout (outset_of v) session s why check)
     (λ (front : MayScan layout (outset_of v) session s × IsFrontRefusal v.ledger.history f.front why). front_refused layout s v.ledger.history f.front why front.0.bits front.1)
     it
-
--- why the block is not fetched
-pub fetch_refused : (layout : Shape) (s : BitScan) (why : Refusal CauseState) → IsTrue (is_scan layout s) → IsFetchRefusal why → IsScanRefusal layout s why
-fetch_refused layout s NoMemory is it = is
-fetch_refused layout s (DeviceFailed cause) is it = it
-fetch_refused layout s BadAddress is it = absurd it
-fetch_refused layout s (Stale cause) is it = absurd it
-fetch_refused layout s (Closed cause) is it = absurd it
-fetch_refused layout s BadSize is it = absurd it
-fetch_refused layout s TooLarge is it = absurd it
-fetch_refused layout s Busy is it = absurd it
-fetch_refused layout s BadLog is it = absurd it
-fetch_refused layout s BadSuper is it = absurd it
-fetch_refused layout s (Stranger cause) is it = absurd it
-fetch_refused layout s (Worn cause) is it = absurd it
-fetch_refused layout s (Full cause) is it = absurd it
-fetch_refused layout s Fenced is it = absurd it
 
 -- what a look tells that comes before
 module _ (layout : Shape) (o : Outset) (session : SessionState) (s : BitScan) where

@@ -1,5 +1,5 @@
 -- The held slots that agree with what a transaction has seen.
-use Rattle.std.proofs.Common.{◌≡◌, ℕ, ◌+◌, ◌<◌, ◌≤◌, min, Bool, true, false, cond, List, [], ◌∷◌, ◌++◌, length, drop, take, get_or, Option, Some, None, option_to_list, sym, ap, subst, ◌∙◌, arith, length-append, append-nil}
+use Rattle.std.proofs.Common.{◌≡◌, ℕ, ◌+◌, ◌<◌, min, Bool, true, false, cond, List, [], ◌∷◌, ◌++◌, length, drop, take, Option, option_to_list, sym, subst, arith, length-append}
 use Rattle.std.proofs.lemmas.List.{get_or_append_left}
 use Rattle.journal_world.specs.Addresses.{Shape}
 use Rattle.journal_world.specs.Histories.{Entry, touched}
@@ -7,10 +7,6 @@ use Rattle.journal_lockmap.specs.Numbers.{HeldState}
 use Rattle.journal_memory.specs.SlotCounts.{AgreeWith}
 use Rattle.journal_twophase.specs.Transactions.{KnowsHeld}
 use Rattle.journal_twophase.proofs.Holding.{lent_back}
-
--- of none nothing is known
-pub knows_none : (layout : Shape) (held : List HeldState) (seen : List Entry) → KnowsHeld layout held seen 0
-knows_none layout held seen = record { few = omega arith; agree = λ k d low _. absurd (omega (arith, low)) }
 
 -- all were looked at
 pub knows_all : (layout : Shape) (held : List HeldState) (seen : List Entry) (n : ℕ) → n ≡ length held → AgreeWith layout seen held → KnowsHeld layout held seen n

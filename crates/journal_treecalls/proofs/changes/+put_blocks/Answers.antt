@@ -1,6 +1,6 @@
 use Rattle.std.proofs.Common.{sym, ap, ◌∙◌, arith}
 use Rattle.journal_treecalls.proofs.Learned.{IfOk-like}
-use Rattle.journal_treecalls.proofs.Putting.{puts-none, puts-skip, puts-more, count-skip, count-more}
+use Rattle.journal_treecalls.proofs.Putting.{puts-skip, puts-more, count-skip, count-more}
 use Rattle.journal_treecalls.proofs.changes.+put_blocks.Goals as goal
 
 pub returns-in-None-clause-puts : goal.returns-in-None-clause-puts
