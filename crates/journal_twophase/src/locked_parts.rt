@@ -444,7 +444,7 @@ impl<'b, D: BlockDisk, R: MapRule, J: Naming> LockedParts<'b, D, R, J> {
 
     // Reads the value that the map gives the address, for the transaction to remember. The held
     // slots agree with the history that it found. It answers J13, J6 of an earlier fault, and J9,
-    // then a new J6.
+    // then a new J6. If `touches`, the block is then the one that was used last.
     pub(crate) fn read<W: Wait>(
         &self,
         rt: &W,
@@ -452,6 +452,7 @@ impl<'b, D: BlockDisk, R: MapRule, J: Naming> LockedParts<'b, D, R, J> {
         held: &mut [Held<J>],
         known: usize,
         addr: Addr,
+        touches: bool,
         into: &mut Vec<u8>,
     ) -> Result<ReadResult<'b, J, R>, JournalRefusal<'b, J, R>>
         requires valid { IsTrue (is_valid J.layout addr) }
@@ -462,7 +463,7 @@ impl<'b, D: BlockDisk, R: MapRule, J: Naming> LockedParts<'b, D, R, J> {
         ensures held { held.new ≡ held.old }
         ensures refusal { IfErr result (IsCheckRefusal transaction.now) }
     {
-        let answer = self.read_or_fetch(rt, transaction, held, known, addr, into);
+        let answer = self.read_or_fetch(rt, transaction, held, known, addr, touches, into);
         self.wake_after_fault(&answer);
         answer
     }
@@ -475,6 +476,7 @@ impl<'b, D: BlockDisk, R: MapRule, J: Naming> LockedParts<'b, D, R, J> {
         held: &mut [Held<J>],
         known: usize,
         addr: Addr,
+        touches: bool,
         into: &mut Vec<u8>,
     ) -> Result<ReadResult<'b, J, R>, JournalRefusal<'b, J, R>>
         requires valid { IsTrue (is_valid J.layout addr) }
@@ -486,13 +488,15 @@ impl<'b, D: BlockDisk, R: MapRule, J: Naming> LockedParts<'b, D, R, J> {
         ensures refusal { IfErr result (IsCheckRefusal transaction.now) }
     {
         let nothing = self.empty_fetch(transaction);
-        match self.read_in(rt, transaction, held, known, addr, &nothing, into)? {
+        match self.read_in(rt, transaction, held, known, addr, touches, &nothing, into)? {
             Some(found) => Ok(found),
             None => self.read_fetched(rt, transaction, held, known, addr, nothing, into),
         }
     }
 
-    // Reads it in one hold of the memory lock. Answers none if its block has to be fetched.
+    // Reads it in one hold of the memory lock. Answers none if its block has to be fetched. A touch
+    // of the block writes lines of memory that all threads read, so several reads of one block need
+    // one.
     pub(crate) fn read_in<W: Wait>(
         &self,
         rt: &W,
@@ -500,6 +504,7 @@ impl<'b, D: BlockDisk, R: MapRule, J: Naming> LockedParts<'b, D, R, J> {
         held: &mut [Held<J>],
         known: usize,
         addr: Addr,
+        touches: bool,
         fetched: &Fetched<'b, J, R>,
         into: &mut Vec<u8>,
     ) -> Result<Option<ReadResult<'b, J, R>>, JournalRefusal<'b, J, R>>
@@ -518,7 +523,9 @@ impl<'b, D: BlockDisk, R: MapRule, J: Naming> LockedParts<'b, D, R, J> {
         let answer = memory
             .volatile
             .read(rt, transaction, held, known, addr, fetched, into);
-        memory.volatile.touch(addr.block);
+        if touches {
+            memory.volatile.touch(addr.block);
+        }
         answer
     }
 

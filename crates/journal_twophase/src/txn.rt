@@ -35,6 +35,8 @@ pub struct Txn<'j, 'b, D: BlockDisk, R: MapRule, J: Naming> {
     // How many of these agree with what it has seen, from the first on. Its last read looked at
     // them.
     pub(crate) known: usize,
+    // The block that its last look-up read, or 0, which has no objects.
+    pub(crate) last_block: u64,
 }
 
 impl<'j, 'b, D: BlockDisk, R: MapRule, J: Naming> Model for Txn<'j, 'b, D, R, J> {
@@ -71,6 +73,7 @@ impl<'j, 'b, D: BlockDisk, R: MapRule, J: Naming> Txn<'j, 'b, D, R, J> {
             transaction: Transaction::begin(alloc, session),
             held: Vec::new(alloc),
             known: 0,
+            last_block: 0,
         }
     }
 
@@ -224,11 +227,14 @@ impl<'j, 'b, D: BlockDisk, R: MapRule, J: Naming> Txn<'j, 'b, D, R, J> {
             transaction,
             held,
             known,
+            last_block,
             ..
         } = self;
+        let is_other = addr.block != *last_block;
+        *last_block = addr.block;
         let found = journal
             .core
-            .read(rt, transaction, held, *known, addr, &mut bytes)?;
+            .read(rt, transaction, held, *known, addr, is_other, &mut bytes)?;
         let value = Value::new(bytes);
         transaction.remember(found, &value);
         *known = held.len();
@@ -362,6 +368,7 @@ impl<'j, 'b, D: BlockDisk, R: MapRule, J: Naming> Txn<'j, 'b, D, R, J> {
             transaction: _,
             held,
             known: _,
+            last_block: _,
         } = self;
         release_all(rt, &journal.slots, held);
     }

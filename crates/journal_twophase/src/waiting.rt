@@ -247,6 +247,7 @@ impl<'j, 'b, D: BlockDisk, R: MapRule, J: Naming> Txn<'j, 'b, D, R, J> {
             transaction,
             held,
             known: _,
+            last_block: _,
         } = self;
         let mut held = held;
         let mut spares = transaction.spares(alloc);
