@@ -15,8 +15,9 @@ use std::num::NonZeroUsize;
 const UNUSED_PART: usize = 4;
 
 /// Copies of blocks, with a limit to their number. Above it the one that was used least recently is
-/// dropped. But where more than a quarter were not used again since they were kept, the oldest of
-/// these goes: so blocks that are read once, as those of a large file, leave the others in memory.
+/// dropped, of the uses since there was no room for more. But where more than a quarter were not
+/// used again since they were kept, the oldest of these goes: so blocks that are read once, as
+/// those of a large file, leave the others in memory.
 ///
 /// Contracts see them as updates, the least recently used first.
 #[derive(Drop)]
@@ -61,13 +62,18 @@ impl BlockCache {
     }
 
     // A read makes its block the one that was used last. A commit does so at the trim that brings
-    // its block home.
-    /// Makes the block the most recently used, if there is a copy of it.
+    // its block home. While there is room for more copies none is dropped, and a read leaves their
+    // order as it is: else it writes links that all threads read.
+    /// Notes a use of the copy of the block, if there is one. Where there is no room for more
+    /// copies it becomes the most recently used.
     pub(crate) fn touch(&mut self, block: u64)
         ensures { MakeTheSame self.new self.old }
     {
-        let _kept = self.blocks.promote(&block);
         self.unused.pop(&block);
+        if self.blocks.len() < self.blocks.cap().get() {
+            return;
+        }
+        let _kept = self.blocks.promote(&block);
     }
 
     /// Keeps the block as the update has it. Above the limit another copy is dropped. If memory is

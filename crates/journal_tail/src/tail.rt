@@ -130,7 +130,7 @@ impl Tail {
         }
     }
 
-    /// Makes the copy of the block the most recently used, if there is one.
+    /// Notes a use of the copy of the block, if there is one.
     pub fn touch(&mut self, block: u64)
         ensures same { MakeTheSame self.new.cache self.old.cache }
         ensures others { self.new ≡ record self.old { cache = self.new.cache } }

@@ -109,8 +109,9 @@ impl<'b, D: BlockDisk, R: MapRule, J: Naming> Journal<'b, D, R, J> {
     }
 
     /// Opens a disk as `open` does. Memory keeps at most `cached` copies of blocks that are at
-    /// home, from 1 to 16384, those that were used last. A read or a commit that finds its block
-    /// there makes no device call. The answers of reads and commits do not depend on it.
+    /// home, from 1 to 16384. Once it has as many, one that was not used for long goes for each
+    /// new one. A read or a commit that finds its block there makes no device call. The answers of
+    /// reads and commits do not depend on it.
     ///
     /// # Errors
     /// Those of `open`.
