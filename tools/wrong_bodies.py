@@ -178,8 +178,17 @@ class Edit:
         return sum_of(text, *[it for pair in self.pairs for it in pair])
 
     def is_named(self, function, goal):
-        """Whether these are its function, and its clause or none."""
-        return bool(self.function) and function.split("::")[-1] == self.function.split("::")[-1] and clause_of(goal) in ("", "only", self.clause)
+        """Whether these are its function, and its clause or none, or a call that does not meet its clause."""
+        own = self.function.split("::")[-1]
+        if own and own == required_of(goal) and re.search(r"clause-(\w+)|$", goal)[1] in (None, self.clause):
+            return True
+        return bool(own) and own == function.split("::")[-1] and clause_of(goal) in ("", "only", self.clause)
+
+
+def required_of(goal):
+    """The function that a goal calls and that requires something of the call, or nothing."""
+    called, requires, _ = goal.partition("-requires")
+    return called.split("-")[0] if requires else ""
 
 
 def clause_of(goal):
