@@ -55,8 +55,7 @@ impl<T: ObjectTransaction> TreeDisk for TreeTransaction<T> {
             return Err(TreeFault::NoObject);
         }
         let addr = self.cut.inode_addr(index);
-        self.keep(addr)?;
-        self.kept_bytes(addr)
+        self.read_bytes(addr)
     }
 
     fn owner(&mut self, block: u32) -> Result<[u8; OWNER_BYTES], TreeFault> {
@@ -65,8 +64,7 @@ impl<T: ObjectTransaction> TreeDisk for TreeTransaction<T> {
             return Err(TreeFault::NoObject);
         }
         let addr = self.cut.owner_addr(index);
-        self.keep(addr)?;
-        self.kept_bytes(addr)
+        self.read_bytes(addr)
     }
 
     fn block(&mut self, block: u32) -> Result<Value, TreeFault> {

@@ -161,17 +161,25 @@ impl<T: ObjectTransaction> TreeTransaction<T> {
         Ok(())
     }
 
-    // The bytes of an object that is kept.
-    pub(crate) fn kept_bytes<const N: usize>(&self, addr: Addr) -> Result<[u8; N], TreeFault>
-        ensures { IfOk result (λ bytes. value_among self.now.kept addr ≡ Some bytes) }
+    // The bytes of an object, which it reads and keeps if it was not read before. An object is looked
+    // up once, because a listing reads one for each name.
+    pub(crate) fn read_bytes<const N: usize>(&mut self, addr: Addr) -> Result<[u8; N], TreeFault>
+        ensures keeps { IfOk result (λ bytes. Keeps self.old self.new × (value_among self.new.kept addr ≡ Some bytes)) }
+        ensures same { OnErr result (self.new ≡ self.old) }
     {
-        let Some(value) = self.kept.get(addr) else {
-            return Err(TreeFault::NoObject);
-        };
-        match <[u8; N]>::try_from(value.bytes()) {
-            Ok(bytes) => Ok(bytes),
-            Err(_) => Err(TreeFault::NoObject),
+        if let Some(value) = self.kept.get(addr) {
+            return array(value);
         }
+        let value = match self.transaction.read(addr) {
+            Ok(value) => value,
+            Err(fault) => {
+                self.fault = Some(fault);
+                return Err(TreeFault::Transaction);
+            }
+        };
+        let bytes = array(&value)?;
+        self.kept.insert(addr, value)?;
+        Ok(bytes)
     }
 
     // An object that is kept, copied.
@@ -195,6 +203,16 @@ impl<T: ObjectTransaction> TreeTransaction<T> {
     {
         self.waiting.push(write)?;
         Ok(())
+    }
+}
+
+// The bytes of a value, if they are so many.
+fn array<const N: usize>(value: &Value) -> Result<[u8; N], TreeFault>
+    ensures { IfOk result (λ bytes. value.now ≡ bytes) }
+{
+    match <[u8; N]>::try_from(value.bytes()) {
+        Ok(bytes) => Ok(bytes),
+        Err(_) => Err(TreeFault::NoObject),
     }
 }
 

@@ -9,4 +9,4 @@ pub returns-clause-learns : goal.returns-clause-learns
 returns-clause-learns g c =
     let at : c.inode_addr-addr.result ≡ addr_of c.args.self.now.cut (inode_of c.args.number) = search rules in
     let low : c.args.number < c.args.self.now.cut.numbers = search rules in
-    IfOk-weaker c.kept_bytes.result _ _ (λ bytes found. learns-inode c.args.self.now c.keep.new.self c.in_ok-keep.ensures.keeps c.inode_addr-addr.result bytes found c.args.number at low) c.kept_bytes.ensures
+    IfOk-weaker c.read_bytes.result _ _ (λ bytes read. learns-inode c.args.self.now c.read_bytes.new.self read.0 c.inode_addr-addr.result bytes read.1 c.args.number at low) c.read_bytes.ensures.keeps

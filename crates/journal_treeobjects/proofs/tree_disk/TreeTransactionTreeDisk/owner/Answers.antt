@@ -9,4 +9,4 @@ pub returns-clause-learns : goal.returns-clause-learns
 returns-clause-learns g c =
     let at : c.owner_addr-addr.result ≡ addr_of c.args.self.now.cut (owner_of c.args.block) = search rules in
     let low : c.args.block < c.args.self.now.cut.blocks = search rules in
-    IfOk-weaker c.kept_bytes.result _ _ (λ bytes found. learns-owner c.args.self.now c.keep.new.self c.in_ok-keep.ensures.keeps c.owner_addr-addr.result bytes found c.args.block at low) c.kept_bytes.ensures
+    IfOk-weaker c.read_bytes.result _ _ (λ bytes read. learns-owner c.args.self.now c.read_bytes.new.self read.0 c.owner_addr-addr.result bytes read.1 c.args.block at low) c.read_bytes.ensures.keeps
