@@ -161,8 +161,8 @@ impl<T: ObjectTransaction> TreeTransaction<T> {
         Ok(())
     }
 
-    // The bytes of an object, which it reads and keeps if it was not read before. An object is looked
-    // up once, because a listing reads one for each name.
+    // The bytes of an object, which it reads and keeps if it was not read before. It looks the
+    // object up once, because a listing reads one for each name.
     pub(crate) fn read_bytes<const N: usize>(&mut self, addr: Addr) -> Result<[u8; N], TreeFault>
         ensures keeps { IfOk result (λ bytes. Keeps self.old self.new × (value_among self.new.kept addr ≡ Some bytes)) }
         ensures same { OnErr result (self.new ≡ self.old) }
