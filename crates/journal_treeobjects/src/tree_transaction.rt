@@ -172,8 +172,8 @@ impl<T: ObjectTransaction> TreeTransaction<T> {
         }
         let value = match self.transaction.read(addr) {
             Ok(value) => value,
-            Err(fault) => {
-                self.fault = Some(fault);
+            Err(refused) => {
+                self.fault = Some(refused);
                 return Err(TreeFault::Transaction);
             }
         };

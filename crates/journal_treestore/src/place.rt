@@ -16,10 +16,10 @@ pub const BLOCK_OWNERS: u64 = 512;
 /// How many inodes lie in a block.
 pub const BLOCK_INODES: u64 = 8;
 
-/// The slots of a journal over a disk with a tree. The number is prime, and the greatest that a
-/// layout may have: a page of a listing holds some 230 slots, so with few slots the pages of four
-/// clients meet by chance, and are done again.
-pub const TREE_SLOTS: u16 = 65521;
+/// The slots of a journal over a disk with a tree. A page of a listing holds some 230, so with few
+/// slots the pages of four clients meet by chance, and are done again. The number is prime and far
+/// from each power of 2: near 65536 the inodes of a disk would meet the blocks of its directories.
+pub const TREE_SLOTS: u16 = 57329;
 
 /// The fewest blocks of a disk with a tree.
 pub const FEWEST_BLOCKS: u64 = 600;
