@@ -8,7 +8,11 @@ text of the crate its wrong bodies were tried, and what the prover said of each:
     kit WORDS                   the kit that tried the last of them
     below CRATE SUM             of what this crate may cite of a crate below it, as it was then
     edit NAME SUM FUNCTION GOAL the sum of that text and the edit's own, and the function and the goal that the prover named first
+
+The file wrong-bodies/TESTED has a line for each wrong body whose trial or row failed with it: its crate and name, the sum of it,
+of the functions that it changes and of the trial or the row, the trial's or the row's name, and how that failed.
 """
+import functools
 import hashlib
 import importlib.machinery
 import importlib.util
@@ -25,6 +29,7 @@ NO_GOAL = "-"
 RUST = re.compile(r"""(?P<comment>//[^\n]*)|[bc]?r(?P<hash>#*)".*?"(?P=hash)|[bc]?"(?:[^"\\]|\\.)*"|'(?:\\[^\n]|[^\n\\])'""", re.S)
 ANTT = re.compile(r"""(?P<comment>(?<![^ \n(){}.;,@"»])--[^\n]*)|"(?:[^"\\\n]|\\[^\n])*\"""")
 COMMENTS = {".rt": (RUST, "/*"), ".antt": (ANTT, "{-")}
+CONSTANT = re.compile(r"\b(?:const|static) (\w+)")
 LEMMAS_OF = re.compile(r"\bRattle\.(\w+)\.proofs((?:\.\w+)+)")
 
 
@@ -177,6 +182,40 @@ class Edit:
         """The sum of the wrong body over a text of its crate."""
         return sum_of(text, *[it for pair in self.pairs for it in pair])
 
+    @functools.cached_property
+    def functions(self):
+        """The functions that it changes, as crate, file and name, with their texts. A constant changes all that name it."""
+        found, texts = {}, {}
+        for path, old, new in self.pairs:
+            file = TOP / "crates" / self.crate / path
+            text = texts.get(path) or file.read_text()
+            at = text.find(old)
+            within = [it.name for it in claims.functions_in(text, file) if it.start < at + len(old) and at < it.end]
+            named = CONSTANT.search(old)
+            if within:
+                found.update({key: said for key, said in functions_of(self.crate, file).items() if key[2] in within})
+            elif named:
+                for crate in ROWS if old.lstrip().startswith("pub ") else [self.crate]:
+                    found.update(functions_with(named[1], crate))
+            texts[path] = text.replace(old, new)
+        return found
+
+    def changes(self, symbol):
+        """Whether a function of a module of LLVM is one that it changes, for some types, or stands within one."""
+        parts = parts_of(symbol)
+        return any(is_symbol_of(parts, *it) for it in self.functions)
+
+    def is_named_by(self, symbol):
+        """Whether it is one that it changes, for some types."""
+        return self.changes(symbol) and parts_of(symbol)[-1] in {name.split("::")[-1] for _, _, name in self.functions}
+
+    def tested_sum(self):
+        """The sum of the wrong body, of the functions that it changes, and of the trial or the row that shows it."""
+        folder, _, name = self.shown.partition("/")
+        tested = trial_texts(folder).get(name, "") if self.kind == "test" else row_text(folder, name)
+        pairs = [it for pair in self.pairs for it in pair]
+        return sum_of(self.kind, self.shown, *pairs, *[plain(it, ".rt") for it in self.functions.values()], tested)
+
     def is_named(self, function, goal):
         """Whether these are its function, and its clause or none, or a call that does not meet its clause."""
         own = self.function.split("::")[-1]
@@ -197,6 +236,54 @@ def clause_of(goal):
     if "requires" in goal:
         return ""
     return found[1] if found else "only" if goal == "returns" else ""
+
+
+def functions_of(crate, file):
+    """The functions of a file, as crate, file and name, with their texts."""
+    text, path = file.read_text(), str(file.relative_to(TOP / "crates" / crate))
+    return {(crate, path, it.name): text[it.start : it.end] for it in claims.functions_in(text, file)}
+
+
+def functions_with(word, crate):
+    """Those of a crate that have a word."""
+    pattern = re.compile(rf"\b{word}\b")
+    files = [it for it in files_of(crate, "src") if pattern.search(it.read_text())]
+    return {key: said for file in files for key, said in functions_of(crate, file).items() if pattern.search(said)}
+
+
+def parts_of(symbol):
+    """The parts of a function's name in a module of LLVM, without the types that it is of."""
+    return symbol.strip('@"').split("::<")[0].split("::")
+
+
+def is_symbol_of(parts, crate, path, name):
+    """Whether these are the parts of a name of this function, or of one within it. A method has its type's module."""
+    modules = [it for it in path.removeprefix("src/").removesuffix(".rt").split("/") if it not in ("lib", "main", "mod")]
+    *of_type, function = name.split("::")
+    if of_type:
+        return parts[0] == crate and function in parts and any(it.startswith(of_type[0]) for it in parts)
+    return parts[: 1 + len(modules)] == [crate, *modules] and function in parts[1 + len(modules) :]
+
+
+@functools.lru_cache(None)
+def trial_texts(folder):
+    """The text of each trial of a folder, without comments."""
+    found = {}
+    for path in sorted((TOP / "trials" / folder / "src").rglob("*.trial")):
+        text = path.read_text()
+        found.update({it.name: plain(text[it.start : it.end], ".rt") for it in claims.functions_in(text, path) if it.test})
+    return found
+
+
+def row_text(program, name):
+    """The text of a row, without comments: up to the next row, or to the next line at the margin."""
+    folder = TOP / "rows" / program
+    for pattern, begin in (("*.rows", rf"^row {name}\n(?:(?!row ).*\n)*"), ("*.py", rf"^def {name}\(room\):\n(?:(?:[ \t].*)?\n)*")):
+        for path in sorted(folder.glob(pattern)):
+            found = re.search(begin, path.read_text(), re.M)
+            if found:
+                return "\n".join(it.rstrip() for it in found[0].split("\n") if it.strip() and not it.lstrip().startswith("#"))
+    return ""
 
 
 def edits_of(crate):
@@ -257,3 +344,30 @@ class Record:
     def has(self, edit):
         """Whether it says what refused an edit as the edit is, over the text that it names."""
         return edit.name in self.edits and self.edits[edit.name][0] == edit.sum(self.text)
+
+
+class Tested:
+    """The file wrong-bodies/TESTED: each wrong body that its trial or row failed with, the sum of what was tried, and why."""
+
+    path = TOP / "wrong-bodies" / "TESTED"
+
+    def __init__(self):
+        self.lines, self.noted = {}, {}
+        for line in self.path.read_text().splitlines() if self.path.is_file() else ():
+            if not line.startswith("#"):
+                name, _, told = line.partition(" ")
+                self.lines[name] = told
+
+    def has(self, edit):
+        """Whether it says how the trial or the row failed with an edit as all is."""
+        return self.lines.get(f"{edit.crate}/{edit.name}", "").split(" ")[0] == edit.tested_sum()
+
+    def note(self, edit, told):
+        """Notes how the trial or the row failed, or nothing where it did not."""
+        self.noted[f"{edit.crate}/{edit.name}"] = f"{edit.tested_sum()} {edit.shown} {told}" if told else ""
+
+    def write(self):
+        """Writes what was noted, beside the other lines of wrong bodies that are there."""
+        known = {f"{crate}/{it.name}" for crate in ROWS for it in tested_edits_of(crate)}
+        lines = {name: told for name, told in {**Tested().lines, **self.noted}.items() if told and name in known}
+        self.path.write_text("\n".join(["# Written by tools/try-tested-bodies.", *[f"{name} {lines[name]}" for name in sorted(lines)]]) + "\n")
