@@ -14,7 +14,7 @@ use journal_history::{Naming, Receipt, Session};
 use journal_memory::Cause;
 use journal_treeobjects::ObjectTransaction;
 use journal_twophase::Txn;
-use journal_world::{Addr, MapRule, Refusal, Value};
+use journal_world::{Addr, MapRule, Objects, Refusal, Value};
 use std::sync::Wait;
 
 /// An open transaction of a journal, with the runtime by which it waits.
@@ -44,6 +44,11 @@ impl<'t, 'j, 'b, D: BlockDisk, R: MapRule, J: Naming, W: Wait> ObjectTransaction
     fn read(&mut self, addr: Addr) -> Result<Value, AttemptFault<Cause<'b, J, R>>> {
         let rt = self.rt;
         read(rt, &mut self.txn, addr)
+    }
+
+    fn prefetch(&mut self, addrs: &[Addr], found: &mut Objects) {
+        let rt = self.rt;
+        self.txn.prefetch(rt, addrs, found);
     }
 
     fn overwrite(&mut self, addr: Addr, bytes: &[u8]) -> Result<(), AttemptFault<Cause<'b, J, R>>> {

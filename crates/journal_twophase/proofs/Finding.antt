@@ -1,5 +1,5 @@
 -- What a hold that scans says to the caller, and why it is refused.
-use Rattle.std.proofs.Common.{◌≡◌, ◌⊎◌, ⊎_elim, ◌<◌, Bool, true, false, IsTrue, List, Result, Ok, Err, IfOk, IfErr, OnOk, refl, sym, subst}
+use Rattle.std.proofs.Common.{◌≡◌, ⊎_elim, ◌<◌, Bool, true, false, IsTrue, List, Result, Ok, Err, IfOk, IfErr, OnOk, refl, sym, subst}
 use Rattle.std.proofs.lemmas.Bool.{false≢true}
 use Rattle.journal_world.specs.declared.refusal.Refusal.{Refusal}
 use Rattle.journal_world.specs.declared.refusal.Refusal.TheVariants.{NoMemory, BadAddress, BadSize, TooLarge, Busy, DeviceFailed, BadLog, BadSuper, Stale, Stranger, Worn, Full, Closed, Fenced}

@@ -8,3 +8,4 @@ pub mod Verified
 pub mod Failing
 pub mod Images
 pub mod Finding
+pub mod Prefetching

@@ -3,3 +3,4 @@ pub mod Transactions
 pub mod Commits
 pub mod Waits
 pub mod Loggers
+pub mod Prefetches

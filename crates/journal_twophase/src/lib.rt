@@ -30,6 +30,7 @@ mod device;
 mod hint;
 mod journal;
 mod locked_parts;
+mod prefetch;
 mod scanning;
 mod spent;
 mod txn;

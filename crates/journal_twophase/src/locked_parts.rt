@@ -1,9 +1,9 @@
 // The core's two parts, as threads share them: one function for each of their events.
 //
-// Only this file, `device.rt`, `scanning.rt` and `waiting.rt` take the memory lock, and only
-// `device.rt` and `scanning.rt` take the disk's. Neither a part nor a guard of it leaves these
-// four. The contracts speak of sessions, transactions and receipts, because no fact of a part stays
-// true after its lock is released.
+// Only this file, `device.rt`, `prefetch.rt`, `scanning.rt` and `waiting.rt` take the memory lock,
+// and only `device.rt` and `scanning.rt` take the disk's. Neither a part nor a guard of it leaves
+// these five. The contracts speak of sessions, transactions and receipts, because no fact of a part
+// stays true after its lock is released.
 ghost use Rattle.std.specs.Prelude.{◌≡◌, ◌≢◌, ◌↔◌, ◌<◌, ◌≤◌, ◌⊎◌, true, false, length, IsTrue, IfOk, IfErr, IsErrAnd, IfSome, OnOk, OnErr, All};
 ghost use Rattle.journal_world.specs.Addresses.{is_valid};
 ghost use Rattle.journal_world.specs.Files.{shape};

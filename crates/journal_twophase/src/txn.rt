@@ -196,7 +196,7 @@ impl<'j, 'b, D: BlockDisk, R: MapRule, J: Naming> Txn<'j, 'b, D, R, J> {
     }
 
     // Zeros in the number of bytes that an object of the kind has.
-    fn room_for(&self, kind: Kind) -> Result<Vec<u8>, AllocError>
+    pub(crate) fn room_for(&self, kind: Kind) -> Result<Vec<u8>, AllocError>
         ensures { IfOk result (λ room. length room.items ≡ bytes_of kind) }
     {
         Ok(vec![in self.alloc; 0u8; kind.bytes()]?)
@@ -302,7 +302,11 @@ impl<'j, 'b, D: BlockDisk, R: MapRule, J: Naming> Txn<'j, 'b, D, R, J> {
 
     // Takes the slot. True if the transaction did not hold it already. The slot is tried before
     // memory for it is asked, so that J5 comes before J1.
-    fn take<W: Wait>(&mut self, rt: &W, slot: u16) -> Result<bool, JournalRefusal<'b, J, R>>
+    pub(crate) fn take<W: Wait>(
+        &mut self,
+        rt: &W,
+        slot: u16,
+    ) -> Result<bool, JournalRefusal<'b, J, R>>
         requires in_range { slot < J.layout.slots }
         ensures taken { OnOk result (self.new ≡ record self.old { held = with_slot self.old.held slot }) }
         ensures took { IfOk result (λ took. self.new.held ≡ (if took then self.old.held ++ slot ∷ [] else self.old.held)) }

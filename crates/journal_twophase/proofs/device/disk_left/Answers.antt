@@ -1,4 +1,4 @@
-use Rattle.std.proofs.Common.{IsTrue, List, sym, subst}
+use Rattle.std.proofs.Common.{List, sym, subst}
 use Rattle.journal_world.specs.Histories.{Entry}
 use Rattle.journal_disk.specs.Images.{EveryImage}
 use Rattle.journal_parts.specs.Cores.{Leaves}
