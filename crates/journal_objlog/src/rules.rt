@@ -1,5 +1,5 @@
 // Asking a rule about the map now.
-ghost use Rattle.std.specs.Prelude.{◌≡◌, ◌<◌, ◌↔◌, false, length, IfSome, IsTrue, IsErr, OnOk, IfOk, IfErr, IsOkUnless};
+ghost use Rattle.std.specs.Prelude.{◌≡◌, ◌<◌, ◌↔◌, false, length, None, IfSome, IsTrue, IsErr, OnOk, IfOk, IfErr, IsOkUnless};
 ghost use Rattle.journal_world.specs.Refusals.{IsReadingRefusal};
 ghost use Rattle.journal_world.specs.Addresses.{is_valid};
 ghost use Rattle.journal_world.specs.Files.{shape};
@@ -17,6 +17,7 @@ use journal_object::load_valid;
 use journal_world::{Addr, Kind, Layout, MapRule, ObjectReader, Refusal, Value};
 use std::alloc::Global;
 use std::marker::{Brand, Model, PhantomData};
+use std::mem;
 
 // The log before its map was read, and the layout that it is read by. Both exist in proofs alone,
 // and are picked where the reading begins.
@@ -38,16 +39,31 @@ impl Opening for Brand {
     ghost log = { no_log };
 }
 
+// A block that was read, and its number. It has no number before the first read and after a refused
+// one, when its content is not specified.
+#[derive(Drop)]
+struct KeptBlock {
+    number: Option<u64>,
+    block: Block,
+}
+
+// The two blocks with many objects that were used last, so that a rule that goes through such a
+// block reads it once. They are two, because the rule of a tree reads an inode, then the records of
+// its blocks, then the next inode: with one kept block each of these reads is one of the device.
+#[derive(Drop)]
+struct KeptBlocks {
+    last: KeptBlock,
+    earlier: KeptBlock,
+}
+
 // Reads the map that the log had when the reading began. It holds the log, so each reader leaves a
-// log that was only read. Of blocks with many objects it keeps the one that it read last, so that a
-// rule that goes through such a block reads it once. A block that is one object is read beside it.
-// The type is private, and the log is given by value and always returned: a reader of a borrowed
-// log could not say what it did to it.
+// log that was only read. A block that is one object is read beside those that are kept. The type
+// is private, and the log is given by value and always returned: a reader of a borrowed log could
+// not say what it did to it.
 struct MapReader<D: BlockDisk, O: Opening> {
     layout: Layout,
     objects: ObjectLog<D>,
-    kept: Option<u64>,
-    block: Block,
+    kept: KeptBlocks,
     whole: Block,
     opening: PhantomData<O>,
 }
@@ -63,7 +79,9 @@ impl<D: BlockDisk, O: Opening> Model for MapReader<D, O> {
     ghost view = { λ r. r.objects.log };
 
     ghost invariant = { λ r. (shape r.layout ≡ O.layout) × (O.layout.blocks ≡ size_of O.log)
-        × OnlyReadSince O.log r.objects.log × IfSome r.kept (IsBlockOf r.objects.log r.block) };
+        × OnlyReadSince O.log r.objects.log
+        × IfSome r.kept.last.number (IsBlockOf r.objects.log r.kept.last.block)
+        × IfSome r.kept.earlier.number (IsBlockOf r.objects.log r.kept.earlier.block) };
 }
 
 impl<D: BlockDisk, O: Opening> ObjectReader for MapReader<D, O> {
@@ -86,7 +104,6 @@ impl<D: BlockDisk, O: Opening> ObjectReader for MapReader<D, O> {
             layout,
             objects,
             kept,
-            block,
             whole,
             ..
         } = self;
@@ -94,45 +111,45 @@ impl<D: BlockDisk, O: Opening> ObjectReader for MapReader<D, O> {
             objects.read_block(addr.block, whole)?;
             return objects.value_in(layout, whole, addr);
         }
-        keep_block::<O, D>(objects, kept, block, addr.block)?;
-        objects.value_in(layout, block, addr)
+        keep_block::<O, D>(objects, kept, addr.block)?;
+        objects.value_in(layout, &kept.last.block, addr)
     }
 
     fn read_bits(&mut self, addr: Addr) -> Result<u64, Refusal<()>> {
-        let MapReader {
-            objects,
-            kept,
-            block,
-            ..
-        } = self;
-        keep_block::<O, D>(objects, kept, block, addr.block)?;
-        Ok(block.bits_from(addr.off as usize))
+        let MapReader { objects, kept, .. } = self;
+        keep_block::<O, D>(objects, kept, addr.block)?;
+        Ok(kept.last.block.bits_from(addr.off as usize))
     }
 }
 
-// Reads a block into the one that is kept, unless it is that one already. After a refusal its
-// content is not specified, so none is kept then.
+// Puts a block first of the two that are kept. If it is neither of them, it is read over the one
+// that was used earlier. After a refusal that one is no longer kept.
 fn keep_block<O: Opening, D: BlockDisk>(
     objects: &mut ObjectLog<D>,
-    kept: &mut Option<u64>,
-    block: &mut Block,
+    kept: &mut KeptBlocks,
     number: u64,
 ) -> Result<(), Refusal<()>>
     requires read { OnlyReadSince O.log objects.old.log }
-    requires held { IfSome kept.old (IsBlockOf objects.old.log block.old) }
+    requires last { IfSome kept.old.last.number (IsBlockOf objects.old.log kept.old.last.block) }
+    requires earlier { IfSome kept.old.earlier.number (IsBlockOf objects.old.log kept.old.earlier.block) }
     requires inside { number < size_of objects.old.log }
     ensures read { OnlyReadSince O.log objects.new.log }
-    ensures held { IfSome kept.new (IsBlockOf objects.new.log block.new) }
-    ensures block { OnOk result (IsBlockOf objects.new.log block.new number) }
+    ensures last { IfSome kept.new.last.number (IsBlockOf objects.new.log kept.new.last.block) }
+    ensures earlier { IfSome kept.new.earlier.number (IsBlockOf objects.new.log kept.new.earlier.block) }
+    ensures block { OnOk result (IsBlockOf objects.new.log kept.new.last.block number) }
     ensures refusal { IfErr result (IsReadingRefusal (is_faulted objects.new.log)) }
     ensures stays_faulted { IsTrue (is_faulted objects.old.log) → IsTrue (is_faulted objects.new.log) }
 {
-    if *kept == Some(number) {
+    if kept.last.number == Some(number) {
         return Ok(());
     }
-    *kept = None;
-    objects.read_block(number, block)?;
-    *kept = Some(number);
+    mem::swap(&mut kept.last, &mut kept.earlier);
+    if kept.last.number == Some(number) {
+        return Ok(());
+    }
+    kept.last.number = None;
+    objects.read_block(number, &mut kept.last.block)?;
+    kept.last.number = Some(number);
     Ok(())
 }
 
@@ -231,15 +248,14 @@ fn read_by<O: Opening, D: BlockDisk, R: MapRule>(
     ensures read { OnlyReadSince O.log result.0.log }
 {
     objects.prove_unread();
-    let (block, whole) = match two_blocks(objects.alloc) {
+    let (kept, whole) = match blocks_to_read(objects.alloc) {
         Ok(blocks) => blocks,
         Err(refusal) => return (objects, Err(refusal)),
     };
     let mut reader = MapReader::<D, O> {
         layout,
         objects,
-        kept: None,
-        block,
+        kept,
         whole,
         opening: PhantomData,
     };
@@ -248,7 +264,6 @@ fn read_by<O: Opening, D: BlockDisk, R: MapRule>(
         layout: _,
         objects,
         kept: _,
-        block: _,
         whole: _,
         opening: _,
     } = reader;
@@ -267,9 +282,27 @@ fn room_for(alloc: Global, layout: &Layout, addr: Addr) -> Result<Vec<u8>, Refus
     Ok(vec![in alloc; 0u8; size]?)
 }
 
-// Two blocks to read into.
-fn two_blocks(alloc: Global) -> Result<(Block, Block), Refusal<()>>
-    ensures { IsOkUnless result Refusal.NoMemory }
+// Blocks to read into: those that are kept, which have no numbers yet, and one beside them. Only J1
+// refuses them.
+fn blocks_to_read(alloc: Global) -> Result<(KeptBlocks, Block), Refusal<()>>
+    ensures last { IfOk result (λ blocks. blocks.0.last.number ≡ None) }
+    ensures earlier { IfOk result (λ blocks. blocks.0.earlier.number ≡ None) }
+    ensures refusal { IsOkUnless result Refusal.NoMemory }
 {
-    Ok((Block::try_new(alloc)?, Block::try_new(alloc)?))
+    let last = block_to_keep(alloc)?;
+    let earlier = block_to_keep(alloc)?;
+    let whole = Block::try_new(alloc)?;
+    Ok((KeptBlocks { last, earlier }, whole))
+}
+
+// A block to keep, which has no number yet. Only J1 refuses it.
+fn block_to_keep(alloc: Global) -> Result<KeptBlock, Refusal<()>>
+    ensures number { IfOk result (λ kept. kept.number ≡ None) }
+    ensures refusal { IsOkUnless result Refusal.NoMemory }
+{
+    let block = Block::try_new(alloc)?;
+    Ok(KeptBlock {
+        number: None,
+        block,
+    })
 }

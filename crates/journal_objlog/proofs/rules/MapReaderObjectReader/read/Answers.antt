@@ -11,7 +11,8 @@ invariant_of-self g c = (
   c.self.invariant.0,
   c.self.invariant.1,
   read_on g.O.Opening.log c.self.inside.objects.log c.read_block.new.self.log c.self.invariant.2 c.read_block.ensures.reads c.read_block.ensures.maps c.read_block.ensures.crash,
-  held_read c.self.inside.objects.log c.read_block.new.self.log c.read_block.ensures.reads c.self.inside.kept c.self.inside.block c.self.invariant.3,
+  held_read c.self.inside.objects.log c.read_block.new.self.log c.read_block.ensures.reads c.self.inside.kept.last.number c.self.inside.kept.last.block c.self.invariant.3,
+  held_read c.self.inside.objects.log c.read_block.new.self.log c.read_block.ensures.reads c.self.inside.kept.earlier.number c.self.inside.kept.earlier.block c.self.invariant.4,
 )
 
 pub invariant_of-self-in-Some-Block : goal.invariant_of-self-in-Some-Block
@@ -19,7 +20,8 @@ invariant_of-self-in-Some-Block g c = (
   c.self.invariant.0,
   c.self.invariant.1,
   read_on g.O.Opening.log c.self.inside.objects.log c.read_block.new.self.log c.self.invariant.2 c.read_block.ensures.reads c.read_block.ensures.maps c.read_block.ensures.crash,
-  held_read c.self.inside.objects.log c.read_block.new.self.log c.read_block.ensures.reads c.self.inside.kept c.self.inside.block c.self.invariant.3,
+  held_read c.self.inside.objects.log c.read_block.new.self.log c.read_block.ensures.reads c.self.inside.kept.last.number c.self.inside.kept.last.block c.self.invariant.3,
+  held_read c.self.inside.objects.log c.read_block.new.self.log c.read_block.ensures.reads c.self.inside.kept.earlier.number c.self.inside.kept.earlier.block c.self.invariant.4,
 )
 
 pub value_in-requires : goal.value_in-requires

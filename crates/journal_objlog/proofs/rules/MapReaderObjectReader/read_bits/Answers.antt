@@ -16,4 +16,4 @@ pub returns-clause-bits : goal.returns-clause-bits
 returns-clause-bits g c =
     bits_read g.O.Opening.layout g.O.Opening.log c.keep_block.new.objects.log c.self.invariant.1 c.keep_block.ensures.read c.args.addr
     (subst (λ (n : Shape). kind_of n c.args.addr.block ≡ Some Bit) (map_of-layout g.O.Opening.layout (blocks_now g.O.Opening.log)) c.requires.kind)
-    c.requires.inside c.keep_block.new.block c.bits_from.result c.bits_from.ensures c.in_ok-keep_block.ensures.block
+    c.requires.inside c.keep_block.new.kept.last.block c.bits_from.result c.bits_from.ensures c.in_ok-keep_block.ensures.block
