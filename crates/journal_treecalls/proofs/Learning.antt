@@ -12,6 +12,10 @@ module _ (old new : View → Type 0) where
   pub learns-as : (P Q : View → Type 0) → Learns old new P → ((V : View) → new V → P V → Q V) → Learns old new Q
   learns-as P Q l f = record { before = l.before; now = λ V m. f V m (l.now V m) }
 
+  -- it stays learned where there are fewer disks
+  pub learns-still : (fewer P : View → Type 0) → Learns old new P → ((V : View) → fewer V → new V) → Learns old fewer P
+  learns-still fewer P l f = record { before = λ V m. l.before V (f V m); now = λ V m. l.now V (f V m) }
+
   module _ (last : View → Type 0) (P Q : View → Type 0) (l : Learns old new P) (k : Learns new last Q) where
     -- one after another
     pub learns-then : (R : View → Type 0) → ((V : View) → last V → P V → Q V → R V) → Learns old last R

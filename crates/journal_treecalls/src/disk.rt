@@ -77,6 +77,14 @@ pub trait TreeDisk {
         ensures whole { IfOk result (λ bytes. length bytes ≡ INODE_BYTES) }
         ensures first { writes self.new ≡ [] };
 
+    /// Reads inodes ahead: of these numbers, in their order, as many as it can without a wait for a
+    /// device. A number that the disk has not is passed over. The call refuses nothing: why it read
+    /// fewer, the next call of `inode` says.
+    fn prefetch_inodes(&mut self, numbers: &[u32])
+        requires first { writes self.old ≡ [] }
+        ensures same { (V : View) → may_be self.new V → may_be self.old V }
+        ensures first { writes self.new ≡ [] };
+
     /// The bytes of the record of who has a block.
     ///
     /// # Errors

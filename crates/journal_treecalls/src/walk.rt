@@ -2,6 +2,7 @@
 ghost use Rattle.std.specs.Prelude.{◌≡◌, ◌+◌, ◌<◌, ◌≤◌, [], IfOk, length};
 ghost use Rattle.journal_tree.specs.declared.limits.TheConstants.{MOST_BLOCKS, MOST_NAME, MOST_PLACES};
 ghost use Rattle.journal_treestore.specs.Entries.{entry_from};
+ghost use Rattle.journal_treestore.specs.Views.{View};
 ghost use Rattle.journal_treecalls.specs.Disks.{Learns};
 ghost use Rattle.journal_treecalls.specs.Seats.{AreWhole};
 ghost use Rattle.journal_treecalls.specs.Walks.{IsNodeLine, ShowsEntry, ShowsPlace, ShowsBytes, ShowsBlock, ShowsBlocks};
@@ -12,6 +13,20 @@ use crate::node::told;
 use crate::seats::BlockNumbers;
 use journal_tree::BLOCK_PLACES;
 use journal_treestore::{Entry, Head, Inode, PLACES, name_in};
+
+// How many inodes are read ahead at once. A page of 230 lines so asks some 15 times and not 230
+// times, and after its last line at most 15 inodes were read for nothing.
+const AHEAD: usize = 16;
+
+// The numbers of the next entries of a block, as many as are read ahead at once.
+#[derive(Clone, Copy)]
+struct NextNumbers {
+    numbers: [u32; AHEAD],
+    // How many there are.
+    count: usize,
+    // The place after the last one that was looked at.
+    end: usize,
+}
 
 // The lines of the entries in the first blocks of a directory, which have these numbers, come onto
 // the page, from a place on.
@@ -77,11 +92,64 @@ fn show_bytes<T: TreeDisk>(
     ensures learns { IfOk result (λ _. Learns (T.may_be disk.old) (T.may_be disk.new) (λ V. ShowsBytes V begin block.now j PLACES page.old page.new)) }
     ensures first { T.writes disk.new ≡ [] }
 {
+    // No inode of a place before the first one is read.
+    let mut ahead = begin.saturating_sub(BLOCK_PLACES * j) as usize;
     for at in 0..PLACES {
+        ahead = read_ahead(disk, block, at, ahead, page);
         let place = BLOCK_PLACES * j + at as u64;
         show_place(disk, Entry::read(block, at), place, begin, page)?;
     }
     Ok(())
+}
+
+// Reads ahead the inodes of the next entries of a block, from a place on, if those before it alone
+// were and the page has room. Returns the place before which they were.
+fn read_ahead<T: TreeDisk>(
+    disk: &mut T,
+    block: &[u8],
+    at: usize,
+    ahead: usize,
+    page: &Page,
+) -> usize
+    requires first { T.writes disk.old ≡ [] }
+    requires whole { length block.now ≡ 4096 }
+    ensures same { (V : View) → T.may_be disk.new V → T.may_be disk.old V }
+    ensures first { T.writes disk.new ≡ [] }
+{
+    if at < ahead || page.room.is_none() {
+        return ahead;
+    }
+    let next = next_numbers(block, at);
+    disk.prefetch_inodes(&next.numbers[..next.count]);
+    next.end
+}
+
+// The numbers of the next entries of a block, from a place on.
+fn next_numbers(block: &[u8], from: usize) -> NextNumbers
+    requires { length block.now ≡ 4096 }
+    ensures { result.count ≤ AHEAD }
+{
+    let mut numbers = [0; AHEAD];
+    let mut count = 0;
+    for at in from..PLACES {
+        if count == AHEAD {
+            return NextNumbers {
+                numbers,
+                count,
+                end: at,
+            };
+        }
+        let number = Entry::read(block, at).number;
+        if number != 0 {
+            numbers[count] = number;
+            count += 1;
+        }
+    }
+    NextNumbers {
+        numbers,
+        count,
+        end: PLACES,
+    }
 }
 
 // So does that of a place, if the place is not before the first.

@@ -10,7 +10,8 @@ use Rattle.journal_treestore.specs.Sound.{IsSoundView}
 use Rattle.journal_treecalls.specs.Disks.{Does}
 use Rattle.journal_treeobjects.specs.Maps.{view_of, tree_at, HasSoundTree}
 use Rattle.journal_treeobjects.specs.Effects.{pairs_of, AreOnDisk, ShowsWrites, DoesOnMaps}
-use Rattle.journal_treeobjects.specs.States.{TreeState, IsAmong, may_be}
+use Rattle.journal_treeobjects.specs.States.{TreeState, may_be}
+use Rattle.journal_treeobjects.specs.Reads.{IsAmong}
 use Rattle.journal_treeobjects.proofs.Keeping.{gives-agrees}
 use Rattle.journal_treeobjects.proofs.Overwriting.{writes-show}
 

@@ -14,7 +14,8 @@ use Rattle.journal_treeobjects.specs.Maps.{object, view_of, HasSoundTree}
 use Rattle.journal_treeobjects.specs.States.{TreeState, may_be, Keeps}
 
 module _ (old new : TreeState) (k : Keeps old new) where
-  abbrev before : (V : View) → may_be new V → may_be old V
+  -- where more was read, there are fewer disks
+  abbrev pub before : (V : View) → may_be new V → may_be old V
   before V m = record {
     map = m.map;
     sound = subst (λ c. HasSoundTree c m.map) k.cut m.sound;

@@ -1,5 +1,5 @@
 -- The kinds of the objects of a disk, and their bytes.
-use Rattle.std.proofs.Common.{ℕ, ◌≡◌, ◌&&◌, IsTrue, List, length, get_or, Fits, w8, refl, sym, ap, subst, ◌∙◌}
+use Rattle.std.proofs.Common.{ℕ, ◌≡◌, IsTrue, length, get_or, Fits, w8, refl, sym, ap, subst, ◌∙◌}
 use Rattle.std.specs.Prelude.{Option}
 use Rattle.std.proofs.lemmas.Bool.{and_from, eq-eqb}
 use Rattle.journal_world.specs.declared.address.Addr.{Addr}

@@ -3,8 +3,8 @@ use Rattle.std.specs.Prelude.{ℕ, ◌≡◌, IsTrue, IfSome, List, [], ◌∷�
 use Rattle.std.proofs.Common.{subst}
 use Rattle.journal_world.specs.declared.address.Addr.{Addr}
 use Rattle.journal_world.specs.declared.address.Kind.{Kind}
-use Rattle.journal_world.specs.Addresses.{Value, Shape, kind_of, is_valid, bytes_of, limit_of}
-use Rattle.journal_world.specs.Maps.{Pair, value_among, are_objects}
+use Rattle.journal_world.specs.Addresses.{Shape, kind_of, is_valid, bytes_of, limit_of}
+use Rattle.journal_world.specs.Maps.{Pair, are_objects}
 use Rattle.journal_treestore.specs.declared.place.Cut.{Cut}
 use Rattle.journal_treestore.specs.Places.{shape_of, IsCut}
 use Rattle.journal_treestore.specs.Views.{View}
@@ -15,6 +15,7 @@ use Rattle.journal_treeobjects.specs.declared.tree_transaction.KeptWrite.{KeptWr
 use Rattle.journal_treeobjects.specs.declared.tree_transaction.KeptWrite.TheVariants.{Inode, Owner, Block}
 use Rattle.journal_treeobjects.specs.Maps.{IsWhole}
 use Rattle.journal_treeobjects.specs.Effects.{AreOnDisk, MayBeRead}
+use Rattle.journal_treeobjects.specs.Reads.{IsAmong}
 
 -- How the disk is cut, the objects that were read, and the writes, the last first
 pub record TreeState : Type 0 where
@@ -49,10 +50,6 @@ pub record AreBytesAt (layout : Shape) (a : Addr) (size : ℕ) : Type 0 where
   pub valid : IsTrue (is_valid layout a)
   pub any : limit_of kind ≡ 256
   pub whole : size ≡ bytes_of kind
-
--- what is kept was read
-abbrev pub IsAmong : List Pair → List Pair → Type 0
-IsAmong kept reads = (a : Addr) (v : Value) → value_among kept a ≡ Some v → value_among reads a ≡ Some v
 
 -- The invariant: the transaction below is of the disk's layout, has read what is kept, and has
 -- overwritten nothing yet. The disk has all objects that are to be written, and a fault that is

@@ -1,11 +1,13 @@
 // The disk with a tree that a call sees.
-ghost use Rattle.std.specs.Prelude.{◌≡◌, IfOk, replicate};
+ghost use Rattle.std.specs.Prelude.{◌≡◌, IfOk, All, replicate};
+ghost use Rattle.journal_treestore.specs.Places.{IsCut};
+ghost use Rattle.journal_treeobjects.specs.Reads.{IsInodeOf};
 
 use crate::tree_transaction::KeptWrite;
 use crate::{ObjectTransaction, TreeFault, TreeTransaction};
 use journal_treecalls::{Line, TreeDisk};
-use journal_treestore::{INODE_BYTES, OWNER_BYTES};
-use journal_world::{BLOCK_BYTES, Value};
+use journal_treestore::{Cut, INODE_BYTES, OWNER_BYTES};
+use journal_world::{Addr, BLOCK_BYTES, Value};
 use std::alloc::{AllocError, Global};
 
 impl<T: ObjectTransaction> TreeDisk for TreeTransaction<T> {
@@ -58,6 +60,11 @@ impl<T: ObjectTransaction> TreeDisk for TreeTransaction<T> {
         self.read_bytes(addr)
     }
 
+    fn prefetch_inodes(&mut self, numbers: &[u32]) {
+        let addrs = inode_addrs(self.alloc, &self.cut, numbers);
+        self.prefetch(&addrs);
+    }
+
     fn owner(&mut self, block: u32) -> Result<[u8; OWNER_BYTES], TreeFault> {
         let index = u64::from(block);
         if self.cut.blocks <= index {
@@ -98,6 +105,25 @@ impl<T: ObjectTransaction> TreeDisk for TreeTransaction<T> {
         }
         self.put(KeptWrite::Block(block, value))
     }
+}
+
+// The addresses of the inodes of these numbers that the disk has, as many as there is memory for.
+fn inode_addrs(alloc: Global, cut: &Cut, numbers: &[u32]) -> Vec<Addr>
+    requires { IsCut cut.now }
+    ensures { All (IsInodeOf cut.now numbers.now) result.items }
+{
+    let mut addrs = Vec::new(alloc);
+    for number in numbers {
+        let index = u64::from(*number);
+        if cut.numbers <= index {
+            continue;
+        }
+        let addr = cut.inode_addr(index);
+        if addrs.push(addr).is_err() {
+            return addrs;
+        }
+    }
+    addrs
 }
 
 // As many zeros as `count`.

@@ -182,6 +182,13 @@ impl<T: ObjectTransaction> TreeTransaction<T> {
         Ok(bytes)
     }
 
+    // Reads objects ahead, and keeps those that it read.
+    pub(crate) fn prefetch(&mut self, addrs: &[Addr])
+        ensures { Keeps self.old self.new }
+    {
+        self.transaction.prefetch(addrs, &mut self.kept);
+    }
+
     // An object that is kept, copied.
     pub(crate) fn kept_value(&self, addr: Addr) -> Result<Value, TreeFault>
         ensures value { IfOk result (λ value. value_among self.now.kept addr ≡ Some value) }

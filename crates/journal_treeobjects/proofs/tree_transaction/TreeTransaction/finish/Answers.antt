@@ -6,7 +6,8 @@ use Rattle.journal_tree.specs.declared.caller.Caller.{Caller}
 use Rattle.journal_tree.specs.Op.{Call, Reply}
 use Rattle.journal_treecalls.specs.Disks.{Does}
 use Rattle.journal_treeobjects.specs.Effects.{pairs_of, DoesOnMaps}
-use Rattle.journal_treeobjects.specs.States.{TreeState, last_first, IsAmong, may_be}
+use Rattle.journal_treeobjects.specs.States.{TreeState, last_first, may_be}
+use Rattle.journal_treeobjects.specs.Reads.{IsAmong}
 use Rattle.journal_treeobjects.proofs.Carrying.{call-carried}
 use Rattle.journal_treeobjects.proofs.tree_transaction.TreeTransaction.finish.Goals as goal
 
