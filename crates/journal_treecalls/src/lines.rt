@@ -1,5 +1,5 @@
 // Lines of a listing, as many as have room.
-ghost use Rattle.std.specs.Prelude.{◌≡◌, ◌≤◌, IfOk, length};
+ghost use Rattle.std.specs.Prelude.{◌≡◌, ◌<◌, ◌≤◌, IfOk, length};
 ghost use Rattle.journal_tree.specs.declared.limits.TheConstants.{MOST_NAME};
 ghost use Rattle.journal_tree.specs.Listing.{line_bytes};
 ghost use Rattle.journal_treecalls.specs.Lines.{item_of, bytes_beside, room_after, left_after, IsLine, Adds};
@@ -104,10 +104,25 @@ fn room_after(room: Room, line: &Line) -> Option<Room>
     None
 }
 
+// How many more lines have room, if they are as long as the last one. It is a guess, and tells only
+// how much is read ahead.
+pub(crate) fn lines_left(lines: &[Line], room: Room) -> u64 {
+    let Some(last) = lines.last() else {
+        return u64::MAX;
+    };
+    let bytes = line_bytes(last);
+    let by_names = room.names / bytes;
+    if !room.is_plus {
+        return by_names;
+    }
+    by_names.min(room.bytes / (bytes + BESIDE))
+}
+
 // The bytes that READDIR takes for a line.
 fn line_bytes(line: &Line) -> u64
     ensures is { result ≡ line_bytes (item_of line.now) }
     ensures few { result ≤ 300 }
+    ensures some { 0 < result }
 {
     let padded = 4 * ((u64::from(line.name_bytes) + 3) / 4);
     4 + 8 + (4 + padded) + 8

@@ -8,14 +8,14 @@ ghost use Rattle.journal_treecalls.specs.Seats.{AreWhole};
 ghost use Rattle.journal_treecalls.specs.Walks.{IsNodeLine, ShowsEntry, ShowsPlace, ShowsBytes, ShowsBlock, ShowsBlocks};
 
 use crate::TreeDisk;
-use crate::lines::{Line, Page, add, named_line};
+use crate::lines::{Line, Page, add, lines_left, named_line};
 use crate::node::told;
 use crate::seats::BlockNumbers;
 use journal_tree::BLOCK_PLACES;
 use journal_treestore::{Entry, Head, Inode, PLACES, name_in};
 
 // How many inodes are read ahead at once. A page of 230 lines so asks some 15 times and not 230
-// times, and after its last line at most 15 inodes were read for nothing.
+// times.
 const AHEAD: usize = 16;
 
 // The numbers of the next entries of a block, as many as are read ahead at once.
@@ -102,56 +102,6 @@ fn show_bytes<T: TreeDisk>(
     Ok(())
 }
 
-// Reads ahead the inodes of the next entries of a block, from a place on, if those before it alone
-// were and the page has room. Returns the place before which they were.
-fn read_ahead<T: TreeDisk>(
-    disk: &mut T,
-    block: &[u8],
-    at: usize,
-    ahead: usize,
-    page: &Page,
-) -> usize
-    requires first { T.writes disk.old ≡ [] }
-    requires whole { length block.now ≡ 4096 }
-    ensures same { (V : View) → T.may_be disk.new V → T.may_be disk.old V }
-    ensures first { T.writes disk.new ≡ [] }
-{
-    if at < ahead || page.room.is_none() {
-        return ahead;
-    }
-    let next = next_numbers(block, at);
-    disk.prefetch_inodes(&next.numbers[..next.count]);
-    next.end
-}
-
-// The numbers of the next entries of a block, from a place on.
-fn next_numbers(block: &[u8], from: usize) -> NextNumbers
-    requires { length block.now ≡ 4096 }
-    ensures { result.count ≤ AHEAD }
-{
-    let mut numbers = [0; AHEAD];
-    let mut count = 0;
-    for at in from..PLACES {
-        if count == AHEAD {
-            return NextNumbers {
-                numbers,
-                count,
-                end: at,
-            };
-        }
-        let number = Entry::read(block, at).number;
-        if number != 0 {
-            numbers[count] = number;
-            count += 1;
-        }
-    }
-    NextNumbers {
-        numbers,
-        count,
-        end: PLACES,
-    }
-}
-
 // So does that of a place, if the place is not before the first.
 fn show_place<T: TreeDisk>(
     disk: &mut T,
@@ -215,4 +165,58 @@ fn line_of(place: u64, number: u32, head: &Head, name: &[u8]) -> Line
         head.generation,
         Some(told(number, head)),
     )
+}
+
+// Reads ahead the inodes of the next entries of a block, from a place on, if those before it alone
+// were and the page has room. Returns the place before which they were.
+fn read_ahead<T: TreeDisk>(
+    disk: &mut T,
+    block: &[u8],
+    at: usize,
+    ahead: usize,
+    page: &Page,
+) -> usize
+    requires first { T.writes disk.old ≡ [] }
+    requires whole { length block.now ≡ 4096 }
+    ensures same { (V : View) → T.may_be disk.new V → T.may_be disk.old V }
+    ensures first { T.writes disk.new ≡ [] }
+{
+    let Some(room) = page.room else {
+        return ahead;
+    };
+    if at < ahead {
+        return ahead;
+    }
+    let next = next_numbers(block, at, lines_left(&page.lines, room));
+    disk.prefetch_inodes(&next.numbers[..next.count]);
+    next.end
+}
+
+// The numbers of the next entries of a block, from a place on: those that may have room on the page
+// and the first that has none, but no more than are read ahead at once.
+fn next_numbers(block: &[u8], from: usize, lines: u64) -> NextNumbers
+    requires { length block.now ≡ 4096 }
+    ensures { result.count ≤ AHEAD }
+{
+    let mut numbers = [0; AHEAD];
+    let mut count = 0;
+    for at in from..PLACES {
+        if count == AHEAD || lines < count as u64 {
+            return NextNumbers {
+                numbers,
+                count,
+                end: at,
+            };
+        }
+        let number = Entry::read(block, at).number;
+        if number != 0 {
+            numbers[count] = number;
+            count += 1;
+        }
+    }
+    NextNumbers {
+        numbers,
+        count,
+        end: PLACES,
+    }
 }

@@ -66,7 +66,9 @@ impl<'j, 'b, D: BlockDisk, R: MapRule, J: Naming> Txn<'j, 'b, D, R, J> {
         ensures holds { HoldsMore J.layout addrs.now self.old.held self.new.held }
         ensures others { self.new ≡ record self.old { held = self.new.held } }
     {
-        let mut wanted = Vec::new(self.alloc);
+        let Ok(mut wanted) = Vec::with_capacity(self.alloc, addrs.len()) else {
+            return Vec::new(self.alloc);
+        };
         for addr in addrs {
             if !self.is_new(*addr, found) {
                 continue;

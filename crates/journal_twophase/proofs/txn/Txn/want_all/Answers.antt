@@ -21,13 +21,13 @@ loop-addr-preserved g c =
       others = took_others layout _ c.args.self.now c.loop-addr.self c.want.new.self all.others c.want.ensures.took;
     }
 
-pub returns-in_default-clause-ready : goal.returns-in_default-clause-ready
-returns-in_default-clause-ready g c =
+pub returns-in_default-want-clause-ready : goal.returns-in_default-want-clause-ready
+returns-in_default-want-clause-ready g c =
     all_ready_more g.J.Naming.layout _ c.loop-addr.self.held c.want.new.self.held c.loop-addr.wanted.items
     (took_held g.J.Naming.layout _ c.loop-addr.self c.want.new.self c.want.ensures.took) c.loop-addr.invariant.ready
 
-pub returns-in_default-clause-holds : goal.returns-in_default-clause-holds
-returns-in_default-clause-holds g c =
+pub returns-in_default-want-clause-holds : goal.returns-in_default-want-clause-holds
+returns-in_default-want-clause-holds g c =
     holds_one g.J.Naming.layout c.args.addrs.now _ c.args.self.now.held c.loop-addr.self.held c.want.new.self.held c.loop-addr.invariant.holds
     (Contains-get_or c.args.addrs.now c.loop-addr.addr-index _ c.loop-addr-test.true) (took_held g.J.Naming.layout _ c.loop-addr.self c.want.new.self c.want.ensures.took)
 
